@@ -1,0 +1,67 @@
+-- `Event::from_code` meets its contract: an arm's number is a row of the table `eventOf`, and no other number is.
+-- Assumes nothing.
+use Prim.Native.Nat.{ℕ, zero, suc}
+use mathlib.Core.Path.{_≡_, refl, sym, ap}
+use Rattle.definitions.specs.Answers.{eventOf}
+use Rattle.definitions.specs.declared.MaybeEvent.{MaybeEvent}
+use Rattle.definitions.specs.declared.MaybeEvent.the-variants.{Unknown}
+use Rattle.definitions.proofs.Event.from_code.Statement.{statement}
+use Rattle.definitions.proofs.Event.from_code.Tie as tie
+
+row : (code k : ℕ) → code ≡ k → eventOf k ≡ eventOf code
+row code k e = ap eventOf (sym e)
+
+outside : (code : ℕ) → (code ≡ 1 → ⊥) → (code ≡ 2 → ⊥) → (code ≡ 3 → ⊥) → (code ≡ 4 → ⊥) → (code ≡ 5 → ⊥)
+    → (code ≡ 6 → ⊥) → (code ≡ 7 → ⊥) → (code ≡ 8 → ⊥) → Unknown ≡ eventOf code
+unfolding eventOf
+outside zero a b c d e f g h = refl
+outside (suc zero) a b c d e f g h = absurd (a refl)
+outside (suc (suc zero)) a b c d e f g h = absurd (b refl)
+outside (suc (suc (suc zero))) a b c d e f g h = absurd (c refl)
+outside (suc (suc (suc (suc zero)))) a b c d e f g h = absurd (d refl)
+outside (suc (suc (suc (suc (suc zero))))) a b c d e f g h = absurd (e refl)
+outside (suc (suc (suc (suc (suc (suc zero)))))) a b c d e f g h = absurd (f refl)
+outside (suc (suc (suc (suc (suc (suc (suc zero))))))) a b c d e f g h = absurd (g refl)
+outside (suc (suc (suc (suc (suc (suc (suc (suc zero)))))))) a b c d e f g h = absurd (h refl)
+outside (suc (suc (suc (suc (suc (suc (suc (suc (suc n))))))))) a b c d e f g h = refl
+
+returns : tie.Need-returns
+unfolding eventOf
+returns c = row _ 1 (c .match .keys1)
+
+returns-2 : tie.Need-returns-2
+unfolding eventOf
+returns-2 c = row _ 2 (c .match .keys2)
+
+returns-3 : tie.Need-returns-3
+unfolding eventOf
+returns-3 c = row _ 3 (c .match .keys3)
+
+returns-4 : tie.Need-returns-4
+unfolding eventOf
+returns-4 c = row _ 4 (c .match .keys4)
+
+returns-5 : tie.Need-returns-5
+unfolding eventOf
+returns-5 c = row _ 5 (c .match .keys5)
+
+returns-6 : tie.Need-returns-6
+unfolding eventOf
+returns-6 c = row _ 6 (c .match .keys6)
+
+returns-7 : tie.Need-returns-7
+unfolding eventOf
+returns-7 c = row _ 7 (c .match .keys7)
+
+returns-8 : tie.Need-returns-8
+unfolding eventOf
+returns-8 c = row _ 8 (c .match .keys8)
+
+returns-9 : tie.Need-returns-9
+returns-9 c =
+    let r = c .match .rest in
+    outside _ (r .0 .0 .0 .0 .0 .0 .0 .1) (r .0 .0 .0 .0 .0 .0 .1) (r .0 .0 .0 .0 .0 .1) (r .0 .0 .0 .0 .1) (r .0 .0 .0 .1) (r .0 .0 .1) (r .0 .1) (r .1)
+
+pub from-code-spec : {M : Type 1} → statement M
+from-code-spec =
+    tie.close (tie.spec returns returns-2 returns-3 returns-4 returns-5 returns-6 returns-7 returns-8 returns-9)

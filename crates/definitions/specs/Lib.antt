@@ -1,0 +1,13 @@
+-- The definitions of the scope paper, in its order. Each file opens with what it states.
+pub mod Bounds
+pub mod Threads
+pub mod Answers
+pub mod Table
+pub mod Sound
+pub mod Nodes
+pub mod Moves
+pub mod OpenMoves
+pub mod PlainLock
+pub mod Plan
+pub mod Chains
+pub mod Script

@@ -1,0 +1,96 @@
+-- "A table is sound when": the rules one by one, then all of them.
+-- They speak of the threads below N. The holder is the thread in phases 10 to 16, if there is one; each of the last rules asks whether the holder is in certain phases.
+-- A mutex byte above 1 fails the mutex rule. Assumes nothing.
+use Prim.Native.Nat.{ℕ}
+use mathlib.Core.Bool.{Bool, cond, not, _&&_, _||_}
+use mathlib.Core.List.{List, [], _∷_}
+use lib.Dec.{leb, ltb, eqb}
+use Rattle.definitions.specs.Bounds.{lastPhase, noTarget}
+use Rattle.definitions.specs.Threads.{every, some, howMany, among, between, allOf, implies}
+use Rattle.definitions.specs.Table.{Table}
+
+-- "at most one thread, the holder, is in 10 to 16"
+abbrev pub holds : ℕ → Bool
+holds phase = between 10 16 phase
+
+-- "busy is 1 exactly in phases 2, 3, 5, 6, 7"
+abbrev pub busyIn : ℕ → Bool
+busyIn phase = among phase (2 ∷ 3 ∷ 5 ∷ 6 ∷ 7 ∷ [])
+
+-- phases 5 to 7: the reader has passed its look at forbidden, and busy isn't lowered yet
+abbrev pub reading : ℕ → Bool
+reading phase = between 5 7 phase
+
+-- the holder is in phases a to b
+abbrev pub holderIn : ℕ → ℕ → Table → Bool
+holderIn a b s = some (s .threads) (λ i. between a b (s .phase i))
+
+-- "phases are at most 17"
+unfoldable pub phaseRule : Table → Bool
+phaseRule s = every (s .threads) (λ i. leb (s .phase i) lastPhase)
+
+-- "flags 0 or 1"
+unfoldable pub flagRule : Table → Bool
+flagRule s = every (s .threads) (λ i. leb (s .busy i) 1 && leb (s .forbidden i) 1)
+
+-- "busy is 1 exactly in phases 2, 3, 5, 6, 7"
+unfoldable pub busyRule : Table → Bool
+busyRule s = every (s .threads) (λ i. eqb (s .busy i) (cond (busyIn (s .phase i)) 1 0))
+
+-- "at most one thread, the holder, is in 10 to 16"
+unfoldable pub holderRule : Table → Bool
+holderRule s = leb (howMany (s .threads) (λ i. holds (s .phase i))) 1
+
+-- "the mutex is 1 exactly if there is one"
+unfoldable pub mutexRule : Table → Bool
+mutexRule s = eqb (s .mutex) (cond (holderIn 10 16 s) 1 0)
+
+-- "the target is a thread with forbidden 1 if the holder is in 11 or 12, else 255"
+unfoldable pub targetRule : Table → Bool
+targetRule s =
+    cond (holderIn 11 12 s) (ltb (s .target) (s .threads) && eqb (s .forbidden (s .target)) 1) (eqb (s .target) noTarget)
+
+-- "none, or 16: every forbidden is 0."
+unfoldable pub openRule : Table → Bool
+openRule s =
+    implies (not (holderIn 10 16 s) || holderIn 16 16 s) (every (s .threads) (λ i. eqb (s .forbidden i) 0))
+
+-- "10: some forbidden is 0; no thread with forbidden 1 is in 5 to 7."
+unfoldable pub rule10 : Table → Bool
+rule10 s =
+    implies (holderIn 10 10 s)
+    (some (s .threads) (λ i. eqb (s .forbidden i) 0)
+    && every (s .threads) (λ i. not (eqb (s .forbidden i) 1 && reading (s .phase i))))
+
+-- "11, 12: no thread with forbidden 1, the target excepted, is in 5 to 7."
+unfoldable pub rule11 : Table → Bool
+rule11 s =
+    implies (holderIn 11 12 s)
+    (every (s .threads) (λ i. eqb i (s .target) || not (eqb (s .forbidden i) 1 && reading (s .phase i))))
+
+-- "13, 14: every forbidden is 1; no thread is in 5 to 7."
+unfoldable pub rule13 : Table → Bool
+rule13 s =
+    implies (holderIn 13 14 s)
+    (every (s .threads) (λ i. eqb (s .forbidden i) 1) && every (s .threads) (λ i. not (reading (s .phase i))))
+
+-- "15: some forbidden is 1."
+unfoldable pub rule15 : Table → Bool
+rule15 s = implies (holderIn 15 15 s) (some (s .threads) (λ i. eqb (s .forbidden i) 1))
+
+-- refusal 2 is given where one of them fails
+unfoldable pub sound : Table → Bool
+sound s =
+    allOf
+    (phaseRule s
+    ∷ flagRule s
+    ∷ busyRule s
+    ∷ holderRule s
+    ∷ mutexRule s
+    ∷ targetRule s
+    ∷ openRule s
+    ∷ rule10 s
+    ∷ rule11 s
+    ∷ rule13 s
+    ∷ rule15 s
+    ∷ [])
