@@ -1,0 +1,19 @@
+-- Shared facts first, then the theorems; each file says what it shows.
+pub mod Tests
+pub mod Quantifiers
+pub mod Views
+pub mod Ways
+pub mod Soundness
+pub mod Stages
+pub mod Kept
+pub mod Steps
+pub mod Lists
+pub mod Lengths
+pub mod Texts
+pub mod Numbers
+pub mod Digits
+-- the theorems
+pub mod SoundKept
+pub mod Figure1
+pub mod Discipline
+pub mod OpenMovesExact

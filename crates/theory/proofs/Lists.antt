@@ -1,0 +1,66 @@
+-- Laws of `listOf`, the list of one entry for each thread below n: its length, its entries, one entry written, and what `anyIn` says of it; and a list from an index on. For every n.
+-- Assumes nothing.
+use Prim.Native.Nat.{ℕ, zero, suc, _+_, _-_, _<_}
+use native.Mathlib.Omega.{arith}
+use native.Mathlib.Nat.{not-suc-le-zero}
+use native.Mathlib.Numerals.{add-one}
+use mathlib.Core.Path.{_≡_, refl, sym, subst, ap, _∙_}
+use mathlib.Core.Logic.{_⊎_, inl, inr, ⊎-elim}
+use mathlib.Core.Bool.{not, _||_}
+use mathlib.Core.List.{List, [], _∷_, _++_}
+use lib.Dec.{T}
+use lib.ListN.{length, getD, set, take, drop, length-append, length-set, length-drop, List·getD-append}
+use lib.Seq.{getD-at, getD-set-same, getD-set-other, ext-getD, take-all}
+use Rattle.definitions.specs.Threads.{listOf, among}
+use Rattle.definitions.specs.Nodes.{anyIn}
+use Rattle.theory.proofs.Tests.{or-e, no-both, not-i, same?}
+use Rattle.theory.proofs.Quantifiers.{below-suc}
+
+pub length-listOf {ℓ} : {A : Type ℓ} (n : ℕ) (f : ℕ → A) → length (listOf n f) ≡ n
+unfolding listOf
+length-listOf zero f = refl
+length-listOf (suc n) f = length-append (listOf n f) (f n ∷ []) ∙ (ap (λ (k : ℕ). k + 1) (length-listOf n f) ∙ add-one n)
+
+pub getD-listOf {ℓ} : {A : Type ℓ} (n : ℕ) (f : ℕ → A) (i : ℕ) (d : A) → i < n → getD (listOf n f) i d ≡ f i
+unfolding listOf
+getD-listOf zero f i d l = absurd (not-suc-le-zero l)
+getD-listOf {A = A} (suc n) f i d l = by (λ k. getD-listOf n f i d k) (below-suc i n l)
+  where
+    by : (i < n → getD (listOf n f) i d ≡ f i) → (i ≡ n) ⊎ (i < n) → getD (listOf n f ++ (f n ∷ [])) i d ≡ f i
+    by rec (inl e) = getD-at (listOf n f) (f n) [] d i (length-listOf n f ∙ sym e) ∙ ap f (sym e)
+    by rec (inr k) = List·getD-append (listOf n f) (f n ∷ []) d i (subst (λ (m : ℕ). i < m) (sym (length-listOf n f)) k) ∙ rec k
+
+module _ (n : ℕ) (f g : ℕ → ℕ) where
+  pub listOf-same : ((j : ℕ) → j < n → f j ≡ g j) → listOf n f ≡ listOf n g
+  listOf-same h =
+      ext-getD 0 (listOf n f) (listOf n g) (length-listOf n f ∙ sym (length-listOf n g))
+      (λ j l. let k : j < n = subst (λ (m : ℕ). j < m) (length-listOf n f) l in getD-listOf n f j 0 k ∙ (h j k ∙ sym (getD-listOf n g j 0 k)))
+
+  -- g is f but at i: the list with that entry written
+  pub listOf-set : (i : ℕ) → i < n → ((j : ℕ) → (j ≡ i → ⊥) → g j ≡ f j) → listOf n g ≡ set (listOf n f) i (g i)
+  listOf-set i m others =
+      ext-getD 0 (listOf n g) (set (listOf n f) i (g i)) (length-listOf n g ∙ sym (length-set (listOf n f) i (g i) ∙ length-listOf n f))
+      (λ j l. let k : j < n = subst (λ (x : ℕ). j < x) (length-listOf n g) l in getD-listOf n g j 0 k ∙ by j k (same? j i))
+    where
+      by : (j : ℕ) → j < n → (j ≡ i) ⊎ (j ≡ i → ⊥) → g j ≡ getD (set (listOf n f) i (g i)) j 0
+      by j k (inl e) =
+          ap g e ∙ (sym (getD-set-same (listOf n f) i (g i) 0 (subst (λ (x : ℕ). i < x) (sym (length-listOf n f)) m)) ∙ ap (λ (x : ℕ). getD (set (listOf n f) i (g i)) x 0) (sym e))
+      by j k (inr h) = others j h ∙ sym (getD-set-other (listOf n f) i j (g i) 0 h ∙ getD-listOf n f j 0 k)
+
+-- nobody's node is one of a list
+anyIn-none : (wanted nodes : List ℕ) → ((j : ℕ) → j < length nodes → T (not (among (getD nodes j 0) wanted))) → T (not (anyIn wanted nodes))
+unfolding anyIn
+anyIn-none wanted [] h = tt
+anyIn-none wanted (node ∷ nodes) h =
+    let rest = anyIn-none wanted nodes (λ j l. h (suc j) (omega arith)) in
+    not-i (among node wanted || anyIn wanted nodes)
+    (λ t. ⊎-elim (λ u. no-both (among node wanted) u (h 0 (omega arith))) (λ u. no-both (anyIn wanted nodes) u rest) (or-e (among node wanted) (anyIn wanted nodes) t))
+
+pub anyIn-listOf : (wanted : List ℕ) (n : ℕ) (f : ℕ → ℕ) → ((j : ℕ) → j < n → T (not (among (f j) wanted))) → T (not (anyIn wanted (listOf n f)))
+anyIn-listOf wanted n f h =
+    anyIn-none wanted (listOf n f)
+    (λ j l. let k : j < n = subst (λ (m : ℕ). j < m) (length-listOf n f) l in subst (λ (x : ℕ). T (not (among x wanted))) (sym (getD-listOf n f j 0 k)) (h j k))
+
+-- a list from n on, as it is lent
+pub from-on : (xs : List ℕ) (n : ℕ) → take (length xs - n) (drop n xs) ≡ drop n xs
+from-on xs n = take-all (length xs - n) (drop n xs) (omega (arith, length-drop n xs))

@@ -1,0 +1,161 @@
+-- How a table is shown to be sound: its threads' own bytes fit (`Fits`), and either no thread is in 10 to 16 (`nobody-sound`) or thread h alone is, in phase p, with what p's rule says (`held-sound`).
+-- Assumes nothing.
+use Prim.Native.Nat.{ℕ, _≤_, _<_}
+use native.Mathlib.Omega.{arith}
+use mathlib.Core.Path.{_≡_, refl, sym, subst, ap, _∙_}
+use mathlib.Core.Bool.{cond, not}
+use lib.Dec.{T, leb, leb→le, le→leb}
+use Rattle.definitions.specs.Bounds.{lastPhase, noTarget}
+use Rattle.definitions.specs.Threads.{between, among}
+use Rattle.definitions.specs.Table.{Table, tableOf, fresh}
+use Rattle.definitions.specs.Sound.{sound, busyIn}
+use Rattle.theory.proofs.Tests.{and-l, and-r, and-i, no-both, not-i}
+use Rattle.theory.proofs.Views.{freshTable, fresh-table}
+use Rattle.theory.proofs.Soundness.{All, Some, In, sound-i}
+
+-- ---- phases from a to b
+
+pub between-e : (a b p : ℕ) → T (between a b p) → (a ≤ p) × (p ≤ b)
+between-e a b p t = (leb→le a p (and-l (leb a p) (leb p b) t), leb→le p b (and-r (leb a p) (leb p b) t))
+
+pub between-i : (a b p : ℕ) → a ≤ p → p ≤ b → T (between a b p)
+between-i a b p k l = and-i (leb a p) (leb p b) (le→leb a p k) (le→leb p b l)
+
+-- two ranges, one below the other, have no phase in common
+pub apart : (a b c d p : ℕ) → b < c → T (between a b p) → T (between c d p) → ⊥
+apart a b c d p k t u = let x = between-e a b p t in let y = between-e c d p u in omega arith
+
+-- a range inside another
+pub widen : (a b c d p : ℕ) → a ≤ c → d ≤ b → T (between c d p) → T (between a b p)
+widen a b c d p k l t = let x = between-e c d p t in between-i a b p (omega arith) (omega arith)
+
+-- ---- what is to be shown
+
+-- each thread's own three bytes
+pub record Fits (s : Table) : Type 0 where
+  pub phases : All s (λ j. s .phase j ≤ lastPhase)
+  pub flags : All s (λ j. s .forbidden j ≤ 1)
+  pub busies : All s (λ j. s .busy j ≡ cond (busyIn (s .phase j)) 1 0)
+
+-- thread h, in phase p, is the holder
+pub record Holder (s : Table) (h p : ℕ) : Type 0 where
+  pub is-thread : h < s .threads
+  pub phase-is : s .phase h ≡ p
+  pub holding : T (between 10 16 p)
+  pub alone : All s (λ j. In 10 16 s j → j ≡ h)
+  pub locked : s .mutex ≡ 1
+
+-- the rules by the holder's phase p
+pub record Stage (s : Table) (p : ℕ) : Type 0 where
+  pub untargeted : T (not (between 11 12 p)) → s .target ≡ noTarget
+  pub in-10 : T (between 10 10 p) → Some s (λ j. s .forbidden j ≡ 0) × All s (λ j. s .forbidden j ≡ 1 → In 5 7 s j → ⊥)
+  pub in-11 : T (between 11 12 p) → (s .target < s .threads) × (s .forbidden (s .target) ≡ 1) × All s (λ j. (j ≡ s .target → ⊥) → s .forbidden j ≡ 1 → In 5 7 s j → ⊥)
+  pub in-13 : T (between 13 14 p) → All s (λ j. s .forbidden j ≡ 1) × All s (λ j. In 5 7 s j → ⊥)
+  pub in-15 : T (between 15 15 p) → Some s (λ j. s .forbidden j ≡ 1)
+  pub in-16 : T (between 16 16 p) → All s (λ j. s .forbidden j ≡ 0)
+
+module _ (s : Table) (h p : ℕ) (holder : Holder s h p) where
+  -- a thread in phases that only the holder can be in is the holder
+  at-holder : (a b : ℕ) → 10 ≤ a → b ≤ 16 → All s (λ i. In a b s i → T (between a b p))
+  at-holder a b low high i l m =
+      let e = holder .alone i l (widen 10 16 a b (s .phase i) low high m) in
+      subst (λ (x : ℕ). T (between a b x)) (ap (s .phase) e ∙ holder .phase-is) m
+
+  holder-in : (a b : ℕ) → T (between a b p) → In a b s h
+  holder-in a b t = subst (λ (x : ℕ). T (between a b x)) (sym (holder .phase-is)) t
+
+  pub held-sound : Fits s → Stage s p → T (sound s)
+  held-sound fits stage =
+      let at : (a b : ℕ) → 10 ≤ a → b ≤ 16 → All s (λ i. In a b s i → T (between a b p)) = at-holder in
+      let here : In 10 16 s h = holder-in 10 16 (holder .holding) in
+      sound-i s
+      record {
+        phases = fits .phases;
+        flags = fits .flags;
+        busies = fits .busies;
+        one-holder = λ i k j l a b. holder .alone i k a ∙ sym (holder .alone j l b);
+        held = λ i l m. holder .locked;
+        free = λ none. absurd (none h (holder .is-thread) here);
+        has-target = λ i l m. let r = stage .in-11 (at 11 12 (omega arith) (omega arith) i l m) in (r .0, r .1);
+        no-target = λ none. stage .untargeted (not-i (between 11 12 p) (λ t. none h (holder .is-thread) (holder-in 11 12 t)));
+        open-free = λ none. absurd (none h (holder .is-thread) here);
+        open-16 = λ i l m. stage .in-16 (at 16 16 (omega arith) (omega arith) i l m);
+        some-clear = λ i l m. stage .in-10 (at 10 10 (omega arith) (omega arith) i l m) .0;
+        guarded-10 = λ i l m. stage .in-10 (at 10 10 (omega arith) (omega arith) i l m) .1;
+        guarded-11 = λ i l m. stage .in-11 (at 11 12 (omega arith) (omega arith) i l m) .2;
+        all-forbidden = λ i l m. stage .in-13 (at 13 14 (omega arith) (omega arith) i l m) .0;
+        no-reader = λ i l m. stage .in-13 (at 13 14 (omega arith) (omega arith) i l m) .1;
+        some-forbidden = λ i l m. stage .in-15 (at 15 15 (omega arith) (omega arith) i l m);
+      }
+
+pub nobody-sound : (s : Table) → Fits s → All s (λ j. In 10 16 s j → ⊥) → s .mutex ≡ 0 → s .target ≡ noTarget → All s (λ j. s .forbidden j ≡ 0) → T (sound s)
+nobody-sound s fits none m g f =
+    let no : (a b : ℕ) → 10 ≤ a → b ≤ 16 → All s (λ j. In a b s j → ⊥) = λ a b low high j l t. none j l (widen 10 16 a b (s .phase j) low high t) in
+    sound-i s
+    record {
+      phases = fits .phases;
+      flags = fits .flags;
+      busies = fits .busies;
+      one-holder = λ i k j l a b. absurd (none i k a);
+      held = λ i l t. absurd (none i l t);
+      free = λ x. m;
+      has-target = λ i l t. absurd (no 11 12 (omega arith) (omega arith) i l t);
+      no-target = λ x. g;
+      open-free = λ x. f;
+      open-16 = λ i l t. f;
+      some-clear = λ i l t. absurd (no 10 10 (omega arith) (omega arith) i l t);
+      guarded-10 = λ i l t. absurd (no 10 10 (omega arith) (omega arith) i l t);
+      guarded-11 = λ i l t. absurd (no 11 12 (omega arith) (omega arith) i l t);
+      all-forbidden = λ i l t. absurd (no 13 14 (omega arith) (omega arith) i l t);
+      no-reader = λ i l t. absurd (no 13 14 (omega arith) (omega arith) i l t);
+      some-forbidden = λ i l t. absurd (no 15 15 (omega arith) (omega arith) i l t);
+    }
+
+-- ---- each stage
+
+module _ (s : Table) where
+  pub stage-10 : s .target ≡ noTarget → Some s (λ j. s .forbidden j ≡ 0) → All s (λ j. s .forbidden j ≡ 1 → In 5 7 s j → ⊥) → Stage s 10
+  stage-10 g f r =
+      record { untargeted = λ t. g; in-10 = λ t. (f, r); in-11 = λ t. absurd t; in-13 = λ t. absurd t; in-15 = λ t. absurd t; in-16 = λ t. absurd t }
+
+  pub stage-11 : (p : ℕ) → T (between 11 12 p) → s .target < s .threads → s .forbidden (s .target) ≡ 1
+      → All s (λ j. (j ≡ s .target → ⊥) → s .forbidden j ≡ 1 → In 5 7 s j → ⊥) → Stage s p
+  stage-11 p m l f r =
+      record {
+        untargeted = λ t. absurd (no-both (between 11 12 p) m t);
+        in-10 = λ t. absurd (apart 10 10 11 12 p (omega arith) t m);
+        in-11 = λ t. (l, f, r);
+        in-13 = λ t. absurd (apart 11 12 13 14 p (omega arith) m t);
+        in-15 = λ t. absurd (apart 11 12 15 15 p (omega arith) m t);
+        in-16 = λ t. absurd (apart 11 12 16 16 p (omega arith) m t);
+      }
+
+  pub stage-13 : (p : ℕ) → T (between 13 14 p) → s .target ≡ noTarget → All s (λ j. s .forbidden j ≡ 1) → All s (λ j. In 5 7 s j → ⊥) → Stage s p
+  stage-13 p m g f r =
+      record {
+        untargeted = λ t. g;
+        in-10 = λ t. absurd (apart 10 10 13 14 p (omega arith) t m);
+        in-11 = λ t. absurd (apart 11 12 13 14 p (omega arith) t m);
+        in-13 = λ t. (f, r);
+        in-15 = λ t. absurd (apart 13 14 15 15 p (omega arith) m t);
+        in-16 = λ t. absurd (apart 13 14 16 16 p (omega arith) m t);
+      }
+
+  pub stage-15 : s .target ≡ noTarget → Some s (λ j. s .forbidden j ≡ 1) → Stage s 15
+  stage-15 g f =
+      record { untargeted = λ t. g; in-10 = λ t. absurd t; in-11 = λ t. absurd t; in-13 = λ t. absurd t; in-15 = λ t. f; in-16 = λ t. absurd t }
+
+  pub stage-16 : s .target ≡ noTarget → All s (λ j. s .forbidden j ≡ 0) → Stage s 16
+  stage-16 g f =
+      record { untargeted = λ t. g; in-10 = λ t. absurd t; in-11 = λ t. absurd t; in-13 = λ t. absurd t; in-15 = λ t. absurd t; in-16 = λ t. f }
+
+-- ---- the fresh table
+
+pub fresh-fits : (n : ℕ) → T (sound (freshTable n))
+unfolding among
+fresh-fits n =
+    nobody-sound (freshTable n) record { phases = λ j l. omega arith; flags = λ j l. omega arith; busies = λ j l. refl }
+    (λ j l t. t) refl refl (λ j l. refl)
+
+pub fresh-sound : (n : ℕ) → T (sound (tableOf (fresh n)))
+fresh-sound n = subst (λ (s : Table). T (sound s)) (sym (fresh-table n)) (fresh-fits n)
