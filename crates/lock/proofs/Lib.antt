@@ -1,0 +1,5 @@
+pub mod Counts
+pub mod Bytes
+pub mod Facts
+pub mod Moved
+pub mod Answered

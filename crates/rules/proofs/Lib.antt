@@ -1,0 +1,3 @@
+pub mod Threads
+pub mod Arms
+pub mod Within

@@ -1,0 +1,21 @@
+-- `rules::clear` meets its contract: each branch rewrites the decision with its test.
+-- Assumes nothing.
+use Rattle.rules.proofs.Arms.{clear-arm}
+use borrow.Author.Needs.{needs}
+use Rattle.rules.proofs.clear.Statement.{statement}
+use Rattle.rules.proofs.clear.Tie as tie
+
+step-requires : tie.Need-step-requires
+step-requires c κs = search needs
+
+returns : tie.Need-returns
+returns c = clear-arm _ _ (rw (c .before .if1 .taken) (c .step .ensures))
+
+step-requires-2 : tie.Need-step-requires-2
+step-requires-2 c κs = search needs
+
+returns-2 : tie.Need-returns-2
+returns-2 c = clear-arm _ _ (rw (c .before .if1 .left) (c .step2 .ensures))
+
+pub clear-spec : {M : Type 1} → statement M
+clear-spec = tie.close (tie.spec step-requires returns step-requires-2 returns-2)

@@ -1,0 +1,21 @@
+-- `rules::look` meets its contract: each branch rewrites with its test.
+-- Assumes nothing.
+use borrow.Author.Tests.{eq-eqb, ne-eqb}
+use borrow.Author.Needs.{needs}
+use Rattle.rules.proofs.look.Statement.{statement}
+use Rattle.rules.proofs.look.Tie as tie
+
+step-requires : tie.Need-step-requires
+step-requires c κs = search needs
+
+returns : tie.Need-returns
+returns c = rw (eq-eqb _ _ (c .before .if1 .taken)) (c .step .ensures)
+
+step-requires-2 : tie.Need-step-requires-2
+step-requires-2 c κs = search needs
+
+returns-2 : tie.Need-returns-2
+returns-2 c = rw (ne-eqb _ _ (c .before .if1 .left)) (c .step2 .ensures)
+
+pub look-spec : {M : Type 1} → statement M
+look-spec = tie.close (tie.spec step-requires returns step-requires-2 returns-2)

@@ -1,0 +1,95 @@
+-- Laws of the words on threads, every, some and how many: words that agree thread by thread, and each word as a count. More of them stand in the crate theory.
+-- Assumes nothing.
+use Prim.Native.Nat.{ℕ, zero, suc, _+_, _≤_, _<_}
+use native.Mathlib.Numerals.{add-one}
+use native.Mathlib.Nat.{add-zero, eq-or-lt-of-le, le-of-suc-le-suc, not-suc-le-zero}
+use native.Mathlib.Omega.{arith}
+use mathlib.Core.Path.{_≡_, refl, sym, subst, ap, _∙_}
+use mathlib.Core.Logic.{⊎-elim}
+use mathlib.Core.Bool.{Bool, true, false, cond, not, _&&_, _||_, or-true, or-false, and-true, and-false}
+use lib.Dec.{eqb, eqb·suc-suc}
+use borrow.Author.Tests.{eq-eqb, ne-eqb}
+use Rattle.definitions.specs.Threads.{every, some, howMany}
+
+pub every-same : (n : ℕ) (f g : ℕ → Bool) → ((i : ℕ) → i < n → f i ≡ g i) → every n f ≡ every n g
+unfolding every
+every-same zero f g h = refl
+every-same (suc n) f g h = cc (every-same n f g (λ i l. h i (omega arith)), h n (omega arith))
+
+pub howMany-le : (n : ℕ) (f : ℕ → Bool) → howMany n f ≤ n
+unfolding howMany
+howMany-le zero f = omega arith
+howMany-le (suc n) f = more (f n) (howMany-le n f)
+  where
+    more : (b : Bool) → howMany n f ≤ n → howMany n f + cond b 1 0 ≤ suc n
+    more true h = omega arith
+    more false h = omega arith
+
+-- the words as counts
+pub some-count : (n : ℕ) (f : ℕ → Bool) → some n f ≡ not (eqb (howMany n f) 0)
+unfolding some howMany
+some-count zero f = refl
+some-count (suc n) f = more (f n) (some-count n f)
+  where
+    more : (b : Bool) → some n f ≡ not (eqb (howMany n f) 0) → (some n f || b) ≡ not (eqb (howMany n f + cond b 1 0) 0)
+    more true h = simp (or-true, ne-eqb (howMany n f + 1) 0 (λ e. omega arith))
+    more false h = simp (or-false, add-zero) h
+
+pub every-count : (n : ℕ) (f : ℕ → Bool) → every n f ≡ eqb (howMany n f) n
+unfolding every howMany
+every-count zero f = refl
+every-count (suc n) f = more (f n) (every-count n f)
+  where
+    more : (b : Bool) → every n f ≡ eqb (howMany n f) n → (every n f && b) ≡ eqb (howMany n f + cond b 1 0) (suc n)
+    more true h = simp (and-true, add-one, eqb·suc-suc) h
+    more false h = simp (and-false, add-zero, ne-eqb (howMany n f) (suc n) (λ e. omega (arith, howMany-le n f)))
+
+pub none-count : (n : ℕ) (f : ℕ → Bool) → every n (λ i. not (f i)) ≡ eqb (howMany n f) 0
+unfolding every howMany
+none-count zero f = refl
+none-count (suc n) f = more (f n) (none-count n f)
+  where
+    more : (b : Bool) → every n (λ i. not (f i)) ≡ eqb (howMany n f) 0 → (every n (λ i. not (f i)) && not b) ≡ eqb (howMany n f + cond b 1 0) 0
+    more true h = simp (and-false, ne-eqb (howMany n f + 1) 0 (λ e. omega arith))
+    more false h = simp (and-true, add-zero) h
+
+pub some-not-none : (n : ℕ) (f : ℕ → Bool) → some n f ≡ not (every n (λ i. not (f i)))
+some-not-none n f = some-count n f ∙ ap not (sym (none-count n f))
+
+-- a thread is counted among those before n
+pub one-of : (n : ℕ) (f : ℕ → Bool) (t : ℕ) → t < n → cond (f t) 1 0 ≤ howMany n f
+unfolding howMany
+one-of zero f t l = absurd (not-suc-le-zero l)
+one-of (suc n) f t l =
+    ⊎-elim
+    (λ e. subst (λ (k : ℕ). cond (f k) 1 0 ≤ howMany n f + cond (f n) 1 0) (sym e) (omega arith))
+    (λ b. omega (arith, one-of n f t b))
+    (eq-or-lt-of-le (le-of-suc-le-suc l))
+
+-- a count that grows past k, or by as much as k
+past : (a k : ℕ) (b : Bool) → k ≤ a → (eqb a k && not b) ≡ eqb (a + cond b 1 0) k
+past a k true h = simp (and-false, ne-eqb (a + 1) k (λ e. omega arith))
+past a k false h = simp (and-true, add-zero)
+
+along : (a : ℕ) (b : Bool) → eqb a 0 ≡ eqb (a + cond b 1 0) (cond b 1 0)
+along a true = simp (add-one, eqb·suc-suc a 0)
+along a false = simp add-zero
+
+-- f holds of nobody but t, if of t at all
+pub except-count : (n : ℕ) (f : ℕ → Bool) (t : ℕ) → t < n
+    → every n (λ i. eqb i t || not (f i)) ≡ eqb (howMany n f) (cond (f t) 1 0)
+unfolding every howMany
+except-count zero f t l = absurd (not-suc-le-zero l)
+except-count (suc n) f t l = ⊎-elim (λ e. subst Claim (sym e) last) (λ b. earlier b (except-count n f t b)) (eq-or-lt-of-le (le-of-suc-le-suc l))
+  where
+    Claim : ℕ → Type 0
+    Claim k = (every n (λ i. eqb i k || not (f i)) && (eqb n k || not (f n))) ≡ eqb (howMany n f + cond (f n) 1 0) (cond (f k) 1 0)
+
+    last : Claim n
+    last =
+        let before : every n (λ i. eqb i n || not (f i)) ≡ eqb (howMany n f) 0 =
+        every-same n _ _ (λ i b. ap (λ (x : Bool). x || not (f i)) (ne-eqb i n (λ e. omega arith))) ∙ none-count n f in
+        simp (eq-eqb n n refl, and-true, before) (along (howMany n f) (f n))
+
+    earlier : t < n → every n (λ i. eqb i t || not (f i)) ≡ eqb (howMany n f) (cond (f t) 1 0) → Claim t
+    earlier b h = simp (h, ne-eqb n t (λ e. omega arith)) (past (howMany n f) (cond (f t) 1 0) (f n) (one-of n f t b))
