@@ -1,0 +1,3 @@
+pub mod EventLaws
+pub mod PlainLaws
+pub mod CheckLaws

@@ -1,0 +1,2 @@
+-- What the check keeps between two pairs, and what it judges a pair by.
+pub mod Judged

@@ -1,0 +1,78 @@
+-- `write_pairs` meets its contract. The loop's invariant is `Writing` of LoopLaws; the measure is the number of pairs left.
+-- Assumes nothing.
+use Prim.Native.Nat.{_-_}
+use borrow.Author.Needs.{needs}
+use native.Mathlib.Omega.{arith}
+use Rattle.plan.proofs.LoopLaws.{Writing, writing-none, writing-room, writing-more, writing-end}
+use Rattle.plan.proofs.write_pairs.Statement.{statement}
+use Rattle.plan.proofs.write_pairs.Tie as tie
+
+abbrev Inv-loop : tie.InvT-loop
+Inv-loop out₀ threads history events next₀ k₀ out next k = Writing threads history out₀ k out next
+
+abbrev μ-loop : tie.MeasureT-loop
+μ-loop out₀ threads history events next₀ k₀ out next k = events - k
+
+loop-holds : tie.Need-loop-holds Inv-loop μ-loop
+loop-holds c =
+    let start = c .before .before in
+    writing-none (start .args .threads) (start .args .history .now) (start .args .out .now) (start .pre .1)
+
+mul-at : tie.Need-mul-at Inv-loop μ-loop
+mul-at c = search needs
+
+shared-slice-read-thread : tie.Need-shared-slice-read-thread Inv-loop μ-loop
+shared-slice-read-thread c = search needs
+
+add-code : tie.Need-add-code Inv-loop μ-loop
+add-code c = search needs
+
+shared-slice-read-code : tie.Need-shared-slice-read-code Inv-loop μ-loop
+shared-slice-read-code c = search needs
+
+write-pair-requires : tie.Need-write-pair-requires Inv-loop μ-loop
+write-pair-requires c κs =
+    let start = c .before .before .before .before .before .before .before in
+    let at = c .before .before .before .before .loop in
+    writing-room (start .args .threads) (start .args .history .now) (start .args .out .now) (start .pre .1) (at .k) (at .out) (at .next) (at .inv) (omega arith)
+
+add-k : tie.Need-add-k Inv-loop μ-loop
+add-k c = search needs
+
+loop-less : tie.Need-loop-less Inv-loop μ-loop
+loop-less c = search needs
+
+loop-again : tie.Need-loop-again Inv-loop μ-loop
+loop-again c =
+    let start = c .before .before .before .before .before .before .before .before .before .before in
+    let at = c .before .before .before .before .before .before .before .loop in
+    let pair = c .before .before .write-pair in
+    writing-more (start .args .threads) (start .args .history .now) (start .args .out .now) (start .pre .1) (at .k) (at .out) (at .next) (at .inv) (omega arith)
+    (pair .last .0) (pair .result) (pair .ensures)
+
+same-length : tie.Need-same-length Inv-loop μ-loop
+same-length c = search needs
+
+returns : tie.Need-returns Inv-loop μ-loop
+returns c =
+    let start = c .before .before .before .before in
+    let at = c .before .loop in
+    writing-end (start .args .threads) (start .args .history .now) (start .args .out .now) (start .pre .1) (at .k) (at .out) (at .next) (at .inv) (omega arith)
+
+pub write-pairs-spec : {M : Type 1} → statement M
+write-pairs-spec =
+    tie.close
+    (tie.spec
+    Inv-loop
+    μ-loop
+    loop-holds
+    mul-at
+    shared-slice-read-thread
+    add-code
+    shared-slice-read-code
+    write-pair-requires
+    add-k
+    loop-less
+    loop-again
+    same-length
+    returns)
