@@ -1,0 +1,4 @@
+-- Laws that the proofs of the printing functions share.
+pub mod Putting
+pub mod Digits
+pub mod Names

@@ -1,0 +1,2 @@
+-- What a printing function leaves in a lent output.
+pub mod Put

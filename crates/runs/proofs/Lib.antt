@@ -1,0 +1,8 @@
+-- Shared facts first, then the theorems; each file says what it shows.
+pub mod Numbers
+pub mod Lines
+pub mod Potential
+pub mod LastLine
+-- the theorems
+pub mod Suffices
+pub mod StepsAndEvents

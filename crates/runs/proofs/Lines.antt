@@ -1,0 +1,154 @@
+-- Lines: their bytes add up to the script's, a line that states a request has the bytes of its form, and what a line does to the run.
+-- Assumes nothing.
+use Prim.Native.Nat.{ℕ, suc, _+_, _≤_}
+use native.Mathlib.Omega.{arith}
+use mathlib.Core.Path.{_≡_, refl, ap, _∙_}
+use mathlib.Core.Bool.{Bool, true, false, cond, _&&_, _||_}
+use mathlib.Core.List.{List, [], _∷_}
+use lib.Dec.{T, eqb}
+use lib.ListN.{length, drop, length-drop}
+use Rattle.definitions.specs.Answers.{Test, firstRefusal}
+use Rattle.definitions.specs.Moves.{Request, go, callShared, callExclusive, setMove, clearMove, relent, moveRefusal, accepts}
+use Rattle.definitions.specs.Script.{bytes, same, starts, lineFeed, Line, inFront, linesOf, decimal, NumberRead, numberRead, Form, threads, request, note, bad, noteFits, threadsForm, targetForm, actForm, moveForm, formOf, lineForm, Turn, stops, passes, makes, turnOf}
+use Rattle.theory.proofs.Tests.{T-true, cond-either}
+use Rattle.theory.proofs.Texts.{same-eq, starts-length}
+use Rattle.runs.proofs.Numbers.{printed-digits, digits-split}
+
+-- ---- the bytes of lines
+
+-- a line's bytes, its line feed among them
+abbrev pub lineSize : Line → ℕ
+lineSize l = length (l .text) + cond (l .ended) 1 0
+
+abbrev pub sizeOf : List Line → ℕ
+sizeOf [] = 0
+sizeOf (l ∷ ls) = lineSize l + sizeOf ls
+
+front-size : (c : ℕ) (ls : List Line) → sizeOf (inFront c ls) ≡ suc (sizeOf ls)
+front-size c [] = refl
+front-size c (l ∷ ls) = omega arith
+
+pub lines-size : (cs : List ℕ) → sizeOf (linesOf cs) ≡ length cs
+unfolding linesOf
+lines-size [] = refl
+lines-size (c ∷ cs) =
+    cond-either (λ (ls : List Line). sizeOf ls ≡ suc (length cs)) (eqb c lineFeed) (record { text = []; ended = true } ∷ linesOf cs) (inFront c (linesOf cs))
+    (λ t. let rest = lines-size cs in omega arith)
+    (λ t. front-size c (linesOf cs) ∙ ap suc (lines-size cs))
+
+front-count : (c : ℕ) (ls : List Line) → length (inFront c ls) ≤ suc (length ls)
+front-count c [] = omega arith
+front-count c (l ∷ ls) = omega arith
+
+pub lines-count : (cs : List ℕ) → length (linesOf cs) ≤ length cs
+unfolding linesOf
+lines-count [] = omega arith
+lines-count (c ∷ cs) =
+    cond-either (λ (ls : List Line). length ls ≤ suc (length cs)) (eqb c lineFeed) (record { text = []; ended = true } ∷ linesOf cs) (inFront c (linesOf cs))
+    (λ t. let rest = lines-count cs in omega arith)
+    (λ t. let rest = lines-count cs in let front = front-count c (linesOf cs) in omega arith)
+
+-- ---- the bytes of a request's line
+
+same-length : (xs ys : List ℕ) → T (same xs ys) → length xs ≡ length ys
+same-length xs ys t = ap length (same-eq xs ys (T-true (same xs ys) t))
+
+starts-split : (p xs : List ℕ) → T (starts p xs) → length xs ≡ length p + length (drop (length p) xs)
+starts-split p xs t = omega (arith, length-drop (length p) xs, starts-length p xs (T-true (starts p xs) t))
+
+abbrev pub isCall : ℕ → Bool
+isCall move = eqb move callShared || eqb move callExclusive
+
+-- a line of so many bytes has room for a request: `(T (go))` is the shortest, and a call takes nine bytes more
+pub record Written (size thread move : ℕ) : Type 0 where
+  pub plain : length (decimal thread) + 8 ≤ size
+  pub call : T (isCall move) → length (decimal thread) + 17 ≤ size
+
+abbrev pub Long : ℕ → Form → Type 0
+Long size (threads n) = Unit {0}
+Long size (request thread move target) = Written size thread move
+Long size note = Unit {0}
+Long size bad = Unit {0}
+
+target-long : (size thread move : ℕ) (r : NumberRead) → Written size thread move → Long size (targetForm thread move r)
+target-long size thread move r w =
+    cond-either (Long size) (r .fits && same (r .rest) (bytes "))")) (request thread move (r .value)) bad (λ t. w) (λ t. tt)
+
+-- behind T: " (go))" has 6 bytes, " (call shared))" 15
+act-long : (size thread : ℕ) (xs : List ℕ) → length (decimal thread) + length xs + 2 ≤ size → Long size (actForm thread xs)
+unfolding actForm bytes
+act-long size thread xs fits =
+    cond-either (Long size) (same xs (bytes " (go))")) _ _ (λ t. short go (λ u. u) (omega (arith, same-length xs (bytes " (go))") t)))
+    (λ t1. cond-either (Long size) (same xs (bytes " (call shared))")) _ _ (λ t. long callShared (omega (arith, same-length xs (bytes " (call shared))") t)))
+    (λ t2. cond-either (Long size) (same xs (bytes " (call exclusive))")) _ _ (λ t. long callExclusive (omega (arith, same-length xs (bytes " (call exclusive))") t)))
+    (λ t3. cond-either (Long size) (same xs (bytes " (relent))")) _ _ (λ t. short relent (λ u. u) (omega (arith, same-length xs (bytes " (relent))") t)))
+    (λ t4. cond-either (Long size) (starts (bytes " (set ") xs) _ _ (λ t. target-long size thread setMove (numberRead (drop 6 xs)) (short setMove (λ u. u) (omega (arith, starts-split (bytes " (set ") xs t))))
+    (λ t5. cond-either (Long size) (starts (bytes " (clear ") xs) _ _ (λ t. target-long size thread clearMove (numberRead (drop 8 xs)) (short clearMove (λ u. u) (omega (arith, starts-split (bytes " (clear ") xs t))))
+    (λ t6. tt))))))
+  where
+    short : (move : ℕ) → (T (isCall move) → ⊥) → 6 ≤ length xs → Written size thread move
+    short move other l = record { plain = omega arith; call = λ e. absurd (other e) }
+
+    long : (move : ℕ) → 15 ≤ length xs → Written size thread move
+    long move l = record { plain = omega arith; call = λ e. omega arith }
+
+-- behind the first bracket
+move-long : (size : ℕ) (xs : List ℕ) → length xs + 2 ≤ size → Long size (moveForm (numberRead xs))
+unfolding numberRead
+move-long size xs fits =
+    cond-either (Long size) (numberRead xs .fits) _ bad
+    (λ t. let read = printed-digits xs t in let split = digits-split xs in act-long size (numberRead xs .value) (numberRead xs .rest) (omega arith))
+    (λ t. tt)
+
+-- the number of threads is no request
+count-long : (size : ℕ) (r : NumberRead) → Long size (threadsForm r)
+count-long size r = cond-either (Long size) (r .fits && same (r .rest) (bytes ")")) (threads (r .value)) bad (λ u. tt) (λ u. tt)
+
+form-long : (line : List ℕ) → Long (length line + 1) (formOf line)
+unfolding formOf bytes
+form-long line =
+    let P : Form → Type 0 = Long (length line + 1) in
+    cond-either P (starts (bytes "(threads ") line) _ _ (λ t. count-long (length line + 1) (numberRead (drop 9 line)))
+    (λ t1. cond-either P (starts (bytes "(note ") line) _ _ (λ t. cond-either P (noteFits (drop 6 line)) note bad (λ u. tt) (λ u. tt))
+    (λ t2. cond-either P (starts (bytes "(") line) _ _ (λ t. move-long (length line + 1) (drop 1 line) (omega (arith, starts-split (bytes "(") line t)))
+    (λ t3. tt)))
+
+line-long : (l : Line) → Long (lineSize l) (lineForm l)
+line-long l = by (l .ended) (l .text)
+  where
+    by : (ended : Bool) (text : List ℕ) → Long (length text + cond ended 1 0) (cond ended (formOf text) bad)
+    by true text = form-long text
+    by false text = tt
+
+-- ---- what a line does to the run
+
+-- refusal numbers have one digit
+abbrev Small : List Test → Type 0
+Small [] = Unit {0}
+Small (t ∷ ts) = (t .number ≤ 9) × Small ts
+
+first-small : (ts : List Test) → Small ts → firstRefusal ts ≤ 9
+unfolding firstRefusal
+first-small [] h = omega arith
+first-small (t ∷ ts) h = cond-either (λ (k : ℕ). k ≤ 9) (t .passed) (firstRefusal ts) (t .number) (λ u. first-small ts (h .1)) (λ u. h .0)
+
+refusal-small : (table : List ℕ) (r : Request) → moveRefusal table r ≤ 9
+unfolding moveRefusal
+refusal-small table r = first-small _ (omega arith, (omega arith, (omega arith, (omega arith, (omega arith, (omega arith, (omega arith, tt)))))))
+
+-- a line that stops the run has a refusal of one digit, one that makes a move has the bytes of an accepted request
+abbrev pub Does : List ℕ → ℕ → Turn → Type 0
+Does table size (stops number) = number ≤ 9
+Does table size passes = Unit {0}
+Does table size (makes r) = T (accepts table r) × Written size (r .thread) (r .move)
+
+form-does : (table : List ℕ) (size : ℕ) (f : Form) → Long size f → Does table size (turnOf table f)
+form-does table size (threads n) w = omega arith
+form-does table size (request thread move target) w =
+    let r : Request = record { thread = thread; move = move; target = target } in
+    cond-either (Does table size) (accepts table r) (makes r) (stops (moveRefusal table r)) (λ t. (t, w)) (λ t. refusal-small table r)
+form-does table size note w = tt
+form-does table size bad w = omega arith
+
+pub line-does : (table : List ℕ) (l : Line) → Does table (lineSize l) (turnOf table (lineForm l))
+line-does table l = form-does table (lineSize l) (lineForm l) (line-long l)

@@ -1,0 +1,142 @@
+-- The amortised cost of a move: the bytes that it prints and the potential after it are at most twice the bytes of its line and the potential before it.
+-- The potential of a table is the sum of its threads' credits, and a thread's credit goes by its phase. Assumes nothing.
+use Prim.Native.Nat.{ℕ, zero, suc, _+_, _*_, _≤_, _<_}
+use native.Mathlib.Omega.{arith}
+use native.Mathlib.Nat.{not-suc-le-zero}
+use mathlib.Core.Path.{_≡_, refl, sym, subst, ap, _∙_}
+use mathlib.Core.Logic.{⊎-elim}
+use mathlib.Core.List.{List, [], _∷_}
+use lib.Dec.{T}
+use lib.ListN.{length, getD, length-append}
+use Rattle.definitions.specs.Bounds.{lastMove}
+use Rattle.definitions.specs.Answers.{Reply, shown}
+use Rattle.definitions.specs.Threads.{among}
+use Rattle.definitions.specs.Table.{Table, tableOf, fresh}
+use Rattle.definitions.specs.Nodes.{replyFor}
+use Rattle.definitions.specs.Moves.{Request, Effect, effect, phasesOf, hasMove, accepts, moveReply, moveTable}
+use Rattle.definitions.specs.Script.{bytes, decimal, eventName, eventLine}
+use Rattle.theory.proofs.Quantifiers.{below-suc}
+use Rattle.theory.proofs.Views.{update, update-same, update-other, applied, fresh-table}
+use Rattle.theory.proofs.Ways.{accepted-e, Way, way, call-shared, call-exclusive, raise-busy, find-open, find-forbidden, back-off, try-again, enter-shared, leave-shared, lower-busy, return-shared, take-mutex, find-busy, last-flag, next-flag, give-up, enter-exclusive, leave-exclusive, release-mutex, return-exclusive, set-flag, set-again, clear-last, clear-flag, relents}
+use Rattle.theory.proofs.Steps.{accepts-e, accepted-table, accepted-reply}
+use Rattle.theory.proofs.Numbers.{decimal-some}
+use Rattle.runs.proofs.Lines.{isCall, Written}
+
+-- ---- sums over the threads
+
+-- f 0 + f 1 + .. up to n - 1
+abbrev pub sumOf : ℕ → (ℕ → ℕ) → ℕ
+sumOf zero f = 0
+sumOf (suc n) f = sumOf n f + f n
+
+sum-same : (n : ℕ) (f g : ℕ → ℕ) → ((j : ℕ) → j < n → g j ≡ f j) → sumOf n g ≡ sumOf n f
+sum-same zero f g h = refl
+sum-same (suc n) f g h = let rest = sum-same n f g (λ j l. h j (omega arith)) in let here = h n (omega arith) in omega arith
+
+-- g is f but at i
+sum-but : (n : ℕ) (f g : ℕ → ℕ) (i : ℕ) → i < n → ((j : ℕ) → (j ≡ i → ⊥) → g j ≡ f j) → sumOf n g + f i ≡ sumOf n f + g i
+sum-but zero f g i l others = absurd (not-suc-le-zero l)
+sum-but (suc n) f g i l others =
+    ⊎-elim
+    (λ e.
+    let rest = sum-same n f g (λ j k. others j (λ z. omega arith)) in
+    subst (λ (k : ℕ). sumOf n g + g n + f k ≡ sumOf n f + f n + g k) (sym e) (omega arith))
+    (λ k. let rest = sum-but n f g i k others in let last = others n (λ z. omega arith) in omega arith)
+    (below-suc i n l)
+
+-- ---- the potential
+
+-- a thread's credit in each phase from 0 to 17
+unfoldable pub credit : ℕ → ℕ
+credit phase = getD (0 ∷ 0 ∷ 8 ∷ 0 ∷ 0 ∷ 26 ∷ 12 ∷ 0 ∷ 14 ∷ 0 ∷ 0 ∷ 14 ∷ 0 ∷ 32 ∷ 15 ∷ 0 ∷ 0 ∷ 17 ∷ []) phase 0
+
+abbrev pub potential : Table → ℕ
+potential s = sumOf (s .threads) (λ j. credit (s .phase j))
+
+sum-zero : (n : ℕ) → sumOf n (λ j. 0) ≡ 0
+sum-zero zero = refl
+sum-zero (suc n) = let rest = sum-zero n in omega arith
+
+pub fresh-potential : (n : ℕ) → potential (tableOf (fresh n)) ≡ 0
+unfolding credit
+fresh-potential n = ap potential (fresh-table n) ∙ sum-zero n
+
+-- a thread goes from phase p to phase q
+moved : (s : Table) (i p q : ℕ) → i < s .threads → s .phase i ≡ p → sumOf (s .threads) (λ j. credit (update (s .phase) i q j)) + credit p ≡ potential s + credit q
+moved s i p q l e =
+    let g : ℕ → ℕ = λ j. credit (update (s .phase) i q j) in
+    let change = sum-but (s .threads) (λ j. credit (s .phase j)) g i l (λ j h. ap credit (update-other (s .phase) i q j h)) in
+    let before = ap credit e in
+    let after = ap credit (update-same (s .phase) i q i refl) in
+    omega arith
+
+-- ---- what a move prints
+
+-- "(event T (name))" and its line feed
+event-size : (thread event : ℕ) → length (eventLine thread (shown event)) ≡ length (decimal thread) + (12 + length (eventName event))
+unfolding eventLine bytes
+event-size thread event = simp length-append (omega arith)
+
+-- phase 0 has only the calls
+only-calls : (move : ℕ) → move ≤ lastMove → T (hasMove move 0) → T (isCall move)
+unfolding among phasesOf
+only-calls zero l t = t
+only-calls (suc zero) l t = tt
+only-calls (suc (suc zero)) l t = tt
+only-calls (suc (suc (suc zero))) l t = t
+only-calls (suc (suc (suc (suc zero)))) l t = t
+only-calls (suc (suc (suc (suc (suc zero))))) l t = t
+only-calls (suc (suc (suc (suc (suc (suc m)))))) l t = absurd (omega arith)
+
+module _ (s : Table) (i t size : ℕ) (fits : i < s .threads) (plain : length (decimal i) + 8 ≤ size) (call : s .phase i ≡ 0 → length (decimal i) + 17 ≤ size) where
+  -- quiet
+  quiet-cost : (p q : ℕ) → s .phase i ≡ p → credit q ≤ 18 + credit p → 0 + sumOf (s .threads) (λ j. credit (update (s .phase) i q j)) ≤ 2 * size + potential s
+  quiet-cost p q e enough = let some = decimal-some i in let m = moved s i p q fits e in omega arith
+
+  -- an event
+  event-cost : (event p q : ℕ) → s .phase i ≡ p → length (decimal i) + (12 + length (eventName event)) + credit q ≤ 2 * size + credit p
+      → length (eventLine i (shown event)) + sumOf (s .threads) (λ j. credit (update (s .phase) i q j)) ≤ 2 * size + potential s
+  event-cost event p q e enough = let z = event-size i event in let m = moved s i p q fits e in omega arith
+
+  way-cost : (e : Effect) → Way s i t e → length (eventLine i (replyFor (e .shows))) + potential (applied s (e .writes)) ≤ 2 * size + potential s
+  unfolding credit eventName bytes eventLine
+  way-cost e (call-shared p) = let long = call p in event-cost 1 0 1 p (omega arith)
+  way-cost e (call-exclusive p) = let long = call p in event-cost 5 0 9 p (omega arith)
+  way-cost e (raise-busy p) = quiet-cost 1 2 p (omega arith)
+  way-cost e (find-open p f) = quiet-cost 2 5 p (omega arith)
+  way-cost e (find-forbidden p f) = quiet-cost 2 3 p (omega arith)
+  way-cost e (back-off p) = quiet-cost 3 4 p (omega arith)
+  way-cost e (try-again p) = quiet-cost 4 1 p (omega arith)
+  way-cost e (enter-shared p) = let one = decimal-some i in event-cost 2 5 6 p (omega arith)
+  way-cost e (leave-shared p) = let one = decimal-some i in event-cost 3 6 7 p (omega arith)
+  way-cost e (lower-busy p) = quiet-cost 7 8 p (omega arith)
+  way-cost e (return-shared p) = let one = decimal-some i in event-cost 4 8 0 p (omega arith)
+  way-cost e (take-mutex p f) = quiet-cost 9 10 p (omega arith)
+  way-cost e (find-busy p b) = quiet-cost 11 12 p (omega arith)
+  way-cost e (last-flag p b a) = quiet-cost 11 13 p (omega arith)
+  way-cost e (next-flag p b a) = quiet-cost 11 10 p (omega arith)
+  way-cost e (give-up p) = quiet-cost 12 10 p (omega arith)
+  way-cost e (enter-exclusive p) = let one = decimal-some i in event-cost 6 13 14 p (omega arith)
+  way-cost e (leave-exclusive p) = let one = decimal-some i in event-cost 7 14 15 p (omega arith)
+  way-cost e (release-mutex p) = quiet-cost 16 17 p (omega arith)
+  way-cost e (return-exclusive p) = let one = decimal-some i in event-cost 8 17 0 p (omega arith)
+  way-cost e (set-flag p l) = quiet-cost 10 11 p (omega arith)
+  way-cost e (set-again p l) = omega arith
+  way-cost e (clear-last p l a) = quiet-cost 15 16 p (omega arith)
+  way-cost e (clear-flag p l a) = omega arith
+  way-cost e (relents p) = quiet-cost 11 12 p (omega arith)
+
+-- `size` is the length of the line that states the request, with its line feed
+pub move-cost : (table : List ℕ) (r : Request) (size : ℕ) → T (accepts table r) → Written size (r .thread) (r .move)
+    → length (eventLine (r .thread) (moveReply table r)) + potential (tableOf (moveTable table r)) ≤ 2 * size + potential (tableOf table)
+move-cost table r size t w =
+    let s = tableOf table in
+    let a = accepted-e s r (accepts-e table r t .1) in
+    let cost =
+    way-cost s (r .thread) (r .target) size (a .thread-fits) (w .plain)
+    (λ e. w .call (only-calls (r .move) (a .move-fits) (subst (λ (p : ℕ). T (hasMove (r .move) p)) e (a .has-move))))
+    (effect s r) (way s r a)
+    in
+    let prints = ap (λ (reply : Reply). length (eventLine (r .thread) reply)) (accepted-reply table r t) in
+    let leaves = ap potential (accepted-table table r t) in
+    omega arith

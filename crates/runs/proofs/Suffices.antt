@@ -1,0 +1,103 @@
+-- "the run's output, for which 65,536 bytes always suffice": for every script that isn't too long, so a run that is lent as many is not refused.
+-- Shown: the output is at most twice the script and the bytes of the last line. Assumes nothing.
+use Prim.Native.Nat.{ℕ, suc, _+_, _*_, _≤_, _<_}
+use native.Mathlib.Omega.{arith}
+use mathlib.Core.Path.{_≡_}
+use mathlib.Core.List.{List, [], _∷_, _++_}
+use lib.Dec.{leb, le→leb}
+use lib.ListN.{length, length-append}
+use Rattle.definitions.specs.Bounds.{mostScript, enoughOutput}
+use Rattle.definitions.specs.Answers.{done, firstRefusal}
+use Rattle.definitions.specs.Table.{tableOf, countFits, fresh, filled}
+use Rattle.definitions.specs.Moves.{moveReply, moveTable}
+use Rattle.definitions.specs.Script.{bytes, Line, linesOf, lineForm, Form, threads, request, note, bad, eventLine, stepsLine, refusedLine, Turn, stops, passes, makes, turnOf, printed, printedFirst, runText, runOutputOf, runRefusal, runReply, runOutput}
+use Rattle.theory.proofs.Tests.{T-true, cond-either}
+use Rattle.theory.proofs.Numbers.{tens, decimal-short}
+use Rattle.runs.proofs.Lines.{lineSize, sizeOf, lines-size, lines-count, Does, line-does}
+use Rattle.runs.proofs.Potential.{potential, fresh-potential, move-cost}
+
+-- ---- the last line
+
+steps-short : (steps : ℕ) → steps < tens 5 → length (stepsLine steps) ≤ 18
+unfolding stepsLine bytes
+steps-short steps h = let d = decimal-short steps 5 (omega arith) h in simp length-append (omega arith)
+
+refused-short : (number line : ℕ) → number ≤ 9 → line < tens 5 → length (refusedLine number line) ≤ 18
+unfolding refusedLine bytes
+refused-short number line k h =
+    let c = decimal-short number 1 (omega arith) (omega arith) in
+    let d = decimal-short line 5 (omega arith) h in
+    simp length-append (omega arith)
+
+-- ---- the lines behind the first
+
+bound : (table : List ℕ) (line steps : ℕ) (ls : List Line) → steps ≤ line → line + length ls < tens 5
+    → length (printed table line steps ls) ≤ 2 * sizeOf ls + potential (tableOf table) + 18
+unfolding printed
+bound table line steps [] below few = let last = steps-short steps (omega arith) in omega arith
+bound table line steps (l ∷ ls) below few =
+    by (turnOf table (lineForm l)) (line-does table l)
+    (bound table (suc line) steps ls (omega arith) (omega arith))
+    (λ after. bound after (suc line) (suc steps) ls (omega arith) (omega arith))
+  where
+    by : (u : Turn) → Does table (lineSize l) u
+        → length (printed table (suc line) steps ls) ≤ 2 * sizeOf ls + potential (tableOf table) + 18
+        → ((after : List ℕ) → length (printed after (suc line) (suc steps) ls) ≤ 2 * sizeOf ls + potential (tableOf after) + 18)
+        → length {A = ℕ} (elim u [
+          | stops number ↦ refusedLine number line
+          | passes ↦ printed table (suc line) steps ls
+          | makes r ↦ eventLine (r .thread) (moveReply table r) ++ printed (moveTable table r) (suc line) (suc steps) ls
+        ]) ≤ 2 * (lineSize l + sizeOf ls) + potential (tableOf table) + 18
+    by (stops number) d same next = let last = refused-short number line d (omega arith) in omega arith
+    by passes d same next = omega arith
+    by (makes r) d same next =
+        let here = move-cost table r (lineSize l) (d .0) (d .1) in
+        let rest = next (moveTable table r) in
+        simp length-append (omega arith)
+
+-- ---- the whole output
+
+first-bound : (f : Form) (ls : List Line) → 2 + length ls < tens 5 → length (printedFirst f ls) ≤ 2 * sizeOf ls + 18
+unfolding printedFirst
+first-bound (threads n) ls few =
+    cond-either (λ (xs : List ℕ). length xs ≤ 2 * sizeOf ls + 18) (countFits n) (printed (fresh n) 2 0 ls) (refusedLine 1 1)
+    (λ t. let rest = bound (fresh n) 2 0 ls (omega arith) few in let none = fresh-potential n in omega arith)
+    (λ t. let last = refused-short 1 1 (omega arith) (omega arith) in omega arith)
+first-bound (request thread move target) ls few = let last = refused-short 8 1 (omega arith) (omega arith) in omega arith
+first-bound note ls few = let last = refused-short 8 1 (omega arith) (omega arith) in omega arith
+first-bound bad ls few = let last = refused-short 8 1 (omega arith) (omega arith) in omega arith
+
+text-bound : (ls : List Line) → 2 + length ls < tens 5 → length (runText ls) ≤ 2 * sizeOf ls + 18
+unfolding runText
+text-bound [] few = refused-short 8 1 (omega arith) (omega arith)
+text-bound (l ∷ ls) few = let rest = first-bound (lineForm l) ls (omega arith) in omega arith
+
+-- the output of a run is at most twice its script and one short line
+pub run-bound : (script : List ℕ) → length script ≤ mostScript → length (runOutputOf script) ≤ 2 * length script + 18
+run-bound script fits =
+    let count = lines-count script in
+    let size = lines-size script in
+    let text = text-bound (linesOf script) (omega arith) in
+    omega arith
+
+-- "for which 65,536 bytes always suffice"
+pub suffices : (script : List ℕ) → length script ≤ mostScript → length (runOutputOf script) ≤ enoughOutput
+suffices script fits = let b = run-bound script fits in omega arith
+
+-- with as many bytes lent, a script that isn't too long is not turned down
+module _ (script out : List ℕ) (fits : length script ≤ mostScript) (room : enoughOutput ≤ length out) where
+  not-turned-down : runRefusal script out ≡ 0
+  unfolding runRefusal firstRefusal
+  not-turned-down =
+      let long = T-true (leb (length script) mostScript) (le→leb (length script) mostScript fits) in
+      let needed = suffices script fits in
+      let short = T-true (leb (length (runOutputOf script)) (length out)) (le→leb (length (runOutputOf script)) (length out) (omega arith)) in
+      rw (long, short)
+
+  pub never-refused : runReply script out ≡ done (length (runOutputOf script))
+  unfolding runReply
+  never-refused = rw not-turned-down
+
+  pub always-filled : runOutput script out ≡ filled out (runOutputOf script)
+  unfolding runOutput
+  always-filled = rw not-turned-down

@@ -1,0 +1,6 @@
+-- Shared laws first, then the theorems.
+pub mod LineLaws
+pub mod Turns
+pub mod Printed
+pub mod Loop
+pub mod Entry

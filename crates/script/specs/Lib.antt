@@ -1,0 +1,3 @@
+-- What the contracts of the run's inner functions cite, besides the definitions of the scope paper.
+pub mod Lines
+pub mod Steps
