@@ -1,0 +1,358 @@
+//! Times each entry of the archive against the model, on the same inputs.
+//!
+//! A round times a number of calls of the one and then of the other, the order
+//! changing from round to round. What is printed is the median of all rounds,
+//! in nanoseconds a call, and the archive's time as a multiple of the model's.
+
+use std::hint::black_box;
+use std::time::Instant;
+
+use compare::archive::Archive;
+use compare::histories;
+use compare::model::{self, MAX_HISTORY, MAX_SCRIPT, RUN_ROOM};
+use compare::part::{number_of, value_of, Model, Part};
+use compare::random::Random;
+use compare::scripts;
+use compare::tables;
+
+/// Rounds of which the median is taken.
+const ROUNDS: usize = 301;
+/// Tables that a timed move takes in turn.
+const TABLES: usize = 8;
+/// How long the calls of one part of a round shall take.
+const SPAN: u128 = 20_000;
+const THREADS: [usize; 4] = [1, 8, 50, 200];
+
+/// Nanoseconds a call of the archive and of the model.
+#[derive(Clone, Copy)]
+struct Times {
+    archive: f64,
+    model: f64,
+}
+
+fn elapsed(calls: usize, mut call: impl FnMut() -> u64) -> f64 {
+    let start = Instant::now();
+    for _ in 0..calls {
+        black_box(call());
+    }
+    start.elapsed().as_nanos() as f64 / calls as f64
+}
+
+fn median(mut times: Vec<f64>) -> f64 {
+    times.sort_by(f64::total_cmp);
+    times[times.len() / 2]
+}
+
+/// Times two functions in alternation.
+fn times(mut archive: impl FnMut() -> u64, mut model: impl FnMut() -> u64) -> Times {
+    let start = Instant::now();
+    model();
+    archive();
+    let once = start.elapsed().as_nanos() / 2 + 1;
+    let calls = (SPAN / once).clamp(1, 1000) as usize;
+    // Fewer rounds for calls of milliseconds.
+    let rounds = (3_000_000_000 / (2 * once * calls as u128)).clamp(31, ROUNDS as u128) as usize;
+    let (mut a, mut m) = (Vec::new(), Vec::new());
+    for round in 0..rounds {
+        if round % 2 == 0 {
+            a.push(elapsed(calls, &mut archive));
+            m.push(elapsed(calls, &mut model));
+        } else {
+            m.push(elapsed(calls, &mut model));
+            a.push(elapsed(calls, &mut archive));
+        }
+    }
+    Times {
+        archive: median(a),
+        model: median(m),
+    }
+}
+
+fn cell(times: Times) -> String {
+    let Times { archive, model } = times;
+    let digits = if archive < 1000.0 { 1 } else { 0 };
+    format!(
+        "{archive:>10.digits$} {model:>10.digits$} {:>5.2}",
+        archive / model
+    )
+}
+
+fn head(title: &str) {
+    print!("\n{title:<34}");
+    for threads in THREADS {
+        print!("{:>28}", format!("N = {threads}   "));
+    }
+    print!("\n{:<34}", "");
+    for _ in THREADS {
+        print!("{:>10} {:>10} {:>5} ", "archive", "model", "ratio");
+    }
+    println!();
+}
+
+// ------------------------------------------------------------------ the move
+
+/// A move that is timed: in which phase, to which phase, and its name.
+struct Kind {
+    name: &'static str,
+    from: u8,
+    mov: u16,
+    to: u8,
+}
+
+const fn kind(name: &'static str, from: u8, mov: u16, to: u8) -> Kind {
+    Kind {
+        name,
+        from,
+        mov,
+        to,
+    }
+}
+
+const KINDS: [Kind; 24] = [
+    kind("phase 0, call shared", 0, 1, 1),
+    kind("phase 0, call exclusive", 0, 2, 9),
+    kind("phase 1, go", 1, 0, 2),
+    kind("phase 2, go, not forbidden", 2, 0, 5),
+    kind("phase 2, go, forbidden", 2, 0, 3),
+    kind("phase 3, go", 3, 0, 4),
+    kind("phase 4, go", 4, 0, 1),
+    kind("phase 5, go", 5, 0, 6),
+    kind("phase 6, go", 6, 0, 7),
+    kind("phase 7, go", 7, 0, 8),
+    kind("phase 8, go", 8, 0, 0),
+    kind("phase 9, go, mutex 0", 9, 0, 10),
+    kind("phase 9, go, refused (7)", 9, 0, 9),
+    kind("phase 10, set", 10, 3, 11),
+    kind("phase 11, go, target not busy", 11, 0, 10),
+    kind("phase 11, go, target busy", 11, 0, 12),
+    kind("phase 11, relent", 11, 5, 12),
+    kind("phase 12, go", 12, 0, 10),
+    kind("phase 13, go", 13, 0, 14),
+    kind("phase 14, go", 14, 0, 15),
+    kind("phase 15, set", 15, 3, 15),
+    kind("phase 15, clear", 15, 4, 15),
+    kind("phase 16, go", 16, 0, 17),
+    kind("phase 17, go", 17, 0, 0),
+];
+
+/// A request and the table that it is made on.
+struct Request {
+    table: Vec<u8>,
+    thread: usize,
+    target: usize,
+}
+
+/// Random sound tables on which a move of a kind can be made.
+fn requests(kind: &Kind, threads: usize) -> Vec<Request> {
+    let mut r = Random::new(7);
+    let mut found = Vec::new();
+    for _ in 0..20_000 {
+        let table = tables::sound(&mut r, threads);
+        let Some(thread) = (0..threads).find(|&t| table[3 + 3 * t] == kind.from) else {
+            continue;
+        };
+        let takes_target = kind.mov == model::SET || kind.mov == model::CLEAR;
+        let target = if takes_target { r.below(threads) } else { 0 };
+        let mut after = table.clone();
+        model::make_move(&mut after, thread as u16, kind.mov, target as u16);
+        if after[3 + 3 * thread] == kind.to {
+            found.push(Request {
+                table,
+                thread,
+                target,
+            });
+        }
+        if found.len() == TABLES {
+            break;
+        }
+    }
+    found
+}
+
+/// Makes the move on each table in turn. What a move may write is put back
+/// after it: mutex and target, and the bytes of the mover and of the targets.
+fn turns(part: impl Part, kind: &Kind, requests: &[Request]) -> impl FnMut() -> u64 {
+    struct Turn {
+        table: Vec<u8>,
+        thread: u16,
+        target: u16,
+        kept: [(usize, u8); 7],
+    }
+    let mov = kind.mov;
+    let mut turns = requests
+        .iter()
+        .map(|request| {
+            let old = usize::from(request.table[2]).min(request.table.len() / 3 - 2);
+            let (own, other) = (3 + 3 * request.thread, 5 + 3 * request.target);
+            let places = [1, 2, own, own + 1, own + 2, other, 5 + 3 * old];
+            Turn {
+                table: request.table.clone(),
+                thread: request.thread as u16,
+                target: request.target as u16,
+                kept: places.map(|place| (place, request.table[place])),
+            }
+        })
+        .collect::<Vec<_>>();
+    let mut next = 0;
+    move || {
+        let turn = &mut turns[next];
+        let answer = part.make_move(&mut turn.table, turn.thread, mov, turn.target);
+        for (place, byte) in turn.kept {
+            turn.table[place] = byte;
+        }
+        next = (next + 1) % turns.len();
+        answer
+    }
+}
+
+fn moves() {
+    head("the move");
+    let mut sums = [(0.0, 0.0, 0); THREADS.len()];
+    for kind in &KINDS {
+        print!("{:<34}", kind.name);
+        for (threads, sum) in THREADS.into_iter().zip(&mut sums) {
+            let requests = requests(kind, threads);
+            if requests.is_empty() {
+                print!("{:>27} ", "-");
+                continue;
+            }
+            let t = times(
+                turns(Archive, kind, &requests),
+                turns(Model, kind, &requests),
+            );
+            *sum = (sum.0 + t.archive, sum.1 + t.model, sum.2 + 1);
+            print!("{} ", cell(t));
+        }
+        println!();
+    }
+    print!("{:<34}", "mean of these");
+    for (archive, model, count) in sums {
+        let count = f64::from(count);
+        print!(
+            "{} ",
+            cell(Times {
+                archive: archive / count,
+                model: model / count
+            })
+        );
+    }
+    println!();
+}
+
+// --------------------------------------------------- tables, nodes, open moves
+
+/// A row of times, one for each number of threads.
+fn row(name: &str, mut timed: impl FnMut(usize) -> Times) {
+    print!("{name:<34}");
+    for threads in THREADS {
+        print!("{} ", cell(timed(threads)));
+    }
+    println!();
+}
+
+/// The first random sound table that has a thread in this phase, and it.
+fn table_with(threads: usize, phase: u8) -> (Vec<u8>, u16) {
+    let mut r = Random::new(11);
+    loop {
+        let table = tables::sound(&mut r, threads);
+        if let Some(thread) = (0..threads).find(|&t| table[3 + 3 * t] == phase) {
+            return (table, thread as u16);
+        }
+    }
+}
+
+fn readings() {
+    head("fresh, nodes, open moves");
+    row("fresh", |threads| {
+        let (mut a, mut m) = ([0; 603], [0; 603]);
+        times(
+            || Archive.fresh(threads as u16, black_box(&mut a)),
+            || Model.fresh(threads as u16, black_box(&mut m)),
+        )
+    });
+    row("nodes", |threads| {
+        let (table, _) = table_with(threads, 14);
+        let (mut a, mut m) = ([0; 200], [0; 200]);
+        times(
+            || Archive.nodes(black_box(&table), &mut a),
+            || Model.nodes(black_box(&table), &mut m),
+        )
+    });
+    for phase in [0, 10, 15] {
+        row(&format!("open moves, phase {phase}"), |threads| {
+            let (table, thread) = table_with(threads, phase);
+            let (mut a, mut m) = ([0; 800], [0; 800]);
+            times(
+                || Archive.open_moves(black_box(&table), thread, &mut a),
+                || Model.open_moves(black_box(&table), thread, &mut m),
+            )
+        });
+    }
+}
+
+// ----------------------------------------------------------- histories, scripts
+
+fn history_rows() {
+    head(&format!("histories of {MAX_HISTORY} bytes"));
+    let history =
+        |threads: usize| histories::history(&mut Random::new(13), threads, MAX_HISTORY / 2, false);
+    row("check", |threads| {
+        let history = history(threads);
+        let n = threads as u16;
+        assert_eq!(number_of(Archive.check(n, &history)), 0);
+        times(
+            || Archive.check(n, black_box(&history)),
+            || Model.check(n, black_box(&history)),
+        )
+    });
+    row("plan, all of it written", |threads| {
+        let history = history(threads);
+        let n = threads as u16;
+        let room = 3 * histories::plan_moves(threads, &history);
+        let (mut a, mut m) = (vec![0; room], vec![0; room]);
+        assert_eq!(3 * value_of(Archive.plan(n, &history, &mut a)), room as u64);
+        times(
+            || Archive.plan(n, black_box(&history), &mut a),
+            || Model.plan(n, black_box(&history), &mut m),
+        )
+    });
+}
+
+fn script_rows() {
+    println!(
+        "\n{:<34}{:>10} {:>10} {:>5}",
+        format!("scripts of {MAX_SCRIPT} bytes"),
+        "archive",
+        "model",
+        "ratio"
+    );
+    let mut r = Random::new(17);
+    let moves = scripts::script_of_size(&mut r, MAX_SCRIPT);
+    let mut note = b"(threads 200)\n(note ".to_vec();
+    note.resize(MAX_SCRIPT - 2, b'.');
+    note.extend(b")\n");
+    for (name, script) in [
+        ("run, moves and notes, N = 3", moves),
+        ("run, one long note", note),
+    ] {
+        let (mut a, mut m) = (vec![0; RUN_ROOM], vec![0; RUN_ROOM]);
+        assert_eq!(Archive.run(&script, &mut a), Model.run(&script, &mut m));
+        let t = times(
+            || Archive.run(black_box(&script), &mut a),
+            || Model.run(black_box(&script), &mut m),
+        );
+        println!("{name:<34}{}", cell(t));
+    }
+}
+
+fn main() {
+    println!("nanoseconds a call, median of {ROUNDS} rounds (31 or more for long calls)");
+    moves();
+    readings();
+    if cfg!(feature = "history") {
+        history_rows();
+    }
+    if cfg!(feature = "script") {
+        script_rows();
+    }
+}

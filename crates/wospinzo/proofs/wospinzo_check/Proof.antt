@@ -1,0 +1,19 @@
+-- `wospinzo::wospinzo_check` meets its contract: the check's answer, whose value is small, as a number. Assumes nothing.
+use mathlib.Core.Path.{ap, _∙_}
+use borrow.Author.Needs.{needs}
+use Rattle.wospinzo.specs.Encoding.{encoded}
+use Rattle.wospinzo.proofs.Small.{check-small}
+use Rattle.wospinzo.proofs.wospinzo_check.Statement.{statement}
+use Rattle.wospinzo.proofs.wospinzo_check.Tie as tie
+
+check-requires : tie.Need-check-requires
+check-requires c κs = search needs
+
+answer-number-requires : tie.Need-answer-number-requires
+answer-number-requires c κs = rw (c .check .ensures) (check-small _ _)
+
+returns : tie.Need-returns
+returns c = c .answer-number .ensures ∙ ap encoded (c .before .check .ensures)
+
+pub wospinzo-check-spec : {M : Type 1} → statement M
+wospinzo-check-spec = tie.close (tie.spec check-requires answer-number-requires returns)

@@ -1,0 +1,23 @@
+-- `wospinzo::wospinzo_fresh` meets its contract: the fresh table's answer, whose value is small, as a number, and its output. Assumes nothing.
+use mathlib.Core.Path.{ap, _∙_}
+use borrow.Author.Needs.{needs}
+use Rattle.wospinzo.specs.Encoding.{encoded}
+use Rattle.wospinzo.proofs.Small.{fresh-small}
+use Rattle.wospinzo.proofs.wospinzo_fresh.Statement.{statement}
+use Rattle.wospinzo.proofs.wospinzo_fresh.Tie as tie
+
+fresh-requires : tie.Need-fresh-requires
+fresh-requires c κs = search needs
+
+answer-number-requires : tie.Need-answer-number-requires
+answer-number-requires c κs = rw (c .before .before .fresh .ensures .0) (fresh-small _ _ (search needs))
+
+same-length : tie.Need-same-length
+same-length c = search needs
+
+returns : tie.Need-returns
+returns c =
+    let made = c .before .before .before .fresh .ensures in (c .answer-number .ensures ∙ ap encoded (made .0), made .1)
+
+pub wospinzo-fresh-spec : {M : Type 1} → statement M
+wospinzo-fresh-spec = tie.close (tie.spec fresh-requires answer-number-requires same-length returns)

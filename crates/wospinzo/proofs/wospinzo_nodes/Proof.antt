@@ -1,0 +1,23 @@
+-- `wospinzo::wospinzo_nodes` meets its contract: the nodes' answer, whose value is small, as a number, and its output. Assumes nothing.
+use mathlib.Core.Path.{ap, _∙_}
+use borrow.Author.Needs.{needs}
+use Rattle.wospinzo.specs.Encoding.{encoded}
+use Rattle.wospinzo.proofs.Small.{nodes-small}
+use Rattle.wospinzo.proofs.wospinzo_nodes.Statement.{statement}
+use Rattle.wospinzo.proofs.wospinzo_nodes.Tie as tie
+
+nodes-requires : tie.Need-nodes-requires
+nodes-requires c κs = search needs
+
+answer-number-requires : tie.Need-answer-number-requires
+answer-number-requires c κs = rw (c .before .before .nodes .ensures .0) (nodes-small _ _)
+
+same-length : tie.Need-same-length
+same-length c = search needs
+
+returns : tie.Need-returns
+returns c =
+    let made = c .before .before .before .nodes .ensures in (c .answer-number .ensures ∙ ap encoded (made .0), made .1)
+
+pub wospinzo-nodes-spec : {M : Type 1} → statement M
+wospinzo-nodes-spec = tie.close (tie.spec nodes-requires answer-number-requires same-length returns)

@@ -1,0 +1,23 @@
+-- `wospinzo::wospinzo_plan` meets its contract: the plan's answer, whose value is small, as a number, and its output. Assumes nothing.
+use mathlib.Core.Path.{ap, _∙_}
+use borrow.Author.Needs.{needs}
+use Rattle.wospinzo.specs.Encoding.{encoded}
+use Rattle.wospinzo.proofs.Small.{plan-small}
+use Rattle.wospinzo.proofs.wospinzo_plan.Statement.{statement}
+use Rattle.wospinzo.proofs.wospinzo_plan.Tie as tie
+
+plan-requires : tie.Need-plan-requires
+plan-requires c κs = search needs
+
+answer-number-requires : tie.Need-answer-number-requires
+answer-number-requires c κs = rw (c .before .before .plan .ensures .0) (plan-small _ _ _)
+
+same-length : tie.Need-same-length
+same-length c = search needs
+
+returns : tie.Need-returns
+returns c =
+    let made = c .before .before .before .plan .ensures in (c .answer-number .ensures ∙ ap encoded (made .0), made .1)
+
+pub wospinzo-plan-spec : {M : Type 1} → statement M
+wospinzo-plan-spec = tie.close (tie.spec plan-requires answer-number-requires same-length returns)

@@ -1,0 +1,170 @@
+//! A cooperative executive whose tasks share a settings table under the lock.
+//!
+//! Each turn gives every task one move. Readers read the settings piece by
+//! piece, a piece a turn, and look for tearing: words of two versions in one
+//! read. Panel tasks rewrite the settings, a piece a turn too. The program
+//! counts reads, writes and torn reads, of which there must be none.
+
+use std::process::ExitCode;
+
+use wospinzo::{fresh, make_move, table_size, Event, Move, Outcome, Refusal};
+
+const READERS: usize = 6;
+const PANELS: usize = 2;
+const TASKS: usize = READERS + PANELS;
+const TURNS: usize = 20_000;
+const PIECES: usize = 4;
+const WORDS: usize = 8;
+
+#[derive(Clone, Copy, Default)]
+struct Task {
+    /// Turns to let pass before the next call.
+    rest: usize,
+    /// Whether the task is in its section.
+    inside: bool,
+    /// The next piece to read or write there.
+    piece: usize,
+    /// The version being written, or first met in reading.
+    version: u32,
+    /// Whether the read met another version too.
+    torn: bool,
+}
+
+#[derive(Default)]
+struct Counts {
+    reads: usize,
+    writes: usize,
+    waits: usize,
+    torn: usize,
+}
+
+struct Executive {
+    table: [u8; table_size(TASKS as u16)],
+    tasks: [Task; TASKS],
+    settings: [[u32; WORDS]; PIECES],
+    counts: Counts,
+}
+
+fn is_panel(number: usize) -> bool {
+    number >= READERS
+}
+
+impl Executive {
+    fn new() -> Result<Executive, Refusal> {
+        let mut table = [0; table_size(TASKS as u16)];
+        fresh(TASKS as u16, &mut table)?;
+        Ok(Executive {
+            table,
+            tasks: [Task::default(); TASKS],
+            settings: [[0; WORDS]; PIECES],
+            counts: Counts::default(),
+        })
+    }
+
+    /// The first task whose forbidden flag has this value.
+    fn first_with(&self, forbidden: u8) -> u16 {
+        let mut flags = self.table[5..].iter().step_by(3);
+        flags.position(|&flag| flag == forbidden).unwrap_or(0) as u16
+    }
+
+    /// The task's next move, by its phase.
+    fn next_move(&self, number: usize) -> Move {
+        match self.table[3 + 3 * number] {
+            0 if is_panel(number) => Move::CallExclusive,
+            0 => Move::CallShared,
+            10 => Move::Set(self.first_with(0)),
+            15 => Move::Clear(self.first_with(1)),
+            _ => Move::Go,
+        }
+    }
+
+    /// Reads or writes the task's next piece of the settings. A panel writes
+    /// from the last piece to the first, so that a reader would meet both
+    /// versions.
+    fn work(&mut self, number: usize) {
+        let task = &mut self.tasks[number];
+        if task.piece == 0 {
+            task.version = self.settings[0][0] + u32::from(is_panel(number));
+        }
+        if is_panel(number) {
+            self.settings[PIECES - 1 - task.piece].fill(task.version);
+        } else {
+            let words = self.settings[task.piece];
+            task.torn |= words.iter().any(|&word| word != task.version);
+        }
+        task.piece += 1;
+    }
+
+    /// What an event means to the task that showed it.
+    fn heed(&mut self, number: usize, event: Event) {
+        let task = &mut self.tasks[number];
+        match event {
+            Event::EnterSharedReturn | Event::EnterExclusiveReturn => {
+                task.inside = true;
+                task.piece = 0;
+                task.torn = false;
+            }
+            Event::LeaveSharedCall => {
+                task.inside = false;
+                self.counts.reads += 1;
+                self.counts.torn += usize::from(task.torn);
+            }
+            Event::LeaveExclusiveCall => {
+                task.inside = false;
+                self.counts.writes += 1;
+            }
+            Event::LeaveSharedReturn | Event::LeaveExclusiveReturn => task.rest = 5 + 3 * number,
+            Event::EnterSharedCall | Event::EnterExclusiveCall => (),
+        }
+    }
+
+    fn turn(&mut self, number: usize) -> Result<(), Refusal> {
+        let task = &mut self.tasks[number];
+        if task.rest > 0 {
+            task.rest -= 1;
+            return Ok(());
+        }
+        if task.inside && task.piece < PIECES {
+            self.work(number);
+            return Ok(());
+        }
+        let next = self.next_move(number);
+        match make_move(&mut self.table, number as u16, next) {
+            Ok(Outcome::Shown(event)) => self.heed(number, event),
+            Ok(Outcome::Quiet) => (),
+            Err(Refusal::MutexHeld) => self.counts.waits += 1,
+            Err(refusal) => return Err(refusal),
+        }
+        Ok(())
+    }
+}
+
+fn run() -> Result<Counts, Refusal> {
+    let mut executive = Executive::new()?;
+    for _ in 0..TURNS {
+        for number in 0..TASKS {
+            executive.turn(number)?;
+        }
+    }
+    Ok(executive.counts)
+}
+
+fn main() -> ExitCode {
+    let Counts {
+        reads,
+        writes,
+        waits,
+        torn,
+    } = match run() {
+        Ok(counts) => counts,
+        Err(refusal) => {
+            println!("{refusal}");
+            return ExitCode::from(2);
+        }
+    };
+    println!(
+        "{TASKS} tasks, {TURNS} turns: {reads} reads, {writes} writes, \
+         {waits} waits for the mutex, {torn} torn reads"
+    );
+    ExitCode::from(u8::from(torn > 0 || reads == 0 || writes == 0))
+}

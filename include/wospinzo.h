@@ -1,0 +1,210 @@
+/*
+ * wospinzo.h - the busy-forbidden lock: its table, its moves, histories and
+ * scripts. C99 or later, or C++. Link with libwospinzo.a.
+ *
+ * A readers-writer lock for N threads (tasks of an executive) kept in one
+ * table of bytes that the caller owns. Every step of a thread through the lock
+ * is one call of wospinzo_move. The functions start no threads, take no
+ * memory, keep no state between calls and call nothing back.
+ *
+ * The table: 3 + 3N bytes.
+ *   byte 0           N, 1 to 200
+ *   byte 1           the mutex, 0 or 1
+ *   byte 2           the target, a thread number, or 255 for none
+ *   byte 3 + 3i      the phase of thread i, 0 to 17
+ *   byte 4 + 3i      its busy flag, 0 or 1
+ *   byte 5 + 3i      its forbidden flag, 0 or 1
+ *
+ * Slices: a pointer, which is never null, and the number of bytes there, which
+ * may be 0. The slices of one call must not overlap, and nothing else may read
+ * or write them during the call.
+ *
+ * Answers: every function answers a number of 64 bits, which the functions
+ * below take apart. Its low byte is 0 where the request was accepted, else the
+ * number of the refusal, the first that fits in the order of their numbers.
+ * The rest is the value: of an accepted request what the function says it
+ * answers; of a refusal its place, which is the index of the first bad pair
+ * for refusals 9, 10 and 11, else 0.
+ *
+ * A refused request leaves every lent byte as it was. An accepted one fills
+ * exactly its output from the front and leaves the bytes after it.
+ */
+#ifndef WOSPINZO_H
+#define WOSPINZO_H
+
+#include <stddef.h>
+#include <stdint.h>
+
+#ifdef __cplusplus
+extern "C" {
+#endif
+
+/* The largest number of threads. */
+#define WOSPINZO_MAX_THREADS 200
+/* The target byte of a table that has no target. */
+#define WOSPINZO_NO_TARGET 255
+/* The bytes of a table for n threads, and of the largest table. */
+#define WOSPINZO_TABLE_SIZE(n) (3 + 3 * (size_t)(n))
+#define WOSPINZO_MAX_TABLE_SIZE 603
+/* The most bytes that wospinzo_open_moves writes for n threads. */
+#define WOSPINZO_OPEN_MOVES_ROOM(n) (4 * (size_t)(n))
+/* The longest history and the longest script, in bytes. */
+#define WOSPINZO_MAX_HISTORY 60000
+#define WOSPINZO_MAX_SCRIPT 30000
+/* Bytes in which the output of every run fits. */
+#define WOSPINZO_RUN_ROOM 65536
+
+/* The moves. Set and clear take a thread as target; the others take 0. */
+enum wospinzo_move_code {
+    WOSPINZO_GO = 0,
+    WOSPINZO_CALL_SHARED = 1,
+    WOSPINZO_CALL_EXCLUSIVE = 2,
+    WOSPINZO_SET = 3,
+    WOSPINZO_CLEAR = 4,
+    WOSPINZO_RELENT = 5
+};
+
+/* The events that a move shows. A quiet move answers WOSPINZO_QUIET. */
+enum wospinzo_event {
+    WOSPINZO_QUIET = 0,
+    WOSPINZO_ENTER_SHARED_CALL = 1,
+    WOSPINZO_ENTER_SHARED_RETURN = 2,
+    WOSPINZO_LEAVE_SHARED_CALL = 3,
+    WOSPINZO_LEAVE_SHARED_RETURN = 4,
+    WOSPINZO_ENTER_EXCLUSIVE_CALL = 5,
+    WOSPINZO_ENTER_EXCLUSIVE_RETURN = 6,
+    WOSPINZO_LEAVE_EXCLUSIVE_CALL = 7,
+    WOSPINZO_LEAVE_EXCLUSIVE_RETURN = 8
+};
+
+/* The nodes, each with its phases. */
+enum wospinzo_node {
+    WOSPINZO_FREE = 0,      /* 0: outside the lock */
+    WOSPINZO_ES = 1,        /* 1 to 4: entering shared */
+    WOSPINZO_LOE = 2,       /* 5: no writer can enter any more */
+    WOSPINZO_SHARED = 3,    /* 6: in the shared section */
+    WOSPINZO_LS = 4,        /* 7 and 8: leaving shared */
+    WOSPINZO_EE = 5,        /* 9: entering exclusive, before the mutex */
+    WOSPINZO_SAF = 6,       /* 10 to 12: setting all forbidden flags */
+    WOSPINZO_LOS = 7,       /* 13: no reader can enter any more */
+    WOSPINZO_EXCLUSIVE = 8, /* 14: in the exclusive section */
+    WOSPINZO_LE = 9,        /* 15: leaving exclusive, clearing the flags */
+    WOSPINZO_OE = 10        /* 16 and 17: out of exclusive */
+};
+
+/* The refusals, in the order in which a request is tested for them. */
+enum wospinzo_refusal_number {
+    WOSPINZO_ACCEPTED = 0,
+    WOSPINZO_BAD_SIZE = 1,     /* N is 0 or above 200, or the table isn't 3 + 3N bytes */
+    WOSPINZO_UNSOUND = 2,      /* the table isn't sound: no move could have left it */
+    WOSPINZO_NO_THREAD = 3,    /* the thread number isn't below N */
+    WOSPINZO_NO_MOVE = 4,      /* the move is above 5 */
+    WOSPINZO_BAD_TARGET = 5,   /* set or clear: not below N; another move: not 0 */
+    WOSPINZO_NOT_IN_PHASE = 6, /* the thread's phase has no such move */
+    WOSPINZO_MUTEX_HELD = 7,   /* go in phase 9 while the mutex is 1: try again later */
+    WOSPINZO_BAD_FORM = 8,     /* a history of odd length or too long; a script too long */
+    WOSPINZO_UNKNOWN_PAIR = 9, /* the event isn't 1 to 8, or its thread isn't below N */
+    WOSPINZO_NOT_NEXT = 10,    /* the event isn't its thread's next */
+    WOSPINZO_OCCUPIED = 11,    /* the section that must be empty isn't */
+    WOSPINZO_NO_ROOM = 12      /* the output is shorter than what would be written */
+};
+
+/* Whether a request was accepted: 1 or 0. */
+static inline int wospinzo_accepted(uint64_t answer)
+{
+    return (answer & 255u) == 0;
+}
+
+/* The number of the refusal, WOSPINZO_ACCEPTED where there is none. */
+static inline unsigned wospinzo_refusal(uint64_t answer)
+{
+    return (unsigned)(answer & 255u);
+}
+
+/* The value of an accepted request, or the place of a refusal. */
+static inline uint64_t wospinzo_value(uint64_t answer)
+{
+    return answer >> 8;
+}
+
+/*
+ * Writes the fresh table for `threads` threads: all Free, mutex 0, no target.
+ * Answers the number of bytes written, 3 + 3 * threads.
+ * Refusals: 1, 12.
+ */
+uint64_t wospinzo_fresh(uint16_t threads, uint8_t *out, size_t out_len);
+
+/*
+ * Tests the table and the request, then makes one move of one thread. The
+ * table stays in the lent bytes and is sound after every accepted move.
+ * Answers the code of the event shown, or WOSPINZO_QUIET.
+ * Refusals: 1 to 7, all with the table unchanged.
+ *
+ *   call shared     phase 0 to 1, event 1
+ *   call exclusive  phase 0 to 9, event 5
+ *   go              the thread's next step. A reader takes 3 from its call
+ *                   into Shared where no flag stops it, 2 out of it (the first
+ *                   shows event 3), and 1 to be Free again. A writer takes the
+ *                   mutex with the first; in phase 11 it reads its target's
+ *                   busy flag and goes on, or to 12 where that is 1; go in 13
+ *                   enters Exclusive, go in 14 leaves it.
+ *   set t           phase 10: sets t's forbidden flag and makes t the target;
+ *                   phase 15: sets it
+ *   clear t         phase 15: clears t's forbidden flag; the last one leads on
+ *   relent          phase 11 to 12, without looking at the target
+ */
+uint64_t wospinzo_move(uint8_t *table, size_t table_len, uint16_t thread, uint16_t move,
+                       uint16_t target);
+
+/*
+ * Writes the node of each thread, one byte a thread (enum wospinzo_node).
+ * Answers the number of bytes written, N. The table is only read.
+ * Refusals: 1, 2, 12.
+ */
+uint64_t wospinzo_nodes(const uint8_t *table, size_t table_len, uint8_t *out, size_t out_len);
+
+/*
+ * Writes the open moves of a thread as byte pairs, move then target, by move
+ * and then by target: exactly those that wospinzo_move would accept now.
+ * Answers the number of bytes written, at most WOSPINZO_OPEN_MOVES_ROOM(N),
+ * and 0 for a thread in phase 9 while the mutex is 1. The table is only read.
+ * Refusals: 1, 2, 3, 12.
+ */
+uint64_t wospinzo_open_moves(const uint8_t *table, size_t table_len, uint16_t thread,
+                             uint8_t *out, size_t out_len);
+
+/*
+ * Judges a history, byte pairs of thread and event, against a plain
+ * readers-writer lock: each thread goes round 1, 2, 3, 4 or 5, 6, 7, 8; event
+ * 2 needs nobody in exclusive, event 6 nobody in either section.
+ * Answers the number of events. Writes nothing.
+ * Refusals: 1, 8, and for the first bad pair 9, 10 or 11 with its index as
+ * place.
+ */
+uint64_t wospinzo_check(uint16_t threads, const uint8_t *history, size_t history_len);
+
+/*
+ * Writes a plan for a history: byte triples, thread, move and target, which as
+ * requests to wospinzo_move from a fresh table are all accepted and show
+ * exactly that history. Events 1, 4, 5 and 8 take one move, 2 takes three, 3
+ * two, 6 takes 2N + 2 and 7 takes N + 2.
+ * Answers the number of moves; three times as many bytes are written.
+ * Refusals: those of wospinzo_check, then 12.
+ */
+uint64_t wospinzo_plan(uint16_t threads, const uint8_t *history, size_t history_len,
+                       uint8_t *out, size_t out_len);
+
+/*
+ * Runs a script on a fresh table of its own and writes what it prints: a line
+ * for each event, then `(steps K)`, or `(refused R L)` at the first line L
+ * that is turned down. Such a line is an answer of the run, no refusal of it.
+ * Answers the number of bytes written; WOSPINZO_RUN_ROOM always suffices.
+ * Refusals: 8 for a script above WOSPINZO_MAX_SCRIPT bytes, 12.
+ */
+uint64_t wospinzo_run(const uint8_t *script, size_t script_len, uint8_t *out, size_t out_len);
+
+#ifdef __cplusplus
+}
+#endif
+
+#endif

@@ -1,0 +1,321 @@
+//! A readers-writer lock kept in a table of bytes, one step a call.
+//!
+//! The lock serves N threads, 1 to 200, which may be the tasks of a cooperative
+//! executive. It is one table of [`table_size`] bytes that the caller owns.
+//! [`fresh`] fills it, and from then on each step of a thread through the lock
+//! is one call of [`make_move`]. Nothing waits inside a call: a thread that
+//! can't go on yet is told so, or takes a step back, and is given its next
+//! move later.
+//!
+//! ```
+//! use wospinzo::{fresh, make_move, table_size, Event, Move, Outcome, Refusal};
+//!
+//! # fn main() -> Result<(), Refusal> {
+//! const THREADS: u16 = 2;
+//! let mut table = [0; table_size(THREADS)];
+//! fresh(THREADS, &mut table)?;
+//!
+//! // Thread 0 reads.
+//! make_move(&mut table, 0, Move::CallShared)?;
+//! make_move(&mut table, 0, Move::Go)?;
+//! make_move(&mut table, 0, Move::Go)?;
+//! let entered = make_move(&mut table, 0, Move::Go)?;
+//! assert_eq!(entered, Outcome::Shown(Event::EnterSharedReturn));
+//!
+//! // Thread 1 wants to write. It takes the mutex and sets thread 0's flag,
+//! // finds it busy, and takes the flag back.
+//! make_move(&mut table, 1, Move::CallExclusive)?;
+//! make_move(&mut table, 1, Move::Go)?;
+//! make_move(&mut table, 1, Move::Set(0))?;
+//! make_move(&mut table, 1, Move::Go)?;
+//! make_move(&mut table, 1, Move::Go)?;
+//!
+//! // Thread 0 is done reading.
+//! for _ in 0..3 {
+//!     make_move(&mut table, 0, Move::Go)?;
+//! }
+//!
+//! // Now thread 1 sets every flag, its own too, and is in.
+//! for thread in 0..THREADS {
+//!     make_move(&mut table, 1, Move::Set(thread))?;
+//!     make_move(&mut table, 1, Move::Go)?;
+//! }
+//! let entered = make_move(&mut table, 1, Move::Go)?;
+//! assert_eq!(entered, Outcome::Shown(Event::EnterExclusiveReturn));
+//!
+//! // A move that a thread doesn't have changes nothing.
+//! let before = table;
+//! assert_eq!(make_move(&mut table, 1, Move::Relent), Err(Refusal::NotInPhase));
+//! assert_eq!(table, before);
+//! # Ok(())
+//! # }
+//! ```
+//!
+//! # Functions
+//!
+//! | function | what it does | refusals |
+//! |---|---|---|
+//! | [`fresh`] | writes a fresh table | 1, 12 |
+//! | [`make_move`] | makes one move | 1 to 7 |
+//! | [`nodes`] | where every thread is | 1, 2, 12 |
+//! | [`open_moves`] | the moves that a thread has now | 1, 2, 3, 12 |
+//! | [`check`] | judges a history of events | 1, 8 to 11 |
+//! | [`plan`] | moves that show a given history | 1, 8 to 12 |
+//! | [`run`] | runs a script | 8, 12 |
+//!
+//! A refused request leaves every lent byte as it was. An accepted one fills
+//! exactly its output from the front and leaves the bytes after it.
+//!
+//! # The table
+//!
+//! Byte 0 is N, byte 1 the mutex (0 or 1), byte 2 the target of the thread that
+//! holds the mutex, 255 for none. Then come three bytes a thread: its phase (0
+//! to 17, see [`Node`]), its busy flag and its forbidden flag. Every function
+//! that takes a table tests it first; one that moves could not have left is
+//! turned down as [`Refusal::Unsound`].
+//!
+//! # Linking
+//!
+//! The functions are in the archive `libwospinzo.a`. The build looks for it in
+//! the folder that the environment variable `WOSPINZO_LIB_DIR` names, else in
+//! `target/staticlib` of the repository. The features `history` ([`check`],
+//! [`plan`]) and `script` ([`run`]) are on by default.
+//!
+//! No function panics, as long as the archive is the one described here.
+
+#![no_std]
+#![warn(missing_docs)]
+
+mod codes;
+pub mod raw;
+
+pub use codes::{Event, Move, Node, Outcome, Refusal, Rejected};
+
+/// The largest number of threads.
+pub const MAX_THREADS: u16 = 200;
+/// The bytes of the largest table.
+pub const MAX_TABLE_SIZE: usize = table_size(MAX_THREADS);
+/// The target byte of a table that has no target.
+pub const NO_TARGET: u8 = 255;
+/// The longest history, in bytes.
+pub const MAX_HISTORY: usize = 60_000;
+/// The longest script, in bytes.
+pub const MAX_SCRIPT: usize = 30_000;
+/// Bytes in which the output of every run fits.
+pub const RUN_ROOM: usize = 65_536;
+
+/// The bytes of a table for so many threads.
+pub const fn table_size(threads: u16) -> usize {
+    3 + 3 * threads as usize
+}
+
+/// Bytes in which a thread's open moves always fit, for so many threads.
+pub const fn open_moves_room(threads: u16) -> usize {
+    4 * threads as usize
+}
+
+/// The number answered, or the refusal with its place.
+fn counted(answer: u64) -> Result<usize, Rejected> {
+    let value = raw::value(answer) as usize;
+    if raw::refusal(answer) == 0 {
+        return Ok(value);
+    }
+    match Refusal::from_number(raw::refusal(answer)) {
+        Some(refusal) => Err(Rejected {
+            refusal,
+            place: value,
+        }),
+        None => panic!("the archive gave an unknown refusal"),
+    }
+}
+
+/// The same for an entry whose refusals all have place 0.
+fn placeless(answer: u64) -> Result<usize, Refusal> {
+    counted(answer).map_err(|rejected| rejected.refusal)
+}
+
+/// Writes the fresh table for so many threads: all free, the mutex 0, no
+/// target. Answers the number of bytes written, [`table_size`].
+///
+/// # Errors
+///
+/// [`Refusal::BadSize`], [`Refusal::NoRoom`].
+///
+/// ```
+/// let mut table = [9; 7];
+/// assert_eq!(wospinzo::fresh(1, &mut table), Ok(6));
+/// assert_eq!(table, [1, 0, 255, 0, 0, 0, 9]);
+/// assert_eq!(wospinzo::fresh(2, &mut table), Err(wospinzo::Refusal::NoRoom));
+/// ```
+pub fn fresh(threads: u16, out: &mut [u8]) -> Result<usize, Refusal> {
+    // SAFETY: pointer and length are those of one slice that is lent here.
+    placeless(unsafe { raw::wospinzo_fresh(threads, out.as_mut_ptr(), out.len()) })
+}
+
+/// Tests the table and the request, then makes one move of one thread. The
+/// table is sound after every accepted move.
+///
+/// # Errors
+///
+/// [`Refusal::BadSize`] to [`Refusal::MutexHeld`], in the order of their
+/// numbers. The table is then unchanged.
+///
+/// ```
+/// use wospinzo::{make_move, Event, Move, Outcome};
+///
+/// let mut table = [1, 0, 255, 0, 0, 0];
+/// let outcome = make_move(&mut table, 0, Move::CallExclusive);
+/// assert_eq!(outcome, Ok(Outcome::Shown(Event::EnterExclusiveCall)));
+/// assert_eq!(table, [1, 0, 255, 9, 0, 0]);
+/// ```
+pub fn make_move(table: &mut [u8], thread: u16, mov: Move) -> Result<Outcome, Refusal> {
+    let (number, target) = mov.numbers();
+    // SAFETY: pointer and length are those of one slice that is lent here.
+    let answer =
+        unsafe { raw::wospinzo_move(table.as_mut_ptr(), table.len(), thread, number, target) };
+    match placeless(answer)? {
+        0 => Ok(Outcome::Quiet),
+        code => match Event::from_code(code as u8) {
+            Some(event) => Ok(Outcome::Shown(event)),
+            None => panic!("the archive gave an unknown event"),
+        },
+    }
+}
+
+/// Writes the code of each thread's node, one byte a thread; see
+/// [`Node::from_code`]. Answers the number of bytes written, that of threads.
+///
+/// # Errors
+///
+/// [`Refusal::BadSize`], [`Refusal::Unsound`], [`Refusal::NoRoom`].
+///
+/// ```
+/// use wospinzo::{nodes, Node};
+///
+/// let mut out = [0; 2];
+/// assert_eq!(nodes(&[2, 1, 255, 6, 1, 0, 10, 0, 0], &mut out), Ok(2));
+/// assert_eq!(out.map(Node::from_code), [Some(Node::Shared), Some(Node::Saf)]);
+/// ```
+pub fn nodes(table: &[u8], out: &mut [u8]) -> Result<usize, Refusal> {
+    // SAFETY: each pointer and length are those of one slice; one is only
+    // read, the other is lent, so that they do not overlap.
+    placeless(unsafe {
+        raw::wospinzo_nodes(table.as_ptr(), table.len(), out.as_mut_ptr(), out.len())
+    })
+}
+
+/// Writes a thread's open moves as byte pairs, move then target, by move and
+/// then by target: exactly those that [`make_move`] would accept now. Answers
+/// the number of bytes written; [`open_moves_room`] always suffices.
+///
+/// # Errors
+///
+/// [`Refusal::BadSize`], [`Refusal::Unsound`], [`Refusal::NoThread`],
+/// [`Refusal::NoRoom`].
+///
+/// ```
+/// use wospinzo::{open_moves, open_moves_room, Move};
+///
+/// let table = [2, 1, 255, 6, 1, 0, 10, 0, 0];
+/// let mut out = [0; open_moves_room(2)];
+/// let size = open_moves(&table, 1, &mut out)?;
+/// let mut moves = out[..size]
+///     .chunks_exact(2)
+///     .map(|pair| Move::from_numbers(pair[0].into(), pair[1].into()));
+/// assert_eq!(moves.next(), Some(Some(Move::Set(0))));
+/// assert_eq!(moves.next(), Some(Some(Move::Set(1))));
+/// assert_eq!(moves.next(), None);
+/// # Ok::<(), wospinzo::Refusal>(())
+/// ```
+pub fn open_moves(table: &[u8], thread: u16, out: &mut [u8]) -> Result<usize, Refusal> {
+    // SAFETY: as in `nodes`.
+    placeless(unsafe {
+        raw::wospinzo_open_moves(
+            table.as_ptr(),
+            table.len(),
+            thread,
+            out.as_mut_ptr(),
+            out.len(),
+        )
+    })
+}
+
+/// Judges a history, byte pairs of thread and event code, against a plain
+/// readers-writer lock. Answers the number of events.
+///
+/// Each thread goes round events 1, 2, 3, 4 or 5, 6, 7, 8. Event 2 needs nobody
+/// in exclusive, event 6 nobody in either section.
+///
+/// # Errors
+///
+/// [`Refusal::BadSize`], [`Refusal::BadForm`], and for the first bad pair, with
+/// its index, [`Refusal::UnknownPair`], [`Refusal::NotNext`] or
+/// [`Refusal::Occupied`].
+///
+/// ```
+/// use wospinzo::{check, Refusal, Rejected};
+///
+/// assert_eq!(check(2, &[0, 1, 0, 2, 1, 5, 0, 3, 1, 6]), Ok(5));
+/// let rejected = Rejected { refusal: Refusal::Occupied, place: 3 };
+/// assert_eq!(check(2, &[0, 1, 0, 2, 1, 5, 1, 6]), Err(rejected));
+/// ```
+#[cfg(feature = "history")]
+pub fn check(threads: u16, history: &[u8]) -> Result<usize, Rejected> {
+    // SAFETY: pointer and length are those of one slice that is only read.
+    counted(unsafe { raw::wospinzo_check(threads, history.as_ptr(), history.len()) })
+}
+
+/// Writes a plan for a history: byte triples, thread, move and target, which
+/// from a fresh table [`make_move`] accepts one by one, showing exactly that
+/// history. Answers the number of moves, a third of the bytes written.
+///
+/// Events 1, 4, 5 and 8 take one move, 2 takes three, 3 two, 6 takes 2N + 2
+/// and 7 takes N + 2.
+///
+/// # Errors
+///
+/// Those of [`check`], then [`Refusal::NoRoom`].
+///
+/// ```
+/// let mut out = [0; 15];
+/// assert_eq!(wospinzo::plan(1, &[0, 5, 0, 6], &mut out), Ok(5));
+/// assert_eq!(out, [0, 2, 0, 0, 0, 0, 0, 3, 0, 0, 0, 0, 0, 0, 0]);
+/// ```
+#[cfg(feature = "history")]
+pub fn plan(threads: u16, history: &[u8], out: &mut [u8]) -> Result<usize, Rejected> {
+    // SAFETY: as in `nodes`.
+    counted(unsafe {
+        raw::wospinzo_plan(
+            threads,
+            history.as_ptr(),
+            history.len(),
+            out.as_mut_ptr(),
+            out.len(),
+        )
+    })
+}
+
+/// Runs a script on a fresh table of its own and writes what it prints: a line
+/// for each event, then `(steps K)`, or `(refused R L)` at the first line L
+/// that is turned down. Answers the number of bytes written; [`RUN_ROOM`]
+/// always suffices.
+///
+/// # Errors
+///
+/// [`Refusal::BadForm`] for a script longer than [`MAX_SCRIPT`],
+/// [`Refusal::NoRoom`].
+///
+/// ```
+/// let script = b"(threads 1)\n(note an example)\n(0 (call shared))\n(0 (go))\n";
+/// let mut out = [0; 100];
+/// let size = wospinzo::run(script, &mut out)?;
+/// assert_eq!(&out[..size], b"(event 0 (enter shared call))\n(steps 2)\n");
+/// # Ok::<(), wospinzo::Refusal>(())
+/// ```
+#[cfg(feature = "script")]
+pub fn run(script: &[u8], out: &mut [u8]) -> Result<usize, Refusal> {
+    // SAFETY: as in `nodes`.
+    placeless(unsafe {
+        raw::wospinzo_run(script.as_ptr(), script.len(), out.as_mut_ptr(), out.len())
+    })
+}

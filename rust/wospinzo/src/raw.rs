@@ -1,0 +1,53 @@
+//! The entries as the archive exports them.
+//!
+//! A slice is a pointer, which is never null, and the number of bytes there.
+//! The slices of one call must not overlap. An answer is taken apart by [`refusal`] and [`value`].
+
+extern "C" {
+    /// See [`fresh`](crate::fresh).
+    pub fn wospinzo_fresh(threads: u16, out: *mut u8, out_len: usize) -> u64;
+    /// See [`make_move`](crate::make_move). The value answered is the event's
+    /// code, 0 for a quiet move.
+    pub fn wospinzo_move(
+        table: *mut u8,
+        table_len: usize,
+        thread: u16,
+        mov: u16,
+        target: u16,
+    ) -> u64;
+    /// See [`nodes`](crate::nodes).
+    pub fn wospinzo_nodes(table: *const u8, table_len: usize, out: *mut u8, out_len: usize) -> u64;
+    /// See [`open_moves`](crate::open_moves).
+    pub fn wospinzo_open_moves(
+        table: *const u8,
+        table_len: usize,
+        thread: u16,
+        out: *mut u8,
+        out_len: usize,
+    ) -> u64;
+    /// See [`check`](crate::check).
+    #[cfg(feature = "history")]
+    pub fn wospinzo_check(threads: u16, history: *const u8, history_len: usize) -> u64;
+    /// See [`plan`](crate::plan).
+    #[cfg(feature = "history")]
+    pub fn wospinzo_plan(
+        threads: u16,
+        history: *const u8,
+        history_len: usize,
+        out: *mut u8,
+        out_len: usize,
+    ) -> u64;
+    /// See [`run`](crate::run).
+    #[cfg(feature = "script")]
+    pub fn wospinzo_run(script: *const u8, script_len: usize, out: *mut u8, out_len: usize) -> u64;
+}
+
+/// The number of an answer's refusal, 0 where the request was accepted.
+pub const fn refusal(answer: u64) -> u8 {
+    answer as u8
+}
+
+/// The value of an accepted request, or the place of a refusal.
+pub const fn value(answer: u64) -> u64 {
+    answer >> 8
+}

@@ -1,0 +1,163 @@
+//! Random calls of each entry, valid and damaged, with outputs that are too
+//! short, just long enough and longer.
+
+use crate::histories;
+use crate::model::{self, Answer, MAX_HISTORY, MAX_SCRIPT, RUN_ROOM};
+use crate::part::{Call, Entry};
+use crate::random::Random;
+use crate::scripts;
+use crate::tables;
+
+/// An output for what takes `needed` bytes, mostly long enough.
+fn output(r: &mut Random, needed: usize) -> Vec<u8> {
+    let len = match r.below(10) {
+        0 => 0,
+        1 => needed.saturating_sub(1),
+        2 => r.below(needed + 1),
+        3 => needed + 1,
+        4 => needed + r.below(40),
+        _ => needed,
+    };
+    let mut out = vec![r.byte(); len];
+    let upto = len.min(700);
+    out[len - upto..].copy_from_slice(&r.bytes(upto));
+    out
+}
+
+fn fresh(r: &mut Random) -> Call {
+    let threads = match r.below(8) {
+        0 => r.pick(&[0, 1, 200, 201, 255, 256, 257, 456, 457, 32768, 65535]),
+        1 => r.word() as u16,
+        _ => tables::threads(r) as u16,
+    };
+    let needed = model::table_size(usize::from(threads).min(300));
+    Call::fresh(threads, output(r, needed))
+}
+
+/// A thread's open moves in a table, none where the table has none.
+fn open(table: &[u8], thread: u16) -> Vec<u8> {
+    let mut open = vec![0; 4 * model::MAX_THREADS];
+    match model::open_moves(table, thread, &mut open) {
+        Answer::Done(size) => open.truncate(size),
+        Answer::Refused(..) => open.clear(),
+    }
+    open
+}
+
+/// A thread of the table, the holder of the mutex more often than others.
+fn mover(r: &mut Random, table: &[u8]) -> u16 {
+    let threads = (table.len() / 3).max(2) - 1;
+    let holder = table
+        .iter()
+        .skip(3)
+        .step_by(3)
+        .position(|&phase| (10..=16).contains(&phase));
+    match holder {
+        Some(thread) if r.chance(1, 2) => thread as u16,
+        _ => tables::near(r, threads),
+    }
+}
+
+fn make_move(r: &mut Random) -> Call {
+    let table = tables::any(r);
+    let thread = mover(r, &table);
+    let open = open(&table, thread);
+    if !open.is_empty() && r.chance(1, 2) {
+        let at = 2 * r.below(open.len() / 2);
+        return Call::make_move(table, thread, u16::from(open[at]), u16::from(open[at + 1]));
+    }
+    let mov = tables::near(r, 6);
+    let takes_target = mov == model::SET || mov == model::CLEAR;
+    let target = if takes_target || r.chance(1, 8) {
+        tables::near(r, (table.len() / 3).max(2) - 1)
+    } else {
+        0
+    };
+    Call::make_move(table, thread, mov, target)
+}
+
+fn nodes(r: &mut Random) -> Call {
+    let table = tables::any(r);
+    let needed = (table.len() / 3).max(1) - 1;
+    Call::nodes(table, output(r, needed))
+}
+
+fn open_moves(r: &mut Random) -> Call {
+    let table = tables::any(r);
+    let thread = mover(r, &table);
+    let needed = open(&table, thread).len();
+    Call::open_moves(table, thread, output(r, needed))
+}
+
+/// A number of threads, in range as a rule, and a history for it.
+fn history(r: &mut Random) -> (u16, Vec<u8>) {
+    let threads = tables::threads(r);
+    let pairs = match r.below(400) {
+        0 => MAX_HISTORY / 2,
+        1 => MAX_HISTORY / 2 + 1,
+        2 => r.below(MAX_HISTORY / 2),
+        3..=20 => 0,
+        _ => r.below(60),
+    };
+    let careless = r.chance(1, 4);
+    let mut history = histories::history(r, threads, pairs, careless);
+    if r.chance(1, 3) {
+        history = histories::damaged(r, threads, &history);
+    }
+    let stated = match r.below(16) {
+        0 => r.pick(&[0, 201, 255, 256, 257, 65535]),
+        1 => threads as u16 + 256 * (1 + r.below(255) as u16),
+        2 => (threads as u16).saturating_sub(1),
+        _ => threads as u16,
+    };
+    (stated, history)
+}
+
+fn check(r: &mut Random) -> Call {
+    let (threads, history) = history(r);
+    Call::check(threads, history)
+}
+
+fn plan(r: &mut Random) -> Call {
+    let (threads, history) = history(r);
+    let needed = 3 * histories::plan_moves(usize::from(threads), &history);
+    Call::plan(threads, history, output(r, needed.min(14_000_000)))
+}
+
+fn run(r: &mut Random) -> Call {
+    let mut script = match r.below(400) {
+        0 => scripts::script_of_size(r, MAX_SCRIPT),
+        1 => scripts::script_of_size(r, MAX_SCRIPT + 1),
+        2 => {
+            let size = 200 + r.below(MAX_SCRIPT);
+            scripts::script_of_size(r, size)
+        }
+        3 => vec![],
+        _ => {
+            let lines = r.below(60);
+            scripts::script(r, lines)
+        }
+    };
+    if !script.is_empty() && r.chance(1, 3) {
+        script = scripts::damaged(r, &script);
+    }
+    let mut room = vec![0; RUN_ROOM];
+    let needed = match model::run(&script, &mut room) {
+        Answer::Done(size) => size,
+        Answer::Refused(..) => 14,
+    };
+    Call::run(script, output(r, needed))
+}
+
+/// A random call of an entry.
+pub fn any(r: &mut Random, entry: Entry) -> Call {
+    match entry {
+        Entry::Fresh => fresh(r),
+        Entry::Move => make_move(r),
+        Entry::Nodes => nodes(r),
+        Entry::OpenMoves => open_moves(r),
+        Entry::Check => check(r),
+        Entry::Plan => plan(r),
+        Entry::Run => run(r),
+    }
+}

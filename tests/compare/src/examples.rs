@@ -1,0 +1,148 @@
+//! The marked and other examples of the scope paper, and its bounds.
+
+use crate::comparison::Comparison;
+use crate::histories;
+use crate::model::{self, MAX_HISTORY, MAX_SCRIPT, RUN_ROOM};
+use crate::part::{done, refused, Call};
+use crate::random::Random;
+use crate::scripts;
+
+/// M1 to M12.
+pub fn marked(c: &mut Comparison) {
+    c.expect(
+        "M1",
+        &Call::fresh(1, vec![7; 6]),
+        done(6),
+        &[1, 0, 255, 0, 0, 0],
+    );
+    // name, thread, move, target, event, table after
+    type Step = (&'static str, [u16; 3], u64, [u8; 9]);
+    let steps: [Step; 10] = [
+        ("M2", [1, 2, 0], 5, [2, 0, 255, 0, 0, 0, 9, 0, 0]),
+        ("M3", [1, 0, 0], 0, [2, 1, 255, 0, 0, 0, 10, 0, 0]),
+        ("M4", [1, 3, 0], 0, [2, 1, 0, 0, 0, 1, 11, 0, 0]),
+        ("M5", [1, 0, 0], 0, [2, 1, 255, 0, 0, 1, 10, 0, 0]),
+        ("M6", [1, 3, 1], 0, [2, 1, 1, 0, 0, 1, 11, 0, 1]),
+        ("M6", [1, 0, 0], 0, [2, 1, 255, 0, 0, 1, 13, 0, 1]),
+        ("M7", [1, 0, 0], 6, [2, 1, 255, 0, 0, 1, 14, 0, 1]),
+        ("M8", [0, 1, 0], 1, [2, 1, 255, 1, 0, 1, 14, 0, 1]),
+        ("M8", [0, 0, 0], 0, [2, 1, 255, 2, 1, 1, 14, 0, 1]),
+        ("M8", [0, 0, 0], 0, [2, 1, 255, 3, 1, 1, 14, 0, 1]),
+    ];
+    let mut table = vec![2, 0, 255, 0, 0, 0, 0, 0, 0];
+    for (name, [thread, mov, target], event, after) in steps {
+        c.expect(
+            name,
+            &Call::make_move(table, thread, mov, target),
+            done(event),
+            &after,
+        );
+        table = after.to_vec();
+    }
+    let history = vec![0, 1, 0, 2, 1, 5, 1, 6];
+    c.expect("M9", &Call::check(2, history), refused(11, 3), &[]);
+    let history = vec![0, 1, 0, 2, 1, 5, 0, 3, 1, 6];
+    c.expect("M10", &Call::check(2, history), done(5), &[]);
+    c.expect("M11", &Call::check(2, vec![0, 2]), refused(10, 0), &[]);
+    c.expect("M11", &Call::check(2, vec![]), done(0), &[]);
+    let plan = [0, 2, 0, 0, 0, 0, 0, 3, 0, 0, 0, 0, 0, 0, 0];
+    c.expect(
+        "M12",
+        &Call::plan(1, vec![0, 5, 0, 6], vec![7; 15]),
+        done(5),
+        &plan,
+    );
+}
+
+/// The other examples, and every bound with one more.
+pub fn others(c: &mut Comparison) {
+    let table = vec![2, 1, 255, 0, 0, 0, 0, 0, 0];
+    c.expect(
+        "unsound",
+        &Call::make_move(table.clone(), 0, 1, 0),
+        refused(2, 0),
+        &table,
+    );
+    let table = vec![1, 0, 255, 0, 0];
+    c.expect(
+        "five bytes",
+        &Call::make_move(table.clone(), 0, 1, 0),
+        refused(1, 0),
+        &table,
+    );
+    let mut fresh = vec![0; model::table_size(200)];
+    (fresh[0], fresh[2]) = (200, 255);
+    c.expect(
+        "200 threads",
+        &Call::fresh(200, vec![7; 603]),
+        done(603),
+        &fresh,
+    );
+    c.expect(
+        "201 threads",
+        &Call::fresh(201, vec![7; 700]),
+        refused(1, 0),
+        &[7; 700],
+    );
+    let script = b"(threads 1)\n(0 (call shared))\n(0 (go))\n(0 (go))\n(0 (go))\n";
+    let printed = b"(event 0 (enter shared call))\n(event 0 (enter shared return))\n(steps 4)\n";
+    let call = Call::run(script.to_vec(), vec![7; printed.len()]);
+    c.expect("whole case", &call, done(printed.len() as u64), printed);
+    c.expect(
+        "empty script",
+        &Call::run(vec![], vec![7; 14]),
+        done(14),
+        b"(refused 8 1)\n",
+    );
+    for (depth, printed) in [(16, &b"(steps 0)\n7777"[..]), (17, b"(refused 8 2)\n")] {
+        // The note's own bracket is the first.
+        let note = [b"(".repeat(depth - 1), b")".repeat(depth)].concat();
+        let script = [&b"(threads 1)\n(note "[..], &note, b"\n"].concat();
+        let size = printed.iter().position(|&byte| byte == b'\n').unwrap() as u64 + 1;
+        let call = Call::run(script, vec![b'7'; 14]);
+        c.expect("depth of a note", &call, done(size), printed);
+    }
+    for (byte, printed) in [
+        (31, b"(refused 8 2)\n"),
+        (32, b"(steps 0)\n7777"),
+        (126, b"(steps 0)\n7777"),
+        (127, b"(refused 8 2)\n"),
+    ] {
+        let script = [&b"(threads 1)\n(note "[..], &[byte], b")\n"].concat();
+        let size = printed.iter().position(|&byte| byte == b'\n').unwrap() as u64 + 1;
+        let call = Call::run(script, vec![b'7'; 14]);
+        c.expect("byte of a note", &call, done(size), printed);
+    }
+    lengths(c);
+}
+
+/// The longest history, plan and script.
+fn lengths(c: &mut Comparison) {
+    let round = [0, 1, 0, 2, 0, 3, 0, 4].repeat(MAX_HISTORY / 8 + 1);
+    for size in MAX_HISTORY - 2..=MAX_HISTORY + 2 {
+        let long = size > MAX_HISTORY || size % 2 == 1;
+        let answer = if long {
+            refused(8, 0)
+        } else {
+            done(size as u64 / 2)
+        };
+        c.expect(
+            "length of a history",
+            &Call::check(1, round[..size].to_vec()),
+            answer,
+            &[],
+        );
+    }
+    let full = [199, 5, 199, 6, 199, 7, 199, 8].repeat(MAX_HISTORY / 8);
+    let room = 3 * histories::plan_moves(200, &full);
+    for size in [room - 1, room, room + 1] {
+        c.compare(&Call::plan(200, full.clone(), vec![7; size]));
+    }
+    let mut r = Random::new(1);
+    for size in MAX_SCRIPT - 1..=MAX_SCRIPT + 1 {
+        c.compare(&Call::run(
+            scripts::script_of_size(&mut r, size),
+            vec![7; RUN_ROOM],
+        ));
+    }
+}

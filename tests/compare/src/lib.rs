@@ -1,0 +1,16 @@
+//! What the comparison of the archive with the model is made of.
+
+#[cfg(feature = "archive")]
+pub mod archive;
+pub mod cases;
+pub mod comparison;
+pub mod examples;
+pub mod faults;
+pub mod histories;
+pub mod model;
+pub mod part;
+pub mod random;
+pub mod scripts;
+pub mod sections;
+pub mod tables;
+pub mod vectors;

@@ -1,0 +1,698 @@
+//! Every entry of the part in plain Rust over slices: the table and its moves,
+//! the nodes, the open moves, histories, plans and scripts.
+//!
+//! It shares no code with the part. It makes the same tests in the same order,
+//! and judges a table in one pass over its threads.
+
+/// The largest number of threads.
+pub const MAX_THREADS: usize = 200;
+/// The target byte of a table without a target.
+pub const NO_TARGET: u8 = 255;
+/// The longest history, in bytes.
+pub const MAX_HISTORY: usize = 60_000;
+/// The longest script, in bytes.
+pub const MAX_SCRIPT: usize = 30_000;
+/// A room in which the output of every run fits, in bytes.
+pub const RUN_ROOM: usize = 65_536;
+/// The deepest bracket of a note, the note's own being 1.
+const MAX_DEPTH: usize = 16;
+
+pub const GO: u16 = 0;
+pub const CALL_SHARED: u16 = 1;
+pub const CALL_EXCLUSIVE: u16 = 2;
+pub const SET: u16 = 3;
+pub const CLEAR: u16 = 4;
+pub const RELENT: u16 = 5;
+
+/// The refusals, by their numbers, in checking order.
+#[derive(Clone, Copy, PartialEq, Eq, Debug)]
+pub enum Refusal {
+    BadSize = 1,
+    Unsound = 2,
+    NoThread = 3,
+    NoMove = 4,
+    BadTarget = 5,
+    NotInPhase = 6,
+    MutexHeld = 7,
+    BadForm = 8,
+    UnknownPair = 9,
+    NotNext = 10,
+    Occupied = 11,
+    NoRoom = 12,
+}
+
+/// What a move answers. A shown event is given by its code.
+#[derive(Clone, Copy, PartialEq, Eq, Debug)]
+pub enum Outcome {
+    Shown(u8),
+    Quiet,
+    Refused(Refusal),
+}
+
+/// What every other entry answers: a number, or a refusal and its place.
+#[derive(Clone, Copy, PartialEq, Eq, Debug)]
+pub enum Answer {
+    Done(usize),
+    Refused(Refusal, usize),
+}
+
+fn refused(refusal: Refusal) -> Answer {
+    Answer::Refused(refusal, 0)
+}
+
+/// The number of bytes of a table.
+pub fn table_size(threads: usize) -> usize {
+    3 + 3 * threads
+}
+
+/// Where a thread's phase stands; busy and forbidden follow it.
+fn place_of(thread: usize) -> usize {
+    3 + 3 * thread
+}
+
+// ---------------------------------------------------------------- the table
+
+/// Writes the fresh table of `threads` threads.
+pub fn fresh(threads: u16, out: &mut [u8]) -> Answer {
+    let threads = usize::from(threads);
+    if threads == 0 || threads > MAX_THREADS {
+        return refused(Refusal::BadSize);
+    }
+    let size = table_size(threads);
+    if out.len() < size {
+        return refused(Refusal::NoRoom);
+    }
+    start(threads, &mut out[..size]);
+    Answer::Done(size)
+}
+
+/// Fills a slice of the table's size with the fresh table.
+fn start(threads: usize, table: &mut [u8]) {
+    table.fill(0);
+    table[0] = threads as u8;
+    table[2] = NO_TARGET;
+}
+
+// Fields of a tally, 12 bits each: a count of threads, or a sum of phases.
+const HOLDERS: u32 = 0; // threads in 10 to 16
+const PHASES: u32 = 12; // the sum of their phases
+const UNKNOWN: u32 = 24; // threads in no phase
+const FORBIDDEN: u32 = 36; // threads with forbidden 1
+const BARRED: u32 = 48; // threads with forbidden 1 that are in 5 to 7
+
+fn field(tally: u64, shift: u32) -> usize {
+    (tally >> shift & 0xfff) as usize
+}
+
+/// What a thread adds to the tally, by its phase and its forbidden.
+const ROWS: [[u64; 2]; 256] = {
+    let mut rows = [[0; 2]; 256];
+    let mut phase = 0;
+    while phase < 256 {
+        let mut row = 0;
+        if phase >= 10 && phase <= 16 {
+            row = 1 << HOLDERS | (phase as u64) << PHASES;
+        }
+        if phase > 17 {
+            row = 1 << UNKNOWN;
+        }
+        let inside = phase >= 5 && phase <= 7;
+        rows[phase] = [row, row | 1 << FORBIDDEN | (inside as u64) << BARRED];
+        phase += 1;
+    }
+    rows
+};
+
+/// The busy byte of each phase.
+const BUSY: [u8; 256] = {
+    let mut busy = [0; 256];
+    busy[2] = 1;
+    busy[3] = 1;
+    busy[5] = 1;
+    busy[6] = 1;
+    busy[7] = 1;
+    busy
+};
+
+/// What the test of a table finds out for the move.
+#[derive(Clone, Copy)]
+struct Survey {
+    threads: usize,
+    /// How many threads have forbidden 1.
+    forbidden: usize,
+}
+
+/// Refusals 1 and 2: the table's size, then its soundness.
+fn survey(table: &[u8]) -> Result<Survey, Refusal> {
+    let threads = match table.first() {
+        Some(&n) => usize::from(n),
+        None => return Err(Refusal::BadSize),
+    };
+    if threads == 0 || threads > MAX_THREADS || table.len() != table_size(threads) {
+        return Err(Refusal::BadSize);
+    }
+    let mut tally = 0;
+    let mut wrong = 0;
+    for thread in table[3..].chunks_exact(3) {
+        let (phase, busy, forbidden) = (thread[0], thread[1], thread[2]);
+        tally += ROWS[usize::from(phase)][usize::from(forbidden & 1)];
+        wrong |= (busy ^ BUSY[usize::from(phase)]) | (forbidden >> 1);
+    }
+    if wrong != 0 || !agrees(table, threads, tally) {
+        return Err(Refusal::Unsound);
+    }
+    let forbidden = field(tally, FORBIDDEN);
+    Ok(Survey { threads, forbidden })
+}
+
+/// The rules of soundness that speak of more than one thread.
+fn agrees(table: &[u8], threads: usize, tally: u64) -> bool {
+    let holders = field(tally, HOLDERS);
+    if field(tally, UNKNOWN) != 0 || holders > 1 || usize::from(table[1]) != holders {
+        return false;
+    }
+    let holder = field(tally, PHASES);
+    let (forbidden, barred) = (field(tally, FORBIDDEN), field(tally, BARRED));
+    let target = usize::from(table[2]);
+    if holder == 11 || holder == 12 {
+        if target >= threads {
+            return false;
+        }
+        let at = place_of(target);
+        let inside = usize::from(matches!(table[at], 5..=7));
+        return table[at + 2] == 1 && barred == inside;
+    }
+    table[2] == NO_TARGET
+        && match holder {
+            10 => forbidden < threads && barred == 0,
+            13 | 14 => forbidden == threads && barred == 0,
+            15 => forbidden > 0,
+            _ => forbidden == 0,
+        }
+}
+
+// ---------------------------------------------------------------- the moves
+
+/// Tests a request and makes the move.
+pub fn make_move(table: &mut [u8], thread: u16, mov: u16, target: u16) -> Outcome {
+    let Survey {
+        threads,
+        mut forbidden,
+    } = match survey(table) {
+        Ok(found) => found,
+        Err(refusal) => return Outcome::Refused(refusal),
+    };
+    let (thread, target) = (usize::from(thread), usize::from(target));
+    if thread >= threads {
+        return Outcome::Refused(Refusal::NoThread);
+    }
+    if mov > RELENT {
+        return Outcome::Refused(Refusal::NoMove);
+    }
+    let targets = if mov == SET || mov == CLEAR {
+        threads
+    } else {
+        1
+    };
+    if target >= targets {
+        return Outcome::Refused(Refusal::BadTarget);
+    }
+    apply(table, threads, &mut forbidden, thread, mov, target)
+}
+
+/// Makes a move on a sound table for a thread, a move and a target in range.
+/// `forbidden` is the number of threads with forbidden 1, before and after.
+fn apply(
+    table: &mut [u8],
+    threads: usize,
+    forbidden: &mut usize,
+    thread: usize,
+    mov: u16,
+    target: usize,
+) -> Outcome {
+    let at = place_of(thread);
+    let flag = place_of(target) + 2;
+    match (mov, table[at]) {
+        (GO, _) => return go(table, threads, forbidden, at),
+        (CALL_SHARED, 0) => return shown(table, at, 1, 1),
+        (CALL_EXCLUSIVE, 0) => return shown(table, at, 9, 5),
+        (SET, 10) => {
+            *forbidden += usize::from(table[flag] == 0);
+            table[flag] = 1;
+            table[2] = target as u8;
+            table[at] = 11;
+        }
+        (SET, 15) => {
+            *forbidden += usize::from(table[flag] == 0);
+            table[flag] = 1;
+        }
+        (CLEAR, 15) => {
+            *forbidden -= usize::from(table[flag] == 1);
+            table[flag] = 0;
+            if *forbidden == 0 {
+                table[at] = 16;
+            }
+        }
+        (RELENT, 11) => table[at] = 12,
+        _ => return Outcome::Refused(Refusal::NotInPhase),
+    }
+    Outcome::Quiet
+}
+
+fn shown(table: &mut [u8], at: usize, phase: u8, event: u8) -> Outcome {
+    table[at] = phase;
+    Outcome::Shown(event)
+}
+
+/// The move go for the thread whose phase stands at `at`.
+fn go(table: &mut [u8], threads: usize, forbidden: &mut usize, at: usize) -> Outcome {
+    match table[at] {
+        1 => (table[at], table[at + 1]) = (2, 1),
+        2 => table[at] = if table[at + 2] == 0 { 5 } else { 3 },
+        3 => (table[at], table[at + 1]) = (4, 0),
+        4 => table[at] = 1,
+        5 => return shown(table, at, 6, 2),
+        6 => return shown(table, at, 7, 3),
+        7 => (table[at], table[at + 1]) = (8, 0),
+        8 => return shown(table, at, 0, 4),
+        9 if table[1] == 1 => return Outcome::Refused(Refusal::MutexHeld),
+        9 => (table[at], table[1]) = (10, 1),
+        11 if table[place_of(usize::from(table[2])) + 1] == 1 => table[at] = 12,
+        11 => {
+            table[2] = NO_TARGET;
+            table[at] = if *forbidden == threads { 13 } else { 10 };
+        }
+        12 => {
+            table[place_of(usize::from(table[2])) + 2] = 0;
+            table[2] = NO_TARGET;
+            table[at] = 10;
+            *forbidden -= 1;
+        }
+        13 => return shown(table, at, 14, 6),
+        14 => return shown(table, at, 15, 7),
+        16 => (table[at], table[1]) = (17, 0),
+        17 => return shown(table, at, 0, 8),
+        _ => return Outcome::Refused(Refusal::NotInPhase),
+    }
+    Outcome::Quiet
+}
+
+// ---------------------------------------------------- nodes and open moves
+
+/// The node of each phase.
+const NODES: [u8; 18] = [0, 1, 1, 1, 1, 2, 3, 4, 4, 5, 6, 6, 6, 7, 8, 9, 10, 10];
+
+/// Writes the node of every thread.
+pub fn nodes(table: &[u8], out: &mut [u8]) -> Answer {
+    let threads = match survey(table) {
+        Ok(found) => found.threads,
+        Err(refusal) => return refused(refusal),
+    };
+    if out.len() < threads {
+        return refused(Refusal::NoRoom);
+    }
+    for (node, thread) in out.iter_mut().zip(table[3..].chunks_exact(3)) {
+        *node = NODES[usize::from(thread[0])];
+    }
+    Answer::Done(threads)
+}
+
+/// Writes a thread's open moves as pairs of move and target.
+pub fn open_moves(table: &[u8], thread: u16, out: &mut [u8]) -> Answer {
+    let threads = match survey(table) {
+        Ok(found) => found.threads,
+        Err(refusal) => return refused(refusal),
+    };
+    let thread = usize::from(thread);
+    if thread >= threads {
+        return refused(Refusal::NoThread);
+    }
+    let moves: &[u16] = match table[place_of(thread)] {
+        0 => &[CALL_SHARED, CALL_EXCLUSIVE],
+        9 if table[1] == 1 => &[],
+        10 => &[SET],
+        11 => &[GO, RELENT],
+        15 => &[SET, CLEAR],
+        _ => &[GO],
+    };
+    let targets = |mov: u16| {
+        if mov == SET || mov == CLEAR {
+            threads
+        } else {
+            1
+        }
+    };
+    let size = moves.iter().map(|&mov| 2 * targets(mov)).sum();
+    if out.len() < size {
+        return refused(Refusal::NoRoom);
+    }
+    let mut rest = &mut out[..size];
+    for &mov in moves {
+        let (now, later) = rest.split_at_mut(2 * targets(mov));
+        for (target, pair) in now.chunks_exact_mut(2).enumerate() {
+            pair[0] = mov as u8;
+            pair[1] = target as u8;
+        }
+        rest = later;
+    }
+    Answer::Done(size)
+}
+
+// ------------------------------------------------------------ the plain lock
+
+/// Each thread's last event, 0 before its first and after a 4 or 8, and how
+/// many threads are in shared and in exclusive.
+struct PlainLock {
+    last: [u8; MAX_THREADS],
+    shared: usize,
+    exclusive: usize,
+}
+
+impl PlainLock {
+    fn new() -> PlainLock {
+        PlainLock {
+            last: [0; MAX_THREADS],
+            shared: 0,
+            exclusive: 0,
+        }
+    }
+
+    /// Takes one pair, or says why it is turned down.
+    fn take(&mut self, threads: usize, thread: u8, event: u8) -> Result<(), Refusal> {
+        let thread = usize::from(thread);
+        if event == 0 || event > 8 || thread >= threads {
+            return Err(Refusal::UnknownPair);
+        }
+        let last = self.last[thread];
+        let next = event == last + 1 || (last == 0 && event == 5);
+        if !next {
+            return Err(Refusal::NotNext);
+        }
+        match event {
+            2 if self.exclusive > 0 => return Err(Refusal::Occupied),
+            2 => self.shared += 1,
+            3 => self.shared -= 1,
+            6 if self.exclusive + self.shared > 0 => return Err(Refusal::Occupied),
+            6 => self.exclusive += 1,
+            7 => self.exclusive -= 1,
+            _ => (),
+        }
+        self.last[thread] = if event == 4 || event == 8 { 0 } else { event };
+        Ok(())
+    }
+}
+
+/// Judges a history by the plain lock's rules.
+pub fn check(threads: u16, history: &[u8]) -> Answer {
+    let threads = usize::from(threads);
+    if threads == 0 || threads > MAX_THREADS {
+        return refused(Refusal::BadSize);
+    }
+    if history.len() % 2 == 1 || history.len() > MAX_HISTORY {
+        return refused(Refusal::BadForm);
+    }
+    let mut lock = PlainLock::new();
+    for (place, pair) in history.chunks_exact(2).enumerate() {
+        if let Err(refusal) = lock.take(threads, pair[0], pair[1]) {
+            return Answer::Refused(refusal, place);
+        }
+    }
+    Answer::Done(history.len() / 2)
+}
+
+/// Writes the plan of a history as triples of thread, move and target.
+pub fn plan(threads: u16, history: &[u8], out: &mut [u8]) -> Answer {
+    let checked = check(threads, history);
+    let Answer::Done(_) = checked else {
+        return checked;
+    };
+    let threads = usize::from(threads);
+    let lengths = [0, 1, 3, 2, 1, 1, 2 * threads + 2, threads + 2, 1];
+    let moves = history
+        .chunks_exact(2)
+        .map(|pair| lengths[usize::from(pair[1])])
+        .sum::<usize>();
+    if out.len() < 3 * moves {
+        return refused(Refusal::NoRoom);
+    }
+    let mut rest = &mut out[..3 * moves];
+    for pair in history.chunks_exact(2) {
+        let (now, later) = rest.split_at_mut(3 * lengths[usize::from(pair[1])]);
+        plan_event(pair[0], pair[1], now);
+        rest = later;
+    }
+    Answer::Done(moves)
+}
+
+/// Fills `out`, which has the plan's length, with the plan of one event.
+fn plan_event(thread: u8, event: u8, out: &mut [u8]) {
+    let triple = |mov: u16, target: usize| [thread, mov as u8, target as u8];
+    let last = out.len() - 3;
+    match event {
+        1 => out.copy_from_slice(&triple(CALL_SHARED, 0)),
+        5 => out.copy_from_slice(&triple(CALL_EXCLUSIVE, 0)),
+        _ => {
+            out[..3].copy_from_slice(&triple(GO, 0));
+            out[last..].copy_from_slice(&triple(GO, 0));
+        }
+    }
+    if out.len() <= 6 {
+        return;
+    }
+    let middle = &mut out[3..last];
+    match event {
+        6 => {
+            for (target, pair) in middle.chunks_exact_mut(6).enumerate() {
+                pair[..3].copy_from_slice(&triple(SET, target));
+                pair[3..].copy_from_slice(&triple(GO, 0));
+            }
+        }
+        7 => {
+            for (target, one) in middle.chunks_exact_mut(3).enumerate() {
+                one.copy_from_slice(&triple(CLEAR, target));
+            }
+        }
+        _ => middle.copy_from_slice(&triple(GO, 0)),
+    }
+}
+
+// ---------------------------------------------------------------- the script
+
+/// The form of a line after the first.
+enum Form {
+    Move {
+        thread: usize,
+        mov: u16,
+        target: usize,
+    },
+    Note,
+}
+
+/// Takes a number of one to three digits without leading zeros.
+fn number(text: &[u8]) -> Option<(usize, &[u8])> {
+    let digits = text.iter().take_while(|byte| byte.is_ascii_digit()).count();
+    if digits == 0 || digits > 3 || (digits > 1 && text[0] == b'0') {
+        return None;
+    }
+    let (front, rest) = text.split_at(digits);
+    let value = front
+        .iter()
+        .fold(0, |sum, digit| 10 * sum + usize::from(digit - b'0'));
+    Some((value, rest))
+}
+
+/// Reads `(threads N)`.
+fn threads_line(line: &[u8]) -> Option<usize> {
+    let (threads, rest) = number(line.strip_prefix(b"(threads ")?)?;
+    (rest == b")").then_some(threads)
+}
+
+/// Reads a line that is a move or a note.
+fn form(line: &[u8]) -> Option<Form> {
+    if let Some(text) = line.strip_prefix(b"(note ") {
+        return note_ends(text).then_some(Form::Note);
+    }
+    let (thread, rest) = number(line.strip_prefix(b"(")?)?;
+    let words = rest.strip_prefix(b" (")?.strip_suffix(b"))")?;
+    let (mov, target) = match words {
+        b"go" => (GO, 0),
+        b"call shared" => (CALL_SHARED, 0),
+        b"call exclusive" => (CALL_EXCLUSIVE, 0),
+        b"relent" => (RELENT, 0),
+        _ => with_target(words)?,
+    };
+    Some(Form::Move {
+        thread,
+        mov,
+        target,
+    })
+}
+
+/// Reads `set K` or `clear K`.
+fn with_target(words: &[u8]) -> Option<(u16, usize)> {
+    let (mov, digits) = match words.strip_prefix(b"set ") {
+        Some(digits) => (SET, digits),
+        None => (CLEAR, words.strip_prefix(b"clear ")?),
+    };
+    let (target, rest) = number(digits)?;
+    rest.is_empty().then_some((mov, target))
+}
+
+/// Whether a note's text, with the bracket that closes the note, is in order.
+fn note_ends(text: &[u8]) -> bool {
+    let mut depth = 1;
+    for &byte in text {
+        if depth == 0 || !(32..=126).contains(&byte) {
+            return false;
+        }
+        match byte {
+            b'(' if depth == MAX_DEPTH => return false,
+            b'(' => depth += 1,
+            b')' => depth -= 1,
+            _ => (),
+        }
+    }
+    depth == 0
+}
+
+const EVENT_NAMES: [&[u8]; 8] = [
+    b"enter shared call",
+    b"enter shared return",
+    b"leave shared call",
+    b"leave shared return",
+    b"enter exclusive call",
+    b"enter exclusive return",
+    b"leave exclusive call",
+    b"leave exclusive return",
+];
+
+/// What a run has printed so far.
+struct Printer {
+    bytes: [u8; RUN_ROOM],
+    len: usize,
+}
+
+impl Printer {
+    fn text(&mut self, text: &[u8]) {
+        self.bytes[self.len..self.len + text.len()].copy_from_slice(text);
+        self.len += text.len();
+    }
+
+    fn number(&mut self, value: usize) {
+        let mut digits = [0; 20];
+        let mut first = digits.len();
+        let mut rest = value;
+        loop {
+            first -= 1;
+            digits[first] = b'0' + (rest % 10) as u8;
+            rest /= 10;
+            if rest == 0 {
+                break;
+            }
+        }
+        self.text(&digits[first..]);
+    }
+
+    fn event(&mut self, thread: usize, event: u8) {
+        self.text(b"(event ");
+        self.number(thread);
+        self.text(b" (");
+        self.text(EVENT_NAMES[usize::from(event) - 1]);
+        self.text(b"))\n");
+    }
+
+    fn steps(&mut self, steps: usize) {
+        self.text(b"(steps ");
+        self.number(steps);
+        self.text(b")\n");
+    }
+
+    fn refused(&mut self, refusal: Refusal, line: usize) {
+        self.text(b"(refused ");
+        self.number(refusal as usize);
+        self.text(b" ");
+        self.number(line);
+        self.text(b")\n");
+    }
+}
+
+/// Runs a script and writes what it prints.
+pub fn run(script: &[u8], out: &mut [u8]) -> Answer {
+    if script.len() > MAX_SCRIPT {
+        return refused(Refusal::BadForm);
+    }
+    let mut printer = Printer {
+        bytes: [0; RUN_ROOM],
+        len: 0,
+    };
+    run_lines(script, &mut printer);
+    let printed = &printer.bytes[..printer.len];
+    if out.len() < printed.len() {
+        return refused(Refusal::NoRoom);
+    }
+    out[..printed.len()].copy_from_slice(printed);
+    Answer::Done(printed.len())
+}
+
+/// Takes the first line off a script, without its line feed. A line that lacks
+/// its line feed, or isn't there, is none.
+fn split_line(script: &[u8]) -> Option<(&[u8], &[u8])> {
+    let end = script.iter().position(|&byte| byte == b'\n')?;
+    Some((&script[..end], &script[end + 1..]))
+}
+
+fn run_lines(script: &[u8], printer: &mut Printer) {
+    let first = split_line(script).and_then(|(line, rest)| Some((threads_line(line)?, rest)));
+    let Some((threads, mut rest)) = first else {
+        return printer.refused(Refusal::BadForm, 1);
+    };
+    if threads == 0 || threads > MAX_THREADS {
+        return printer.refused(Refusal::BadSize, 1);
+    }
+    let mut bytes = [0; 3 + 3 * MAX_THREADS];
+    let table = &mut bytes[..table_size(threads)];
+    start(threads, table);
+    let (mut forbidden, mut steps, mut place) = (0, 0, 1);
+    while !rest.is_empty() {
+        place += 1;
+        let Some((line, later)) = split_line(rest) else {
+            return printer.refused(Refusal::BadForm, place);
+        };
+        match run_line(line, table, threads, &mut forbidden) {
+            Ok(None) => (),
+            Ok(Some((_, Outcome::Quiet))) => steps += 1,
+            Ok(Some((thread, Outcome::Shown(event)))) => {
+                steps += 1;
+                printer.event(thread, event);
+            }
+            Ok(Some((_, Outcome::Refused(refusal)))) | Err(refusal) => {
+                return printer.refused(refusal, place);
+            }
+        }
+        rest = later;
+    }
+    printer.steps(steps);
+}
+
+/// Reads a line and makes its move: the mover and the outcome, none for a note.
+fn run_line(
+    line: &[u8],
+    table: &mut [u8],
+    threads: usize,
+    forbidden: &mut usize,
+) -> Result<Option<(usize, Outcome)>, Refusal> {
+    match form(line) {
+        None => Err(Refusal::BadForm),
+        Some(Form::Note) => Ok(None),
+        Some(Form::Move { thread, .. }) if thread >= threads => Err(Refusal::NoThread),
+        Some(Form::Move { target, .. }) if target >= threads => Err(Refusal::BadTarget),
+        Some(Form::Move {
+            thread,
+            mov,
+            target,
+        }) => Ok(Some((
+            thread,
+            apply(table, threads, forbidden, thread, mov, target),
+        ))),
+    }
+}

@@ -1,0 +1,296 @@
+//! The entries of the part, as the archive exports them, and the calls that
+//! are made of them.
+//!
+//! An answer's low byte is the refusal's number, 0 where accepted. The rest is
+//! the refusal's place, or the number answered: a count, or for the move the
+//! event's code, 0 for quiet.
+
+use crate::model::{self, Answer, Outcome};
+
+/// The entries of the part. Those that an archive lacks keep the default.
+pub trait Part {
+    fn fresh(&self, threads: u16, out: &mut [u8]) -> u64;
+    fn make_move(&self, table: &mut [u8], thread: u16, mov: u16, target: u16) -> u64;
+    fn nodes(&self, table: &[u8], out: &mut [u8]) -> u64;
+    fn open_moves(&self, table: &[u8], thread: u16, out: &mut [u8]) -> u64;
+    fn check(&self, _threads: u16, _history: &[u8]) -> u64 {
+        panic!("the part has no check")
+    }
+    fn plan(&self, _threads: u16, _history: &[u8], _out: &mut [u8]) -> u64 {
+        panic!("the part has no plan")
+    }
+    fn run(&self, _script: &[u8], _out: &mut [u8]) -> u64 {
+        panic!("the part has no run")
+    }
+}
+
+pub fn done(value: u64) -> u64 {
+    value << 8
+}
+
+pub fn refused(number: u64, place: u64) -> u64 {
+    place << 8 | number
+}
+
+/// The refusal's number, 0 where accepted.
+pub fn number_of(answer: u64) -> u8 {
+    answer as u8
+}
+
+pub fn value_of(answer: u64) -> u64 {
+    answer >> 8
+}
+
+/// The model as a part.
+pub struct Model;
+
+fn encoded(answer: Answer) -> u64 {
+    match answer {
+        Answer::Done(value) => done(value as u64),
+        Answer::Refused(refusal, place) => refused(refusal as u64, place as u64),
+    }
+}
+
+impl Part for Model {
+    fn fresh(&self, threads: u16, out: &mut [u8]) -> u64 {
+        encoded(model::fresh(threads, out))
+    }
+    fn make_move(&self, table: &mut [u8], thread: u16, mov: u16, target: u16) -> u64 {
+        match model::make_move(table, thread, mov, target) {
+            Outcome::Shown(event) => done(u64::from(event)),
+            Outcome::Quiet => done(0),
+            Outcome::Refused(refusal) => refused(refusal as u64, 0),
+        }
+    }
+    fn nodes(&self, table: &[u8], out: &mut [u8]) -> u64 {
+        encoded(model::nodes(table, out))
+    }
+    fn open_moves(&self, table: &[u8], thread: u16, out: &mut [u8]) -> u64 {
+        encoded(model::open_moves(table, thread, out))
+    }
+    fn check(&self, threads: u16, history: &[u8]) -> u64 {
+        encoded(model::check(threads, history))
+    }
+    fn plan(&self, threads: u16, history: &[u8], out: &mut [u8]) -> u64 {
+        encoded(model::plan(threads, history, out))
+    }
+    fn run(&self, script: &[u8], out: &mut [u8]) -> u64 {
+        encoded(model::run(script, out))
+    }
+}
+
+#[derive(Clone, Copy, PartialEq, Eq, PartialOrd, Ord, Debug)]
+pub enum Entry {
+    Fresh,
+    Move,
+    Nodes,
+    OpenMoves,
+    Check,
+    Plan,
+    Run,
+}
+
+pub const ENTRIES: [Entry; 7] = [
+    Entry::Fresh,
+    Entry::Move,
+    Entry::Nodes,
+    Entry::OpenMoves,
+    Entry::Check,
+    Entry::Plan,
+    Entry::Run,
+];
+
+impl Entry {
+    pub fn name(self) -> &'static str {
+        [
+            "fresh",
+            "move",
+            "nodes",
+            "open_moves",
+            "check",
+            "plan",
+            "run",
+        ][self as usize]
+    }
+
+    /// The refusals that the entry can give.
+    pub fn refusals(self) -> &'static [u8] {
+        match self {
+            Entry::Fresh => &[1, 12],
+            Entry::Move => &[1, 2, 3, 4, 5, 6, 7],
+            Entry::Nodes => &[1, 2, 12],
+            Entry::OpenMoves => &[1, 2, 3, 12],
+            Entry::Check => &[1, 8, 9, 10, 11],
+            Entry::Plan => &[1, 8, 9, 10, 11, 12],
+            Entry::Run => &[8, 12],
+        }
+    }
+}
+
+/// One call: the entry, its numbers (0 where it has fewer), what is read and
+/// what may be written. The move's table stands in `lent`; the check lends
+/// nothing.
+#[derive(Clone, Debug)]
+pub struct Call {
+    pub entry: Entry,
+    pub numbers: [u16; 3],
+    pub read: Vec<u8>,
+    pub lent: Vec<u8>,
+}
+
+impl Call {
+    pub fn fresh(threads: u16, out: Vec<u8>) -> Call {
+        Call {
+            entry: Entry::Fresh,
+            numbers: [threads, 0, 0],
+            read: vec![],
+            lent: out,
+        }
+    }
+    pub fn make_move(table: Vec<u8>, thread: u16, mov: u16, target: u16) -> Call {
+        Call {
+            entry: Entry::Move,
+            numbers: [thread, mov, target],
+            read: vec![],
+            lent: table,
+        }
+    }
+    pub fn nodes(table: Vec<u8>, out: Vec<u8>) -> Call {
+        Call {
+            entry: Entry::Nodes,
+            numbers: [0; 3],
+            read: table,
+            lent: out,
+        }
+    }
+    pub fn open_moves(table: Vec<u8>, thread: u16, out: Vec<u8>) -> Call {
+        Call {
+            entry: Entry::OpenMoves,
+            numbers: [thread, 0, 0],
+            read: table,
+            lent: out,
+        }
+    }
+    pub fn check(threads: u16, history: Vec<u8>) -> Call {
+        Call {
+            entry: Entry::Check,
+            numbers: [threads, 0, 0],
+            read: history,
+            lent: vec![],
+        }
+    }
+    pub fn plan(threads: u16, history: Vec<u8>, out: Vec<u8>) -> Call {
+        Call {
+            entry: Entry::Plan,
+            numbers: [threads, 0, 0],
+            read: history,
+            lent: out,
+        }
+    }
+    pub fn run(script: Vec<u8>, out: Vec<u8>) -> Call {
+        Call {
+            entry: Entry::Run,
+            numbers: [0; 3],
+            read: script,
+            lent: out,
+        }
+    }
+
+    /// The call in the words of the vectors' file, its bytes in hexadecimal.
+    pub fn words(&self) -> String {
+        let [first, second, third] = self.numbers;
+        let (read, lent) = (hex(&self.read), hex(&self.lent));
+        let name = self.entry.name();
+        match self.entry {
+            Entry::Fresh => format!("{name} {first} {lent}"),
+            Entry::Move => format!("{name} {lent} {first} {second} {third}"),
+            Entry::Nodes | Entry::Run => format!("{name} {read} {lent}"),
+            Entry::OpenMoves => format!("{name} {read} {first} {lent}"),
+            Entry::Check => format!("{name} {first} {read}"),
+            Entry::Plan => format!("{name} {first} {read} {lent}"),
+        }
+    }
+}
+
+pub fn hex(bytes: &[u8]) -> String {
+    if bytes.is_empty() {
+        return "-".to_string();
+    }
+    bytes.iter().map(|byte| format!("{byte:02x}")).collect()
+}
+
+/// Bytes put before and after each slice handed over. Their number is odd, so
+/// that slices start at odd addresses.
+const GUARD: usize = 33;
+const GUARD_BYTE: u8 = 0xa5;
+
+/// A slice with guard bytes on both sides; its memory is used again.
+#[derive(Default)]
+struct Lent {
+    bytes: Vec<u8>,
+}
+
+impl Lent {
+    fn fill(&mut self, content: &[u8]) -> &mut [u8] {
+        self.bytes.clear();
+        self.bytes.resize(GUARD, GUARD_BYTE);
+        self.bytes.extend_from_slice(content);
+        self.bytes.resize(content.len() + 2 * GUARD, GUARD_BYTE);
+        &mut self.bytes[GUARD..GUARD + content.len()]
+    }
+
+    fn content(&self) -> &[u8] {
+        &self.bytes[GUARD..self.bytes.len() - GUARD]
+    }
+
+    fn guards_kept(&self) -> bool {
+        let (front, rest) = self.bytes.split_at(GUARD);
+        let back = &rest[rest.len() - GUARD..];
+        front.iter().chain(back).all(|&byte| byte == GUARD_BYTE)
+    }
+}
+
+/// Makes calls of a part, each slice between guard bytes.
+pub struct Caller<'a> {
+    part: &'a dyn Part,
+    read: Lent,
+    lent: Lent,
+}
+
+impl<'a> Caller<'a> {
+    pub fn new(part: &'a dyn Part) -> Caller<'a> {
+        Caller {
+            part,
+            read: Lent::default(),
+            lent: Lent::default(),
+        }
+    }
+
+    /// The answer. What was written stands in `lent` until the next call.
+    pub fn call(&mut self, call: &Call) -> u64 {
+        let read = self.read.fill(&call.read);
+        let lent = self.lent.fill(&call.lent);
+        let numbers = call.numbers;
+        match call.entry {
+            Entry::Fresh => self.part.fresh(numbers[0], lent),
+            Entry::Move => self
+                .part
+                .make_move(lent, numbers[0], numbers[1], numbers[2]),
+            Entry::Nodes => self.part.nodes(read, lent),
+            Entry::OpenMoves => self.part.open_moves(read, numbers[0], lent),
+            Entry::Check => self.part.check(numbers[0], read),
+            Entry::Plan => self.part.plan(numbers[0], read, lent),
+            Entry::Run => self.part.run(read, lent),
+        }
+    }
+
+    /// The lent slice after the last call.
+    pub fn lent(&self) -> &[u8] {
+        self.lent.content()
+    }
+
+    /// Whether the last call left alone what it was not lent.
+    pub fn kept_the_rest(&self, call: &Call) -> bool {
+        self.read.content() == call.read && self.read.guards_kept() && self.lent.guards_kept()
+    }
+}
