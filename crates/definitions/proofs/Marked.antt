@@ -3,9 +3,8 @@
 use Prim.Native.Nat.{ℕ}
 use mathlib.Core.Path.{_≡_, refl}
 use mathlib.Core.List.{List, [], _∷_}
-use Rattle.definitions.specs.Bounds.{noTarget}
 use Rattle.definitions.specs.Threads.{every, some, howMany, first, among, allOf, gather}
-use Rattle.definitions.specs.Answers.{Reply, shown, quiet, done, refused, firstRefusal}
+use Rattle.definitions.specs.Answers.{shown, quiet, done, refused, firstRefusal}
 use Rattle.definitions.specs.Table.{sized, fresh, stored}
 use Rattle.definitions.specs.Sound.{sound, phaseRule, flagRule, busyRule, holderRule, mutexRule, targetRule, openRule, rule10, rule11, rule13, rule15}
 use Rattle.definitions.specs.Moves.{Request, goEffect, setEffect, clearEffect, effect, phasesOf, moveRefusal, moveReply, moveTable, go, callShared, callExclusive, setMove}

@@ -2,7 +2,7 @@
 -- "each request gets the table that the one before left, and nothing else writes it": the bytes go from `moveTable`, which the move's promise gives, to the next request.
 -- Assumes nothing.
 use Prim.Native.Nat.{ℕ, _<_, _^_}
-use mathlib.Core.Bool.{Bool, true, false, _&&_}
+use mathlib.Core.Bool.{Bool, true, _&&_}
 use mathlib.Core.List.{List, [], _∷_, _++_}
 use Rattle.definitions.specs.Answers.{Reply, shown, quiet, done, refused}
 use Rattle.definitions.specs.Moves.{Request, accepts, moveReply, moveTable}

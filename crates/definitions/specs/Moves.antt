@@ -7,7 +7,7 @@ use mathlib.Core.List.{List, [], _∷_}
 use lib.Dec.{leb, ltb, eqb}
 use lib.ListN.{getD}
 use Rattle.definitions.specs.Bounds.{lastMove, noTarget}
-use Rattle.definitions.specs.Answers.{Reply, shown, quiet, done, refused, Test, firstRefusal, unlessRefused}
+use Rattle.definitions.specs.Answers.{Reply, refused, Test, firstRefusal, unlessRefused}
 use Rattle.definitions.specs.Threads.{every, among}
 use Rattle.definitions.specs.Table.{Table, tableOf, sized, Write, mutex≔, target≔, phase≔, busy≔, forbidden≔, stored}
 use Rattle.definitions.specs.Sound.{sound}

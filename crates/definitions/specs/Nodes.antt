@@ -7,7 +7,7 @@ use mathlib.Core.Bool.{Bool, false, cond, not, _||_}
 use mathlib.Core.List.{List, [], _∷_, List·Memᴰ}
 use lib.Dec.{T, leb, eqb}
 use lib.ListN.{length, getD, set}
-use Rattle.definitions.specs.Answers.{Reply, shown, quiet, done, refused, Test, firstRefusal, unlessRefused}
+use Rattle.definitions.specs.Answers.{Reply, shown, quiet, done, refused, firstRefusal, unlessRefused}
 use Rattle.definitions.specs.Threads.{listOf, among}
 use Rattle.definitions.specs.Table.{Table, tableOf, sized, filled}
 use Rattle.definitions.specs.Sound.{sound}

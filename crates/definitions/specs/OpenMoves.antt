@@ -1,16 +1,16 @@
 -- The open moves of a thread, and the entries for them and for a fresh table.
 -- Assumes nothing.
 use Prim.Native.Nat.{ℕ, suc}
-use mathlib.Core.Bool.{Bool, cond}
+use mathlib.Core.Bool.{cond}
 use mathlib.Core.List.{List, [], _∷_}
 use lib.Dec.{leb, ltb}
-use lib.ListN.{length, getD}
+use lib.ListN.{length}
 use Rattle.definitions.specs.Bounds.{lastMove}
-use Rattle.definitions.specs.Answers.{Reply, shown, quiet, done, refused, Test, firstRefusal, unlessRefused}
+use Rattle.definitions.specs.Answers.{Reply, done, refused, firstRefusal, unlessRefused}
 use Rattle.definitions.specs.Threads.{gather}
-use Rattle.definitions.specs.Table.{tableOf, sized, countFits, size, fresh, filled}
+use Rattle.definitions.specs.Table.{tableOf, sized, countFits, fresh, filled}
 use Rattle.definitions.specs.Sound.{sound}
-use Rattle.definitions.specs.Moves.{Request, accepts}
+use Rattle.definitions.specs.Moves.{accepts}
 
 -- "Open moves are byte pairs, move then target, by move, then target: exactly those a request would have accepted."
 unfoldable pub openMoves : List ℕ → ℕ → List ℕ

@@ -1,13 +1,13 @@
 -- The plain readers-writer lock: a history, each thread's place in its round, what each event needs, permitted histories, and what the check answers.
 -- A thread's place is its last event's code, 0 before the first and after a 4 or 8. A pair is judged by the pairs before it alone.
 -- Assumes nothing.
-use Prim.Native.Nat.{ℕ, _+_, _*_, _/_, _%_}
+use Prim.Native.Nat.{ℕ, _+_, _%_}
 use mathlib.Core.Bool.{Bool, true, cond, not, _&&_, _||_}
 use mathlib.Core.List.{List, [], _∷_}
 use lib.Dec.{leb, ltb, eqb}
 use lib.ListN.{length, getD, take}
 use Rattle.definitions.specs.Bounds.{firstEvent, lastEvent, mostHistory}
-use Rattle.definitions.specs.Answers.{Reply, shown, quiet, done, refused, Test, firstRefusal, unlessRefused}
+use Rattle.definitions.specs.Answers.{Reply, done, refused, firstRefusal, unlessRefused}
 use Rattle.definitions.specs.Threads.{every, some, first, between}
 use Rattle.definitions.specs.Table.{countFits}
 

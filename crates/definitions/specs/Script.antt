@@ -10,7 +10,7 @@ use mathlib.Core.List.{List, [], _∷_, _++_}
 use lib.Dec.{leb, ltb, eqb}
 use lib.ListN.{length, getD, take, drop}
 use Rattle.definitions.specs.Bounds.{mostScript, mostDepth}
-use Rattle.definitions.specs.Answers.{Reply, shown, quiet, done, refused, Test, firstRefusal, unlessRefused}
+use Rattle.definitions.specs.Answers.{Reply, shown, quiet, done, refused, firstRefusal, unlessRefused}
 use Rattle.definitions.specs.Threads.{every, between}
 use Rattle.definitions.specs.Table.{countFits, fresh, filled}
 use Rattle.definitions.specs.Moves.{Request, go, callShared, callExclusive, setMove, clearMove, relent, moveRefusal, moveReply, moveTable}

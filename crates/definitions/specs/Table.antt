@@ -2,7 +2,7 @@
 -- `tableOf` reads the record off the bytes, and `stored` is the other way: the two are the only places that know where a thread's bytes stand. The rules speak of the record alone.
 -- What makes a table sound stands in Sound, what a phase is in Nodes. Assumes nothing.
 use Prim.Native.Nat.{ℕ, _+_, _*_}
-use mathlib.Core.Bool.{Bool, cond, _&&_}
+use mathlib.Core.Bool.{Bool, _&&_}
 use mathlib.Core.List.{List, [], _∷_, _++_}
 use lib.Dec.{leb, eqb}
 use lib.ListN.{length, getD, set, replicate}

@@ -8,25 +8,15 @@ use mathlib.Core.Path.{_≡_, refl, sym, ap, _∙_, subst⁻¹}
 use mathlib.Core.Logic.{⊎-elim}
 use mathlib.Core.Bool.{Bool, true, false, cond}
 use mathlib.Core.List.{List, [], _∷_, _++_, append-assoc, append-nil}
-use lib.Dec.{eqb}
-use lib.ListN.{length, getD, set, take, drop, length-append, length-drop, drop-of-length-le}
-use lib.Seq.{drop-cons, set-at, append-snoc, take-at, take-all, drop-at, drop-drop}
+use lib.ListN.{length, set, take, drop, length-append, length-drop, drop-of-length-le}
+use lib.Seq.{append-snoc, take-at, drop-at, drop-drop}
 use borrow.Rule.Slice.PartMut.{putMid}
-use Rattle.definitions.specs.Answers.{firstRefusal}
 use Rattle.definitions.specs.Threads.{gather}
 use Rattle.definitions.specs.Table.{filled}
 use Rattle.rules.specs.View.{namesThread}
-use Rattle.rules.specs.Tested.{laterTests}
-use Rattle.listing.specs.Listing.{pairs, openTargets, openPairs}
-
--- one byte more
-put-next : (out w : List ℕ) (n v : ℕ) → length w ≡ n → n < length out → set (filled out w) n v ≡ filled out (w ++ (v ∷ []))
-put-next out w n v e h =
-    let l : length w < length out = omega arith in
-    let long : length (w ++ (v ∷ [])) ≡ suc (length w) = length-append w (v ∷ []) ∙ add-one (length w) in
-    ap (λ (x : List ℕ). set (w ++ x) n v) (drop-cons out (length w) 0 l)
-    ∙ (set-at w (getD out (length w) 0) (drop (suc (length w)) out) v n e
-    ∙ (sym (append-snoc w v (drop (suc (length w)) out)) ∙ ap (λ (k : ℕ). (w ++ (v ∷ [])) ++ drop k out) (sym long)))
+use Rattle.theory.proofs.Lists.{from-on}
+use Rattle.table.proofs.Filled.{filled-length, filled-more}
+use Rattle.listing.specs.Listing.{isOpen, pairs, openTargets, openPairs}
 
 -- a pair more
 pub length-pairs : (m k : ℕ) → length (pairs m k) ≡ 2 * k
@@ -42,8 +32,8 @@ put-pair out o m k e h =
     let long : length (gather k (λ t. m ∷ t ∷ [])) ≡ 2 * k = length-pairs m k in
     let longer : length (gather k (λ t. m ∷ t ∷ []) ++ (m ∷ [])) ≡ 2 * k + 1 = length-append w (m ∷ []) ∙ omega arith in
     ap (λ (l : List ℕ). set (set l (2 * k) m) (2 * k + 1) k) e
-    ∙ (ap (λ (l : List ℕ). set l (2 * k + 1) k) (put-next o w (2 * k) m long (omega arith))
-    ∙ (put-next o (w ++ (m ∷ [])) (2 * k + 1) k longer h
+    ∙ (ap (λ (l : List ℕ). set l (2 * k + 1) k) (filled-more o w (2 * k) m long (omega arith))
+    ∙ (filled-more o (w ++ (m ∷ [])) (2 * k + 1) k longer h
     ∙ (ap (filled o) (append-snoc w m (k ∷ [])) ∙ ap (λ (x : ℕ). filled o (pairs m x)) (sym (add-one k)))))
 
 -- a part more
@@ -93,24 +83,18 @@ some-targets false q n h = omega arith
 
 pub targets-le : (n phase mutex m : ℕ) → n ≤ 200 → openTargets n phase mutex m ≤ 200
 unfolding openTargets
-targets-le n phase mutex m h = some-targets (eqb (firstRefusal (laterTests n phase mutex m 0)) 0) (namesThread m) n h
+targets-le n phase mutex m h = some-targets (isOpen phase mutex m) (namesThread m) n h
 
 -- what is left of an output, lent as a part and given back
-pub left-whole : (out : List ℕ) (at : ℕ) → take (length out - at) (drop at out) ≡ drop at out
-left-whole out at = take-all (length out - at) (drop at out) (omega (arith, length-drop at out))
-
 pub left-length : (out : List ℕ) (at : ℕ) → length (take (length out - at) (drop at out)) ≡ length out - at
-left-length out at = ap length (left-whole out at) ∙ length-drop at out
+left-length out at = ap length (from-on out at) ∙ length-drop at out
 
 pub give-back : (out o w p last : List ℕ) (at : ℕ) → out ≡ filled o w → at ≡ length w
     → last ≡ filled (take (length out - at) (drop at out)) p → putMid at (length out - at) out last ≡ filled o (w ++ p)
 give-back out o w p last at e l f =
     ap (λ (x : List ℕ). take at out ++ (last ++ x)) (drop-of-length-le (drop at out) {i = length out - at} (omega (arith, length-drop at out)))
-    ∙ (ap (λ (x : List ℕ). take at out ++ x) (append-nil last ∙ (f ∙ ap (λ (x : List ℕ). filled x p) (left-whole out at)))
+    ∙ (ap (λ (x : List ℕ). take at out ++ x) (append-nil last ∙ (f ∙ ap (λ (x : List ℕ). filled x p) (from-on out at)))
     ∙ put-part out o w p at e l)
-
-pub length-filled : (o w : List ℕ) → length w ≤ length o → length (filled o w) ≡ length o
-length-filled o w h = length-append w (drop (length w) o) ∙ omega (arith, length-drop (length w) o)
 
 -- the pairs of a move fit behind those before it
 pub open-fits : (n phase mutex k len : ℕ) → k < 6 → length (openPairs n phase mutex 6) ≤ len
@@ -132,7 +116,7 @@ open-turn o out last n phase mutex k at count h room a e t f =
     let long : length (openPairs n phase mutex (k + 1)) ≤ length o = omega (arith, open-up-to n phase mutex (k + 1) 6 (omega arith)) in (
       omega arith,
       (
-        ap length written ∙ length-filled o (openPairs n phase mutex (k + 1)) long,
+        ap length written ∙ filled-length o (openPairs n phase mutex (k + 1)) long,
         (omega (arith, open-length n phase mutex k), written),
       ),
     )

@@ -8,13 +8,13 @@ use mathlib.Core.Bool.{Bool, true, false, cond}
 use mathlib.Core.List.{List}
 use lib.Dec.{leb, eqb}
 use lib.ListN.{length, getD}
-use borrow.Author.Tests.{lt-ltb, le-ltb, le-leb, lt-leb}
+use borrow.Author.Tests.{lt-ltb, le-ltb}
 use Rattle.definitions.specs.Answers.{done, refused, numberOf, firstRefusal}
 use Rattle.definitions.specs.Table.{tableOf, sized, filled}
 use Rattle.definitions.specs.Sound.{sound}
 use Rattle.definitions.specs.OpenMoves.{openMoves, openRefusal, openReply, openOutput}
 use Rattle.definitions.specs.declared.Refusal.{Refusal}
-use Rattle.definitions.specs.declared.Refusal.the-variants.{NoThread, NoRoom}
+use Rattle.definitions.specs.declared.Refusal.the-variants.{NoThread}
 use Rattle.definitions.specs.declared.Answer.{Answer}
 use Rattle.definitions.specs.declared.Answer.the-variants as answer
 use Rattle.table.specs.Examined.{examinedOf}
@@ -22,28 +22,13 @@ use Rattle.table.specs.declared.Examined.the-variants as examined
 use Rattle.theory.proofs.Tests.{T-true}
 use Rattle.table.proofs.Laws.{IsRefused, sound-means, refused-means}
 use Rattle.lock.specs.Carried.{SoundTable}
-use Rattle.listing.specs.Listing.{openPairs, InTable, Listed, OpenListed}
-use Rattle.lock.proofs.Answered.{not-zero}
+use Rattle.theory.specs.Put.{Delivered}
+use Rattle.listing.specs.Listing.{openPairs, InTable, OpenListed}
+use Rattle.theory.proofs.Refusals.{not-zero}
 use Rattle.lock.proofs.Facts.{phase-le}
 use Rattle.listing.proofs.OpenList.{open-list}
 
 -- no room, or room
-pub list-refused : (w out : List ℕ) (k : ℕ) → k ≡ length w → length out < k → Listed w out out (answer.Refused NoRoom 0)
-list-refused w out k e h =
-    let short : leb (length w) (length out) ≡ false = lt-leb (length w) (length out) (subst (λ (x : ℕ). length out < x) e h) in
-    record {
-      reply = sym (ap (λ (b : Bool). cond b (done (length w)) (refused 12 0)) short);
-      output = sym (ap (λ (b : Bool). cond b (filled out w) out) short);
-    }
-
-pub list-done : (w out after : List ℕ) (k : ℕ) → k ≡ length w → k ≤ length out → after ≡ filled out w → Listed w out after (answer.Done k)
-list-done w out after k e h f =
-    let fits : leb (length w) (length out) ≡ true = le-leb (length w) (length out) (subst (λ (x : ℕ). x ≤ length out) e h) in
-    record {
-      reply = ap done e ∙ sym (ap (λ (b : Bool). cond b (done (length w)) (refused 12 0)) fits);
-      output = f ∙ sym (ap (λ (b : Bool). cond b (filled out w) out) fits);
-    }
-
 -- turned down before the list is made
 turned-down : (bytes : List ℕ) (i : ℕ) (out : List ℕ) (x : Refusal) → openRefusal bytes i out ≡ numberOf x → OpenListed bytes i out out (answer.Refused x 0)
 unfolding openReply openOutput
@@ -98,7 +83,7 @@ by-room′ true w out = refl
 by-room′ false w out = refl
 
 listed : (bytes : List ℕ) (i : ℕ) (out after : List ℕ) (a : Answer) → SoundTable bytes → i < getD bytes 0 0
-    → Listed (openMoves bytes i) out after a → OpenListed bytes i out after a
+    → Delivered (openMoves bytes i) out after a → OpenListed bytes i out after a
 unfolding openReply openOutput
 listed bytes i out after a h l d =
     let w = openMoves bytes i in
@@ -110,7 +95,7 @@ listed bytes i out after a h l d =
     }
 
 pub open-listed : (bytes : List ℕ) (i n k phase mutex : ℕ) (out after : List ℕ) (a : Answer) → examinedOf bytes ≡ examined.Sound n k → i < n
-    → phase ≡ tableOf bytes .phase i → mutex ≡ getD bytes 1 0 → Listed (openPairs n phase mutex 6) out after a → OpenListed bytes i out after a
+    → phase ≡ tableOf bytes .phase i → mutex ≡ getD bytes 1 0 → Delivered (openPairs n phase mutex 6) out after a → OpenListed bytes i out after a
 open-listed bytes i n k phase mutex out after a e l p m d =
     let h = sound-means bytes n k e .table in
     let below : i < getD bytes 0 0 = subst (λ (x : ℕ). i < x) (h .threads) l in
@@ -118,7 +103,7 @@ open-listed bytes i n k phase mutex out after a e l p m d =
     ap (λ (x : ℕ). openPairs x phase mutex 6) (h .threads)
     ∙ (ap (λ (x : ℕ). openPairs (getD bytes 0 0) x mutex 6) p
     ∙ (ap (λ (x : ℕ). openPairs (getD bytes 0 0) (tableOf bytes .phase i) x 6) m ∙ sym (open-list bytes i (tested bytes n k e) below))) in
-    listed bytes i out after a (tested bytes n k e) below (subst (λ (w : List ℕ). Listed w out after a) same d)
+    listed bytes i out after a (tested bytes n k e) below (subst (λ (w : List ℕ). Delivered w out after a) same d)
 
 -- the numbers that the list is made from
 pub open-known : (bytes : List ℕ) (i n k phase : ℕ) → examinedOf bytes ≡ examined.Sound n k → i < n → phase ≡ tableOf bytes .phase i → InTable n phase

@@ -1,39 +1,43 @@
 // The open moves of a thread, listed as byte pairs: counted first, then written.
 use definitions::Answer;
 use definitions::Refusal;
-use rules::Tested;
 use table::Examined;
 use table::phase_at;
 ghost use mathlib.Core.Path.{_≡_};
 ghost use Prim.Native.Nat.{_*_, _<_, _≤_};
 ghost use lib.ListN.{length};
+ghost use Rattle.definitions.specs.Bounds.{mostThreads};
 ghost use Rattle.definitions.specs.Table.{filled};
-ghost use Rattle.listing.specs.Listing.{pairs, openTargets, openPairs, InTable, Listed, OpenListed};
+ghost use Rattle.theory.specs.Put.{Delivered};
+ghost use Rattle.rules.specs.Tested.{MovesIn};
+ghost use Rattle.listing.specs.Listing.{pairs, isOpen, openTargets, openPairs, InTable, OpenListed};
 
-// With how many targets, from 0 on, a thread in a phase has a move open.
-fn open_targets(threads: usize, phase: usize, mutex: u8, mv: usize) -> usize
-    requires { ⌜ phase < 18 ⌝ }
-    ensures { λ r. ⌜ r ≡ openTargets threads phase mutex mv ⌝ }
+// Whether a thread in a phase has a move open, given the moves of the phase.
+fn is_open(moves: u8, phase: usize, mutex: u8, mv: usize) -> bool
+    requires { ⌜ MovesIn phase moves × (mv < 6) ⌝ }
+    ensures { λ r. ⌜ r ≡ isOpen phase mutex mv ⌝ }
 {
-    let tested = rules::test(threads, phase, mutex, mv, 0);
-    match tested {
-        Tested::Refused(_) => 0,
-        Tested::Passed => {
-            if rules::names_thread(mv) {
-                return threads;
-            }
-            1
-        }
-    }
+    rules::is_among(moves, mv) & !rules::must_wait(phase, mutex, mv)
 }
 
-fn count_open(threads: usize, phase: usize, mutex: u8) -> usize
-    requires { ⌜ InTable threads phase ⌝ }
+// With how many targets, from 0 on.
+fn open_targets(threads: usize, moves: u8, phase: usize, mutex: u8, mv: usize) -> usize
+    requires { ⌜ MovesIn phase moves × (mv < 6) ⌝ }
+    ensures { λ r. ⌜ r ≡ openTargets threads phase mutex mv ⌝ }
+{
+    if !is_open(moves, phase, mutex, mv) {
+        return 0;
+    }
+    rules::targets_of(threads, mv)
+}
+
+fn count_open(threads: usize, moves: u8, phase: usize, mutex: u8) -> usize
+    requires { ⌜ (threads ≤ mostThreads) × MovesIn phase moves ⌝ }
     ensures { λ r. ⌜ r ≡ length (openPairs threads phase mutex 6) ⌝ }
 {
     let mut bytes: usize = 0;
     for mv in 0..6 {
-        bytes = bytes + 2 * open_targets(threads, phase, mutex, mv);
+        bytes = bytes + 2 * open_targets(threads, moves, phase, mutex, mv);
     }
     bytes
 }
@@ -51,13 +55,13 @@ fn fill_pairs(out: &mut [u8], mv: usize, count: usize)
 }
 
 // The pairs of all moves.
-fn fill_open(out: &mut [u8], threads: usize, phase: usize, mutex: u8)
-    requires { ⌜ InTable threads phase × (length (openPairs threads phase mutex 6) ≤ length (now out)) ⌝ }
+fn fill_open(out: &mut [u8], threads: usize, moves: u8, phase: usize, mutex: u8)
+    requires { ⌜ ((threads ≤ mostThreads) × MovesIn phase moves) × (length (openPairs threads phase mutex 6) ≤ length (now out)) ⌝ }
     ensures { λ r. ⌜ now (out .exit) ≡ filled (now (out .entry)) (openPairs threads phase mutex 6) ⌝ }
 {
     let mut at: usize = 0;
     for mv in 0..6 {
-        let count = open_targets(threads, phase, mutex, mv);
+        let count = open_targets(threads, moves, phase, mutex, mv);
         fill_pairs(&mut out[at..], mv, count);
         at = at + 2 * count;
     }
@@ -65,13 +69,14 @@ fn fill_open(out: &mut [u8], threads: usize, phase: usize, mutex: u8)
 
 fn list_open(out: &mut [u8], threads: usize, phase: usize, mutex: u8) -> Answer
     requires { ⌜ InTable threads phase ⌝ }
-    ensures { λ r. ⌜ Listed (openPairs threads phase mutex 6) (now (out .entry)) (now (out .exit)) r ⌝ }
+    ensures { λ r. ⌜ Delivered (openPairs threads phase mutex 6) (now (out .entry)) (now (out .exit)) r ⌝ }
 {
-    let bytes = count_open(threads, phase, mutex);
+    let moves = rules::moves_in(phase);
+    let bytes = count_open(threads, moves, phase, mutex);
     if out.len() < bytes {
         return Answer::Refused(Refusal::NoRoom, 0);
     }
-    fill_open(out, threads, phase, mutex);
+    fill_open(out, threads, moves, phase, mutex);
     Answer::Done(bytes)
 }
 

@@ -1,9 +1,9 @@
 -- What the move entry answers and leaves, from what its three steps found, over plain variables.
 -- Assumes nothing.
 use Prim.Native.Nat.{ℕ}
-use mathlib.Core.Path.{_≡_, refl, sym, ap, _∙_}
+use mathlib.Core.Path.{_≡_, sym, ap, _∙_}
 use mathlib.Core.Logic.{⊎-elim}
-use mathlib.Core.Bool.{Bool, false, cond}
+use mathlib.Core.Bool.{Bool, cond}
 use mathlib.Core.List.{List}
 use lib.Dec.{eqb}
 use Rattle.definitions.specs.Answers.{refused, numberOf, firstRefusal}
@@ -12,7 +12,6 @@ use Rattle.definitions.specs.Sound.{sound}
 use Rattle.definitions.specs.Nodes.{replyFor}
 use Rattle.definitions.specs.Moves.{Request, requestTests, effect, moveRefusal, moveReply, moveTable}
 use Rattle.definitions.specs.declared.Refusal.{Refusal}
-use Rattle.definitions.specs.declared.Refusal.the-variants.{BadSize, Unsound, NoThread, NoMove, BadTarget, NotInPhase, MutexHeld, BadForm, UnknownPair, NotNext, Occupied, NoRoom}
 use Rattle.definitions.specs.declared.Outcome.the-variants as outcome
 use Rattle.rules.specs.declared.request.Tested.{Tested}
 use Rattle.rules.specs.declared.request.Tested.the-variants.{Passed, Refused}
@@ -20,24 +19,10 @@ use Rattle.rules.specs.Tested.{testNumber}
 use Rattle.table.specs.Examined.{raised, examinedOf}
 use Rattle.table.specs.declared.Examined.the-variants as examined
 use Rattle.theory.proofs.Tests.{T-true}
+use Rattle.theory.proofs.Refusals.{not-zero}
 use Rattle.table.proofs.Laws.{IsRefused, sound-means, refused-means}
 use Rattle.lock.specs.declared.carry.Made.{Made}
 use Rattle.lock.specs.Carried.{SoundTable, Held, Ready, CarriedOut, MoveMade, Tried}
-
--- no refusal has the number 0
-pub not-zero : (x : Refusal) → eqb (numberOf x) 0 ≡ false
-not-zero BadSize = refl
-not-zero Unsound = refl
-not-zero NoThread = refl
-not-zero NoMove = refl
-not-zero BadTarget = refl
-not-zero NotInPhase = refl
-not-zero MutexHeld = refl
-not-zero BadForm = refl
-not-zero UnknownPair = refl
-not-zero NotNext = refl
-not-zero Occupied = refl
-not-zero NoRoom = refl
 
 -- a request that is turned down
 pub turned-down : (bytes : List ℕ) (r : Request) (x : Refusal) → moveRefusal bytes r ≡ numberOf x → MoveMade bytes r bytes (outcome.Refused x)

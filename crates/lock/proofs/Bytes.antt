@@ -4,7 +4,7 @@ use Prim.Native.Nat.{ℕ, _+_, _*_, _<_}
 use native.Mathlib.Omega.{arith}
 use mathlib.Core.Path.{_≡_, refl, sym, ap, _∙_, subst⁻¹}
 use mathlib.Core.Logic.{_⊎_, inl, inr, ⊎-elim, _≢_}
-use mathlib.Core.Bool.{Bool, true, false}
+use mathlib.Core.Bool.{true, false}
 use mathlib.Core.List.{List, [], _∷_}
 use lib.Dec.{eqb}
 use lib.ListN.{length, getD, set, length-set}
@@ -15,13 +15,11 @@ use Rattle.rules.specs.declared.Cells.{Cells}
 use Rattle.rules.specs.View.{cellsOf, applied, appliedOne}
 use Rattle.rules.proofs.Within.{WithinOne, Within}
 use Rattle.definitions.specs.Threads.{howMany}
+use Rattle.theory.proofs.Tests.{either}
+use Rattle.theory.proofs.Quantifiers.{howMany-change}
 use Rattle.table.specs.Examined.{raised}
 use Rattle.lock.specs.Carried.{storedCells}
-use Rattle.lock.proofs.Counts.{one, changed-count}
-
-decided : (b : Bool) → (b ≡ true) ⊎ (b ≡ false)
-decided true = inl refl
-decided false = inr refl
+use Rattle.lock.proofs.Counts.{one}
 
 -- where a write stands, and its value
 abbrev place : Write → ℕ
@@ -64,7 +62,7 @@ overwritten bytes k v (w ∷ ws) h =
     (λ (e : eqb k (place w) ≡ false).
     ap (λ (l : List ℕ). stored l ws) (one-set (set bytes k v) w ∙ (set-comm bytes k (place w) v (value w) (eqb-false k (place w) e) ∙ ap (λ (l : List ℕ). set l k v) (sym (one-set bytes w))))
     ∙ overwritten (storedOne bytes w) k v ws (⊎-elim (λ p. absurd (eqb-false k (place w) e p)) (λ r. r) h))
-    (decided (eqb k (place w)))
+    (either (eqb k (place w)))
 
 overwritten-one : (bytes : List ℕ) (w : Write) (ws : List Write) → Written (place w) ws → stored (storedOne bytes w) ws ≡ stored bytes ws
 overwritten-one bytes w ws h = ap (λ (l : List ℕ). stored l ws) (one-set bytes w) ∙ overwritten bytes (place w) (value w) ws h
@@ -161,7 +159,7 @@ raised-after bytes i t c h l =
     let after : List ℕ = storedCells bytes i t c in
     let threads : getD after 0 0 ≡ getD bytes 0 0 = untouched bytes 0 (cell-writes i t c) (omega arith, (omega arith, (omega arith, (omega arith, (omega arith, tt))))) in
     let here : getD after (forbiddenAt t) 0 ≡ c .forbidden = subject-byte bytes i t c h in
-    let count = changed-count (getD bytes 0 0) t (λ j. eqb (getD bytes (forbiddenAt j) 0) 1) (λ j. eqb (getD after (forbiddenAt j) 0) 1) l
-    (λ j ne. ap (λ (x : ℕ). eqb x 1) (untouched bytes (forbiddenAt j) (cell-writes i t c) (omega arith, (omega arith, (omega arith, (omega arith, (omega arith, tt))))))) in
+    let count = howMany-change (λ j. eqb (getD bytes (forbiddenAt j) 0) 1) (λ j. eqb (getD after (forbiddenAt j) 0) 1) (getD bytes 0 0) t l
+    (λ j ne. ap (λ (x : ℕ). eqb x 1) (sym (untouched bytes (forbiddenAt j) (cell-writes i t c) (omega arith, (omega arith, (omega arith, (omega arith, (omega arith, tt)))))))) in
     ap (λ (n : ℕ). howMany n (λ j. eqb (getD after (forbiddenAt j) 0) 1) + one (eqb (getD bytes (forbiddenAt t) 0) 1)) threads
     ∙ (count ∙ ap (λ (x : ℕ). howMany (getD bytes 0 0) (λ j. eqb (getD bytes (forbiddenAt j) 0) 1) + one (eqb x 1)) here)

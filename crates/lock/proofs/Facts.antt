@@ -2,23 +2,22 @@
 -- Assumes nothing.
 use Prim.Native.Nat.{ℕ, zero, suc, _≤_, _<_}
 use native.Mathlib.Omega.{arith}
-use mathlib.Core.Path.{_≡_, refl, ap, _∙_, subst, subst⁻¹}
+use mathlib.Core.Path.{_≡_, refl, subst, subst⁻¹}
 use mathlib.Core.Logic.{_≢_}
-use mathlib.Core.Bool.{Bool, true, false, cond, not, _&&_}
+use mathlib.Core.Bool.{Bool, true, false, cond, _&&_}
 use mathlib.Core.List.{List, [], _∷_}
 use lib.Dec.{T, leb, ltb, eqb, leb→le, ltb→lt}
 use lib.ListN.{getD}
-use borrow.Author.Tests.{ltb-true, ne-eqb}
+use borrow.Author.Tests.{ltb-true}
 use Rattle.definitions.specs.Bounds.{lastPhase}
-use Rattle.definitions.specs.Threads.{some, howMany, allOf, between}
+use Rattle.definitions.specs.Threads.{allOf, between}
 use Rattle.definitions.specs.Answers.{Test, firstRefusal}
 use Rattle.definitions.specs.Table.{Table, tableOf}
 use Rattle.definitions.specs.Sound.{sound, phaseRule, flagRule, targetRule, holderIn}
 use Rattle.definitions.specs.Moves.{Request, requestTests, targetFits, hasMove, mutexFits}
 use Rattle.rules.specs.View.{subjectOf, namesThread}
-use Rattle.theory.proofs.Tests.{and-l, and-r}
-use Rattle.theory.proofs.Quantifiers.{every-at}
-use Rattle.soundness.proofs.Threads.{some-count, one-of}
+use Rattle.theory.proofs.Tests.{and-l, and-r, T-true, true-T}
+use Rattle.theory.proofs.Quantifiers.{every-at, some-i}
 use Rattle.table.proofs.Laws.{Sized, sized-means}
 use Rattle.lock.specs.Carried.{SoundTable, Ready, Places}
 
@@ -40,18 +39,11 @@ flag-le s h i l =
     (and-r (leb (s .busy i) 1) (leb (s .forbidden i) 1)
     (every-at (λ i. leb (s .busy i) 1 && leb (s .forbidden i) 1) (s .threads) (rule _ h 1) i l))
 
--- some thread has what this one has
-some-of : (n : ℕ) (f : ℕ → Bool) (i : ℕ) → i < n → f i ≡ true → some n f ≡ true
-some-of n f i l e =
-    let has : cond (f i) 1 0 ≤ howMany n f = one-of n f i l in
-    let is : cond {A = ℕ} (f i) 1 0 ≡ 1 = ap (λ (b : Bool). cond b 1 0) e in
-    some-count n f ∙ ap not (ne-eqb (howMany n f) 0 (λ z. omega arith))
-
 -- the target is a thread while somebody is in 11 or 12
 pub target-lt : (s : Table) → T (sound s) → (i : ℕ) → i < s .threads → between 11 12 (s .phase i) ≡ true → s .target < s .threads
 unfolding sound targetRule
 target-lt s h i l e =
-    let there : holderIn 11 12 s ≡ true = some-of (s .threads) (λ i. between 11 12 (s .phase i)) i l e in
+    let there : holderIn 11 12 s ≡ true = T-true _ (some-i (λ i. between 11 12 (s .phase i)) (s .threads) i l (true-T _ e)) in
     ltb→lt (s .target) (s .threads)
     (and-l (ltb (s .target) (s .threads)) (eqb (s .forbidden (s .target)) 1)
     (subst (λ (b : Bool). T (cond b (ltb (s .target) (s .threads) && eqb (s .forbidden (s .target)) 1) (eqb (s .target) 255))) there (rule _ h 5)))

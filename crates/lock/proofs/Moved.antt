@@ -16,7 +16,8 @@ use Rattle.rules.specs.declared.Decided.{Decided}
 use Rattle.rules.specs.View.{cellsOf, viewAt, subjectOf, applied, Decides}
 use Rattle.rules.proofs.Within.{Within, effect-within}
 use Rattle.table.specs.Examined.{raised}
-use Rattle.soundness.proofs.Threads.{every-count, howMany-le, one-of}
+use Rattle.theory.proofs.Quantifiers.{howMany-most, howMany-at}
+use Rattle.soundness.proofs.Threads.{every-count}
 use Rattle.lock.specs.Carried.{Held, Ready, Places, storedCells, CarriedOut}
 use Rattle.lock.proofs.Counts.{one, none-but}
 use Rattle.lock.proofs.Bytes.{Inside, stored-cells, raised-after}
@@ -61,8 +62,8 @@ count-fits bytes count i t v h p seen =
     let few = p .few in
     let is : one (eqb (v .cells .forbidden) 1) ≡ one (eqb (getD bytes (forbiddenAt t) 0) 1) = ap (λ (x : View). one (eqb (x .cells .forbidden) 1)) seen in
     let e : count ≡ howMany (getD bytes 0 0) (λ j. eqb (getD bytes (forbiddenAt j) 0) 1) = h .counted in
-    let a = howMany-le (getD bytes 0 0) (λ j. eqb (getD bytes (forbiddenAt j) 0) 1) in
-    let b = one-of (getD bytes 0 0) (λ j. eqb (getD bytes (forbiddenAt j) 0) 1) t (p .subject) in
+    let a = howMany-most (λ j. eqb (getD bytes (forbiddenAt j) 0) 1) (getD bytes 0 0) in
+    let b = howMany-at (λ j. eqb (getD bytes (forbiddenAt j) 0) 1) (getD bytes 0 0) t (p .subject) in
     (omega arith, omega arith)
 
 pub carried : (bytes : List ℕ) (count t : ℕ) (r : Request) (v : View) (d : Decided) (after : List ℕ) (count′ : ℕ) → Ready bytes count r

@@ -81,9 +81,14 @@ fn recount(raised: usize, before: u8, after: u8) -> usize
     requires { ⌜ (cond (eqb before 1) 1 0 ≤ raised) × (raised ≤ 200) ⌝ }
     ensures { λ r. ⌜ r + cond (eqb before 1) 1 0 ≡ raised + cond (eqb after 1) 1 0 ⌝ }
 {
+    if before == after {
+        return raised;
+    }
+    if after == 1 {
+        return raised + 1;
+    }
     let was = before == 1;
-    let is = after == 1;
-    raised - was as usize + is as usize
+    raised - was as usize
 }
 
 pub fn carry_out(table: &mut [u8], raised: usize, thread: usize, mv: usize, target: usize) -> Made

@@ -7,4 +7,4 @@ pub use carry::Made;
 pub use carry::carry_out;
 pub use moves::make_move;
 pub use moves::try_move;
-pub use request::test;
+pub use request::test_request;

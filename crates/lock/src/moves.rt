@@ -1,7 +1,7 @@
 // The move entry: the table is tested once, then the request, then the move is carried out.
 use crate::carry::Made;
 use crate::carry::carry_out;
-use crate::request::test;
+use crate::request::test_request;
 use definitions::Outcome;
 use rules::Tested;
 use table::Examined;
@@ -12,7 +12,7 @@ pub fn try_move(table: &mut [u8], raised: usize, thread: usize, mv: usize, targe
     requires { ⌜ Held (now table) raised ⌝ }
     ensures { λ r. ⌜ Tried (now (table .entry)) (asked thread mv target) (now (table .exit)) r ⌝ }
 {
-    let tested = test(table, thread, mv, target);
+    let tested = test_request(table, thread, mv, target);
     match tested {
         Tested::Refused(x) => Made {
             outcome: Outcome::Refused(x),

@@ -9,7 +9,7 @@ ghost use Rattle.definitions.specs.Moves.{requestTests};
 ghost use Rattle.rules.specs.Tested.{testNumber};
 ghost use Rattle.lock.specs.Carried.{asked, SoundTable};
 
-pub fn test(table: &[u8], thread: usize, mv: usize, target: usize) -> Tested
+pub fn test_request(table: &[u8], thread: usize, mv: usize, target: usize) -> Tested
     requires { ⌜ SoundTable (now table) ⌝ }
     ensures { λ r. ⌜ testNumber r ≡ firstRefusal (requestTests (tableOf (now (table .entry))) (asked thread mv target)) ⌝ }
 {

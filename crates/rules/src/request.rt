@@ -5,7 +5,7 @@ ghost use Prim.Native.Nat.{_<_};
 ghost use Rattle.definitions.specs.Answers.{firstRefusal};
 ghost use Rattle.definitions.specs.Moves.{hasMove, targetFits};
 ghost use Rattle.rules.specs.View.{namesThread};
-ghost use Rattle.rules.specs.Tested.{testNumber, laterTests};
+ghost use Rattle.rules.specs.Tested.{MovesIn, bitOf, mustWait, targetsOf, testNumber, laterTests};
 
 // The moves, by number.
 pub const MOVE_GO: usize = 0;
@@ -20,33 +20,58 @@ pub const MOVE_CLEAR: usize = 4;
 
 pub const MOVE_RELENT: usize = 5;
 
-// Which moves each phase has: go, call shared, call exclusive, set, clear, relent.
-pub const MOVES: [[bool; 6]; 18] = [
-    [false, true, true, false, false, false],
-    [true, false, false, false, false, false],
-    [true, false, false, false, false, false],
-    [true, false, false, false, false, false],
-    [true, false, false, false, false, false],
-    [true, false, false, false, false, false],
-    [true, false, false, false, false, false],
-    [true, false, false, false, false, false],
-    [true, false, false, false, false, false],
-    [true, false, false, false, false, false],
-    [false, false, false, true, false, false],
-    [true, false, false, false, false, true],
-    [true, false, false, false, false, false],
-    [true, false, false, false, false, false],
-    [true, false, false, false, false, false],
-    [false, false, false, true, true, false],
-    [true, false, false, false, false, false],
-    [true, false, false, false, false, false],
+// Which moves each phase has, one bit a move: go, call shared, call exclusive, set, clear, relent from the lowest bit on.
+pub const MOVES: [u8; 18] = [
+    0b000110,
+    0b000001,
+    0b000001,
+    0b000001,
+    0b000001,
+    0b000001,
+    0b000001,
+    0b000001,
+    0b000001,
+    0b000001,
+    0b001000,
+    0b100001,
+    0b000001,
+    0b000001,
+    0b000001,
+    0b011000,
+    0b000001,
+    0b000001,
 ];
 
-pub fn has_move(phase: usize, mv: usize) -> bool
+// The moves that a phase has, a bit each.
+pub fn moves_in(phase: usize) -> u8
+    requires { ⌜ phase < 18 ⌝ }
+    ensures { λ r. ⌜ MovesIn phase r ⌝ }
+{
+    MOVES[phase]
+}
+
+// Whether a move's bit is 1.
+pub fn is_among(moves: u8, mv: usize) -> bool
+    requires { ⌜ mv < 6 ⌝ }
+    ensures { λ r. ⌜ r ≡ bitOf moves mv ⌝ }
+{
+    (moves >> mv) & 1 == 1
+}
+
+// Refusal 6: the phase has the move.
+fn has_move(phase: usize, mv: usize) -> bool
     requires { ⌜ (phase < 18) × (mv < 6) ⌝ }
     ensures { λ r. ⌜ r ≡ hasMove mv phase ⌝ }
 {
-    MOVES[phase][mv]
+    let moves = moves_in(phase);
+    is_among(moves, mv)
+}
+
+// Refusal 7: go in phase 9 while the mutex is 1.
+pub fn must_wait(phase: usize, mutex: u8, mv: usize) -> bool
+    ensures { λ r. ⌜ r ≡ mustWait phase mutex mv ⌝ }
+{
+    (mv == MOVE_GO) & ((phase == 9) & (mutex == 1))
 }
 
 // A request that passed its tests, or why it is turned down.
@@ -62,14 +87,21 @@ pub fn names_thread(mv: usize) -> bool
     (mv == MOVE_SET) | (mv == MOVE_CLEAR)
 }
 
-// Refusal 5: the target of the other moves is 0.
+// How many targets, from 0 on, a move may name: set and clear every thread, another move 0 alone.
+pub fn targets_of(threads: usize, mv: usize) -> usize
+    ensures { λ r. ⌜ r ≡ targetsOf threads mv ⌝ }
+{
+    if names_thread(mv) {
+        return threads;
+    }
+    1
+}
+
+// Refusal 5: the target is one of these.
 fn target_fits(threads: usize, mv: usize, target: usize) -> bool
     ensures { λ r. ⌜ r ≡ targetFits threads mv target ⌝ }
 {
-    if names_thread(mv) {
-        return target < threads;
-    }
-    target == 0
+    target < targets_of(threads, mv)
 }
 
 // The tests 4 to 7 of a request by a thread in a phase, in their order.
@@ -86,7 +118,7 @@ pub fn test(threads: usize, phase: usize, mutex: u8, mv: usize, target: usize) -
     if !has_move(phase, mv) {
         return Tested::Refused(Refusal::NotInPhase);
     }
-    if (mv == MOVE_GO) & ((phase == 9) & (mutex == 1)) {
+    if must_wait(phase, mutex, mv) {
         return Tested::Refused(Refusal::MutexHeld);
     }
     Tested::Passed

@@ -10,12 +10,6 @@ use mir.Val.{Fits, boolByte}
 use native.Mathlib.Omega.{arith}
 use Rattle.definitions.specs.Threads.{implies}
 
-pub T-ext : (a b : Bool) → (T a → T b) → (T b → T a) → a ≡ b
-T-ext true true f g = refl
-T-ext true false f g = absurd (f tt)
-T-ext false true f g = absurd (g tt)
-T-ext false false f g = refl
-
 -- the second tests are compared where the first holds
 pub and-cong : (a a′ b b′ : Bool) → a ≡ a′ → (T a → b ≡ b′) → (a && b) ≡ (a′ && b′)
 and-cong true true b b′ e f = f tt

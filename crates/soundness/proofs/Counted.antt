@@ -14,10 +14,10 @@ use Rattle.definitions.specs.Threads.{every, some, howMany, between, allOf, imp
 use Rattle.definitions.specs.Table.{Table}
 use Rattle.definitions.specs.Sound.{holds, busyIn, reading, holderIn, phaseRule, flagRule, busyRule, holderRule, mutexRule, targetRule, openRule, rule10, rule11, rule13, rule15, sound}
 use Rattle.soundness.specs.Pass.{threadFits, blocks}
-use Rattle.theory.proofs.Tests.{and-l, and-r, and-i, not-i, T-true, T-false}
-use Rattle.theory.proofs.Quantifiers.{every-at, every-i}
-use Rattle.soundness.proofs.Bools.{T-ext, and-cong, implies-cong}
-use Rattle.soundness.proofs.Threads.{every-same, howMany-le, some-count, some-not-none, every-count, none-count, except-count}
+use Rattle.theory.proofs.Tests.{and-l, and-r, and-i, not-i, T-true, T-false, same-test}
+use Rattle.theory.proofs.Quantifiers.{every-at, every-i, howMany-most}
+use Rattle.soundness.proofs.Bools.{and-cong, implies-cong}
+use Rattle.soundness.proofs.Threads.{every-same, some-count, some-not-none, every-count, none-count, except-count}
 
 -- the phase of the last holder below n, or 0 where there is none
 unfoldable pub holderBelow : ℕ → (ℕ → ℕ) → ℕ
@@ -103,7 +103,7 @@ module _ (s : Table) where
       (every-at _ (s .threads) (and-r (flagRule s) _ (and-r (phaseRule s) _ h)) i l)))
 
   fits-rules : every (s .threads) each ≡ (phaseRule s && (flagRule s && busyRule s))
-  fits-rules = T-ext _ _ to-rules from-rules
+  fits-rules = same-test _ _ to-rules from-rules
 
 -- the holder: where there is at most one, it is the last one found
 none-step : (x : Bool) (k p q : ℕ) → k + cond x 1 0 ≡ 0 → (k ≡ 0 → q ≡ 0) → cond x p q ≡ 0
@@ -153,7 +153,7 @@ holder-in (suc n) phase a b w h =
 
 -- one phase is a range of one
 one-phase : (a x : ℕ) → between a a x ≡ eqb x a
-one-phase a x = T-ext _ _ to from
+one-phase a x = same-test _ _ to from
   where
     to : T (between a a x) → T (eqb x a)
     to h =
@@ -236,7 +236,7 @@ module _ (s : Table)
       ∙ ap not
       (every-same (s .threads) _ up (λ i l. ap not (sym (flag-not (s .forbidden i) (flags i l))) ∙ not-not (up i))
       ∙ every-count (s .threads) up)
-      ∙ not-all (t .raised) (s .threads) (howMany-le (s .threads) up)
+      ∙ not-all (t .raised) (s .threads) (howMany-most up (s .threads))
 
   open-is : openRule s ≡ fitsOpen t
   unfolding openRule

@@ -6,34 +6,24 @@ use native.Mathlib.Nat.{add-zero, eq-or-lt-of-le, le-of-suc-le-suc, not-suc-le-z
 use native.Mathlib.Omega.{arith}
 use mathlib.Core.Path.{_≡_, refl, sym, subst, ap, _∙_}
 use mathlib.Core.Logic.{⊎-elim}
-use mathlib.Core.Bool.{Bool, true, false, cond, not, _&&_, _||_, or-true, or-false, and-true, and-false}
+use mathlib.Core.Bool.{Bool, true, false, cond, not, _&&_, _||_, and-true, and-false}
 use lib.Dec.{eqb, eqb·suc-suc}
 use borrow.Author.Tests.{eq-eqb, ne-eqb}
 use Rattle.definitions.specs.Threads.{every, some, howMany}
+use Rattle.theory.proofs.Quantifiers.{howMany-at, howMany-most, none-howMany}
 
 pub every-same : (n : ℕ) (f g : ℕ → Bool) → ((i : ℕ) → i < n → f i ≡ g i) → every n f ≡ every n g
 unfolding every
 every-same zero f g h = refl
 every-same (suc n) f g h = cc (every-same n f g (λ i l. h i (omega arith)), h n (omega arith))
 
-pub howMany-le : (n : ℕ) (f : ℕ → Bool) → howMany n f ≤ n
-unfolding howMany
-howMany-le zero f = omega arith
-howMany-le (suc n) f = more (f n) (howMany-le n f)
-  where
-    more : (b : Bool) → howMany n f ≤ n → howMany n f + cond b 1 0 ≤ suc n
-    more true h = omega arith
-    more false h = omega arith
-
 -- the words as counts
+twice : (b : Bool) → b ≡ not (not b)
+twice true = refl
+twice false = refl
+
 pub some-count : (n : ℕ) (f : ℕ → Bool) → some n f ≡ not (eqb (howMany n f) 0)
-unfolding some howMany
-some-count zero f = refl
-some-count (suc n) f = more (f n) (some-count n f)
-  where
-    more : (b : Bool) → some n f ≡ not (eqb (howMany n f) 0) → (some n f || b) ≡ not (eqb (howMany n f + cond b 1 0) 0)
-    more true h = simp (or-true, ne-eqb (howMany n f + 1) 0 (λ e. omega arith))
-    more false h = simp (or-false, add-zero) h
+some-count n f = twice (some n f) ∙ ap not (none-howMany f n)
 
 pub every-count : (n : ℕ) (f : ℕ → Bool) → every n f ≡ eqb (howMany n f) n
 unfolding every howMany
@@ -42,7 +32,7 @@ every-count (suc n) f = more (f n) (every-count n f)
   where
     more : (b : Bool) → every n f ≡ eqb (howMany n f) n → (every n f && b) ≡ eqb (howMany n f + cond b 1 0) (suc n)
     more true h = simp (and-true, add-one, eqb·suc-suc) h
-    more false h = simp (and-false, add-zero, ne-eqb (howMany n f) (suc n) (λ e. omega (arith, howMany-le n f)))
+    more false h = simp (and-false, add-zero, ne-eqb (howMany n f) (suc n) (λ e. omega (arith, howMany-most f n)))
 
 pub none-count : (n : ℕ) (f : ℕ → Bool) → every n (λ i. not (f i)) ≡ eqb (howMany n f) 0
 unfolding every howMany
@@ -55,16 +45,6 @@ none-count (suc n) f = more (f n) (none-count n f)
 
 pub some-not-none : (n : ℕ) (f : ℕ → Bool) → some n f ≡ not (every n (λ i. not (f i)))
 some-not-none n f = some-count n f ∙ ap not (sym (none-count n f))
-
--- a thread is counted among those before n
-pub one-of : (n : ℕ) (f : ℕ → Bool) (t : ℕ) → t < n → cond (f t) 1 0 ≤ howMany n f
-unfolding howMany
-one-of zero f t l = absurd (not-suc-le-zero l)
-one-of (suc n) f t l =
-    ⊎-elim
-    (λ e. subst (λ (k : ℕ). cond (f k) 1 0 ≤ howMany n f + cond (f n) 1 0) (sym e) (omega arith))
-    (λ b. omega (arith, one-of n f t b))
-    (eq-or-lt-of-le (le-of-suc-le-suc l))
 
 -- a count that grows past k, or by as much as k
 past : (a k : ℕ) (b : Bool) → k ≤ a → (eqb a k && not b) ≡ eqb (a + cond b 1 0) k
@@ -92,4 +72,4 @@ except-count (suc n) f t l = ⊎-elim (λ e. subst Claim (sym e) last) (λ b. ea
         simp (eq-eqb n n refl, and-true, before) (along (howMany n f) (f n))
 
     earlier : t < n → every n (λ i. eqb i t || not (f i)) ≡ eqb (howMany n f) (cond (f t) 1 0) → Claim t
-    earlier b h = simp (h, ne-eqb n t (λ e. omega arith)) (past (howMany n f) (cond (f t) 1 0) (f n) (one-of n f t b))
+    earlier b h = simp (h, ne-eqb n t (λ e. omega arith)) (past (howMany n f) (cond (f t) 1 0) (f n) (howMany-at f n t b))

@@ -1,13 +1,13 @@
 -- The replies and outputs of the entries `fresh` and `nodes`, by the tests that lead there.
 -- Assumes nothing.
-use Prim.Native.Nat.{ℕ, _*_, _≤_, _<_}
+use Prim.Native.Nat.{ℕ, _≤_, _<_}
 use mathlib.Core.Path.{_≡_, sym, ap, _∙_}
 use mathlib.Core.Bool.{true, false}
 use mathlib.Core.List.{List}
 use native.Mathlib.Omega.{arith}
 use borrow.Author.Tests.{lt-leb, le-leb}
 use lib.Dec.{leb, leb→le}
-use lib.ListN.{length, length-replicate}
+use lib.ListN.{length}
 use Rattle.definitions.specs.Bounds.{mostThreads}
 use Rattle.definitions.specs.Answers.{Reply, done, refused, firstRefusal}
 use Rattle.definitions.specs.Table.{tableOf, size, countFits, sized, fresh, filled}
@@ -15,16 +15,13 @@ use Rattle.definitions.specs.Sound.{sound}
 use Rattle.definitions.specs.Nodes.{nodesOf, nodesRefusal, nodesReply, nodesOutput}
 use Rattle.definitions.specs.OpenMoves.{freshRefusal, freshReply, freshOutput}
 use Rattle.theory.proofs.Tests.{and-r, true-T, T-true}
+use Rattle.theory.proofs.Lengths.{fresh-length}
 use Rattle.theory.proofs.Lists.{length-listOf}
 use Rattle.table.specs.Examined.{SoundFor}
 
 -- what an entry answers and leaves
 abbrev pub Meets : Reply → Reply → List ℕ → List ℕ → Type 0
 Meets reply wanted out left = (reply ≡ wanted) × (out ≡ left)
-
-pub fresh-length : (n : ℕ) → length (fresh n) ≡ size n
-unfolding fresh
-fresh-length n = omega (arith, length-replicate {A = ℕ} (3 * n) 0)
 
 pub nodes-length : (bytes : List ℕ) → length (nodesOf (tableOf bytes)) ≡ tableOf bytes .threads
 unfolding nodesOf

@@ -9,6 +9,9 @@ pub mod Kept
 pub mod Steps
 pub mod Lists
 pub mod Lengths
+pub mod Putting
+pub mod Pairs
+pub mod Refusals
 pub mod Texts
 pub mod Numbers
 pub mod Digits

@@ -12,19 +12,19 @@ use Rattle.listing.proofs.fill_open.Statement.{statement}
 use Rattle.listing.proofs.fill_open.Tie as tie
 
 abbrev Inv-loop : tie.InvT-loop
-Inv-loop out₀ threads phase mutex at₀ mv₀ out at mv =
+Inv-loop out₀ threads moves phase mutex at₀ mv₀ out at mv =
     (mv ≤ 6)
     × ((length out ≡ length out₀)
     × ((at ≡ length (openPairs threads phase mutex mv)) × (out ≡ filled out₀ (openPairs threads phase mutex mv))))
 
 abbrev μ-loop : tie.MeasureT-loop
-μ-loop out₀ threads phase mutex at₀ mv₀ out at mv = 6 - mv
+μ-loop out₀ threads moves phase mutex at₀ mv₀ out at mv = 6 - mv
 
 loop-holds : tie.Need-loop-holds Inv-loop μ-loop
 loop-holds c = (omega arith, (refl, (ap length (sym (open-none _ _ _)), ap (filled (c .before .args .out .now)) (sym (open-none _ _ _)))))
 
 open-targets-requires : tie.Need-open-targets-requires Inv-loop μ-loop
-open-targets-requires c κs = c .before .before .before .pre .0 .known
+open-targets-requires c κs = (c .before .before .before .pre .0 .1, omega arith)
 
 sub-fill-pairs : tie.Need-sub-fill-pairs Inv-loop μ-loop
 sub-fill-pairs c = omega (arith, open-fits (c .before .before .before .before .args .threads) (c .before .before .before .before .args .phase) (c .before .before .before .before .args .mutex) (c .before .before .loop .mv) (length (c .before .before .before .before .args .out .now)) (omega arith) (c .before .before .before .before .pre .1))
@@ -36,10 +36,10 @@ part-fill-pairs-end : tie.Need-part-fill-pairs-end Inv-loop μ-loop
 part-fill-pairs-end c = search needs
 
 fill-pairs-requires : tie.Need-fill-pairs-requires Inv-loop μ-loop
-fill-pairs-requires c κs = (omega arith, (omega (arith, targets-le (c .before .before .before .before .before .args .threads) (c .before .before .before .before .before .args .phase) (c .before .before .before .before .before .args .mutex) (c .before .before .before .loop .mv) (c .before .before .before .before .before .pre .0 .few), c .before .open-targets .ensures), omega (arith, open-fits (c .before .before .before .before .before .args .threads) (c .before .before .before .before .before .args .phase) (c .before .before .before .before .before .args .mutex) (c .before .before .before .loop .mv) (length (c .before .before .before .before .before .args .out .now)) (omega arith) (c .before .before .before .before .before .pre .1), c .before .open-targets .ensures, left-length (c .before .before .before .loop .out) (c .before .before .before .loop .at))))
+fill-pairs-requires c κs = (omega arith, (omega (arith, targets-le (c .before .before .before .before .before .args .threads) (c .before .before .before .before .before .args .phase) (c .before .before .before .before .before .args .mutex) (c .before .before .before .loop .mv) (c .before .before .before .before .before .pre .0 .0), c .before .open-targets .ensures), omega (arith, open-fits (c .before .before .before .before .before .args .threads) (c .before .before .before .before .before .args .phase) (c .before .before .before .before .before .args .mutex) (c .before .before .before .loop .mv) (length (c .before .before .before .before .before .args .out .now)) (omega arith) (c .before .before .before .before .before .pre .1), c .before .open-targets .ensures, left-length (c .before .before .before .loop .out) (c .before .before .before .loop .at))))
 
 mul-at : tie.Need-mul-at Inv-loop μ-loop
-mul-at c = omega (arith, targets-le (c .before .before .before .before .before .before .before .before .args .threads) (c .before .before .before .before .before .before .before .before .args .phase) (c .before .before .before .before .before .before .before .before .args .mutex) (c .before .before .before .before .before .before .loop .mv) (c .before .before .before .before .before .before .before .before .pre .0 .few), c .before .before .before .before .open-targets .ensures)
+mul-at c = omega (arith, targets-le (c .before .before .before .before .before .before .before .before .args .threads) (c .before .before .before .before .before .before .before .before .args .phase) (c .before .before .before .before .before .before .before .before .args .mutex) (c .before .before .before .before .before .before .loop .mv) (c .before .before .before .before .before .before .before .before .pre .0 .0), c .before .before .before .before .open-targets .ensures)
 
 add-at : tie.Need-add-at Inv-loop μ-loop
 add-at c = omega (arith, open-fits (c .before .before .before .before .before .before .before .before .args .threads) (c .before .before .before .before .before .before .before .before .args .phase) (c .before .before .before .before .before .before .before .before .args .mutex) (c .before .before .before .before .before .before .loop .mv) (length (c .before .before .before .before .before .before .before .before .args .out .now)) (omega arith) (c .before .before .before .before .before .before .before .before .pre .1), c .before .before .before .before .open-targets .ensures)

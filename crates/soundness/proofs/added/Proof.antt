@@ -1,19 +1,17 @@
 -- `added` meets its contract: the row tests what the definition tests, and a flag times a flag is 1 where both are. Assumes nothing.
 use Prim.Native.Nat.{ℕ, zero, suc, _+_, _*_, _≤_, _<_}
 use mathlib.Core.Path.{_≡_, refl, sym, subst, ap, _∙_}
-use mathlib.Core.Bool.{Bool, true, false, cond, not, _&&_}
+use mathlib.Core.Bool.{Bool, true, false, cond, _&&_}
 use native.Mathlib.Omega.{arith}
 use borrow.Author.Needs.{needs}
 use borrow.Author.Tests.{not-true, not-false, ne-eqb}
-use lib.Dec.{T, leb, eqb, leb→le}
-use mir.Syntax.{w64}
-use mir.Val.{Fits}
+use lib.Dec.{leb, eqb, leb→le}
 use Rattle.definitions.specs.Bounds.{lastPhase}
 use Rattle.definitions.specs.Sound.{holds, busyIn, reading}
 use Rattle.soundness.specs.declared.Tally.{Tally}
 use Rattle.soundness.specs.declared.Found.the-variants.{Good, Bad}
 use Rattle.soundness.specs.declared.Row.{Row}
-use Rattle.soundness.specs.Pass.{Room, threadFits, holding, rowOf, addedOf}
+use Rattle.soundness.specs.Pass.{threadFits, holding, rowOf, addedOf}
 use Rattle.theory.proofs.Tests.{and-r, true-T}
 use Rattle.soundness.proofs.added.Statement.{statement}
 use Rattle.soundness.proofs.added.Tie as tie

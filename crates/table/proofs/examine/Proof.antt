@@ -8,7 +8,7 @@ use borrow.Author.Needs.{needs}
 use borrow.Author.Tests.{not-true, not-false}
 use lib.Dec.{T}
 use lib.ListN.{getD}
-use Rattle.definitions.specs.Table.{tableOf, sized, size}
+use Rattle.definitions.specs.Table.{tableOf, sized}
 use Rattle.definitions.specs.Sound.{sound}
 use Rattle.definitions.specs.declared.Refusal.the-variants.{Unsound}
 use Rattle.soundness.specs.declared.Tally.{Tally}

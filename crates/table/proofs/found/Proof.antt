@@ -5,7 +5,7 @@ use native.Mathlib.Nat.{lt-of-le-of-lt}
 use native.Mathlib.Numerals.{add-one}
 use native.Mathlib.Omega.{arith}
 use mathlib.Core.Path.{_≡_, refl, sym, subst, ap, _∙_}
-use mathlib.Core.Bool.{Bool, true, false, cond, _&&_}
+use mathlib.Core.Bool.{Bool, true, false, cond}
 use mathlib.Core.List.{List}
 use borrow.Author.Needs.{needs}
 use lib.Dec.{T, leb, leb→le}
@@ -17,7 +17,7 @@ use Rattle.soundness.specs.declared.Tally.{Tally}
 use Rattle.soundness.specs.declared.Found.{Found}
 use Rattle.soundness.specs.declared.Found.the-variants.{Good, Bad}
 use Rattle.soundness.specs.Pass.{Room, threadFits, holding, total, tallyBelow, fitBelow, addedOf, foundOf}
-use Rattle.soundness.proofs.Threads.{howMany-le}
+use Rattle.theory.proofs.Quantifiers.{howMany-most}
 use Rattle.theory.proofs.Tests.{and-r, not-i, true-T, T-false}
 use Rattle.theory.proofs.Quantifiers.{every-at}
 use Rattle.table.proofs.found.Statement.{statement}
@@ -37,8 +37,8 @@ room : (s : Table) (i : ℕ) → i < 256 → Room (tallyBelow s i)
 room s i l =
     record {
       holding = omega (arith, total-le i (s .phase));
-      raised = lt-of-le-of-lt (howMany-le i _) l;
-      blocked = lt-of-le-of-lt (howMany-le i _) l;
+      raised = lt-of-le-of-lt (howMany-most _ i) l;
+      blocked = lt-of-le-of-lt (howMany-most _ i) l;
     }
 
 -- the threads passed fit, and are tallied

@@ -3,7 +3,6 @@
 use Prim.Native.Nat.{ℕ, zero, suc}
 use mathlib.Core.Path.{_≡_, refl, sym, ap}
 use Rattle.definitions.specs.Answers.{eventOf}
-use Rattle.definitions.specs.declared.MaybeEvent.{MaybeEvent}
 use Rattle.definitions.specs.declared.MaybeEvent.the-variants.{Unknown}
 use Rattle.definitions.proofs.Event.from_code.Statement.{statement}
 use Rattle.definitions.proofs.Event.from_code.Tie as tie

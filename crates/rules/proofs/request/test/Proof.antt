@@ -25,13 +25,16 @@ returns-3 : tie.Need-returns-3
 unfolding firstRefusal
 returns-3 c = rw (le-leb _ _ (c .before .before .before .before .if1 .left), sym (c .before .before .before .target-fits .ensures) ∙ not-false _ (c .before .before .if2 .left), sym (c .before .has-move .ensures) ∙ not-true _ (c .if3 .taken))
 
+must-wait-requires : tie.Need-must-wait-requires
+must-wait-requires c κs = search needs
+
 returns-4 : tie.Need-returns-4
 unfolding firstRefusal
-returns-4 c = rw (le-leb _ _ (c .before .before .before .before .before .if1 .left), sym (c .before .before .before .before .target-fits .ensures) ∙ not-false _ (c .before .before .before .if2 .left), sym (c .before .before .has-move .ensures) ∙ not-false _ (c .before .if3 .left), c .if4 .taken)
+returns-4 c = rw (le-leb _ _ (c .before .before .before .before .before .before .if1 .left), sym (c .before .before .before .before .before .target-fits .ensures) ∙ not-false _ (c .before .before .before .before .if2 .left), sym (c .before .before .before .has-move .ensures) ∙ not-false _ (c .before .before .if3 .left), sym (c .before .must-wait .ensures) ∙ c .if4 .taken)
 
 returns-5 : tie.Need-returns-5
 unfolding firstRefusal
-returns-5 c = rw (le-leb _ _ (c .before .before .before .before .before .if1 .left), sym (c .before .before .before .before .target-fits .ensures) ∙ not-false _ (c .before .before .before .if2 .left), sym (c .before .before .has-move .ensures) ∙ not-false _ (c .before .if3 .left), c .if4 .left)
+returns-5 c = rw (le-leb _ _ (c .before .before .before .before .before .before .if1 .left), sym (c .before .before .before .before .before .target-fits .ensures) ∙ not-false _ (c .before .before .before .before .if2 .left), sym (c .before .before .before .has-move .ensures) ∙ not-false _ (c .before .before .if3 .left), sym (c .before .must-wait .ensures) ∙ c .if4 .left)
 
 pub test-spec : {M : Type 1} → statement M
 test-spec =
@@ -42,5 +45,6 @@ test-spec =
     returns-2
     has-move-requires
     returns-3
+    must-wait-requires
     returns-4
     returns-5)

@@ -1,4 +1,4 @@
--- `lock::request::test` meets its contract: refusal 3 by its test, and the others by what `rules::test` ensures.
+-- `lock::request::test_request` meets its contract: refusal 3 by its test, and the others by what `rules::test` ensures.
 -- Assumes nothing.
 use native.Mathlib.Omega.{arith}
 use Prim.Native.Nat.{ℕ}
@@ -9,8 +9,8 @@ use Rattle.definitions.specs.Answers.{firstRefusal}
 use Rattle.definitions.specs.Table.{tableOf}
 use Rattle.table.proofs.Laws.{sized-means}
 use Rattle.lock.proofs.Facts.{phase-le}
-use Rattle.lock.proofs.request.test.Statement.{statement}
-use Rattle.lock.proofs.request.test.Tie as tie
+use Rattle.lock.proofs.request.test_request.Statement.{statement}
+use Rattle.lock.proofs.request.test_request.Tie as tie
 
 shared-slice-read-count : tie.Need-shared-slice-read-count
 shared-slice-read-count c = let z = sized-means _ (c .before .before .pre .is-sized) in omega arith
@@ -41,8 +41,8 @@ returns-2 : tie.Need-returns-2
 unfolding firstRefusal
 returns-2 c = rw (lt-ltb _ _ (c .before .before .before .before .if1 .left), ← c .before .before .phase-at .ensures) (c .test .ensures)
 
-pub test-spec : {M : Type 1} → statement M
-test-spec =
+pub test-request-spec : {M : Type 1} → statement M
+test-request-spec =
     tie.close
     (tie.spec
     shared-slice-read-count

@@ -1,0 +1,10 @@
+-- `rules::show` meets its contract: the code is the definition. Assumes nothing.
+use mathlib.Core.Path.{refl}
+use Rattle.rules.proofs.show.Statement.{statement}
+use Rattle.rules.proofs.show.Tie as tie
+
+returns : tie.Need-returns
+returns c = refl
+
+pub show-spec : {M : Type 1} → statement M
+show-spec = tie.close (tie.spec returns)
