@@ -1,71 +1,122 @@
 -- What the check's loop keeps between two pairs, and that a turn of the loop is a step of the plain lock's reply.
 -- Assumes nothing.
-use Prim.Native.Nat.{ℕ, zero, suc, _+_, _-_, _*_, _/_, _%_, _≤_, _<_}
+use Prim.Native.Nat.{ℕ, zero, suc, _+_, _-_, _*_, _/_, _%_, _^_, _≤_, _<_}
 use mathlib.Core.Path.{_≡_, refl, sym, ap, _∙_, subst, fun-ext}
-use mathlib.Core.Bool.{Bool, true, false, cond, _&&_}
-use mathlib.Core.List.{List, [], _∷_}
+use mathlib.Core.Bool.{Bool, true, false, cond, not, _&&_, _||_}
+use mathlib.Core.List.{List}
 use native.Mathlib.Numerals.{add-one}
 use native.Mathlib.Omega.{arith}
-use borrow.Author.Tests.{eqb-true, eqb-false, ltb-true}
-use lib.Dec.{leb, ltb, eqb}
-use lib.ListN.{length, getD, set, drop, replicate, length-set, length-replicate, length-drop}
-use lib.Seq.{drop-cons, getD-set-same, getD-set-other}
+use borrow.Author.Tests.{eqb-true, eqb-false, ltb-true, le-leb, lt-leb}
+use lib.Dec.{leb, ltb, eqb, eqb·suc-zero}
+use lib.ListN.{length, getD, set, drop, replicate, length-set, length-replicate}
+use lib.Seq.{getD-set-same, getD-set-other}
 use Rattle.definitions.specs.declared.Refusal.{Refusal}
-use Rattle.definitions.specs.declared.Refusal.the-variants.{BadSize, Unsound, NoThread, NoMove, BadTarget, NotInPhase, MutexHeld, BadForm, UnknownPair, NotNext, Occupied, NoRoom}
 use Rattle.definitions.specs.Answers.{done, refused, numberOf, firstRefusal, unlessRefused}
-use Rattle.definitions.specs.Threads.{howMany, between}
+use Rattle.definitions.specs.Threads.{between}
 use Rattle.definitions.specs.Bounds.{mostHistory}
 use Rattle.definitions.specs.Table.{countFits}
-use Rattle.definitions.specs.PlainLock.{Pair, Places, pairsOf, atStart, placeAfter, advanced, pairRefusal, historyRefusal, historyReply, checkReply}
-use Rattle.history.specs.declared.Inside.{Inside}
+use Rattle.definitions.specs.PlainLock.{Pair, Places, isNext, anyInShared, anyInExclusive, needMet, pairsOf, atStart, placeAfter, advanced, pairRefusal, historyRefusal, historyReply, checkReply}
+use Rattle.theory.proofs.Tests.{and-both}
+use Rattle.theory.proofs.Pairs.{pairAt, pairs-next, pairs-end}
+use Rattle.theory.proofs.Refusals.{not-zero}
+use Rattle.theory.proofs.Quantifiers.{none-howMany, howMany-none, howMany-most, howMany-at}
+use Rattle.history.specs.declared.Row.{Row}
 use Rattle.history.specs.declared.Verdict.{Verdict}
 use Rattle.history.specs.declared.Verdict.the-variants.{Fits, Bad}
-use Rattle.history.specs.Judged.{numberBy, numberIn, Countable, CountableFrom}
-use Rattle.history.proofs.PlainLaws.{none-many, many-most, many-one, totalAt, total-advanced, replyFrom, reply-is}
+use Rattle.history.specs.Judged.{writer, weight, any, mostFor, placeBefore, rowOf, numberBy, numberIn}
+use Rattle.history.proofs.PlainLaws.{totalAt, total-advanced, replyFrom, reply-is}
+use Rattle.history.proofs.RowLaws.{follows}
 
--- ---- a pair by its thread's place and the totals
+-- ---- a pair by its thread's place and the total
 
--- the totals of places
-pub record Totals (n : ℕ) (p : Places) (inside : Inside) : Type 0 where
-  pub shared : inside .shared ≡ totalAt n p 2
-  pub exclusive : inside .exclusive ≡ totalAt n p 6
+-- the total of places
+abbrev pub totalOf : ℕ → Places → ℕ
+totalOf n p = totalAt n p 2 + writer * totalAt n p 6
 
-number-is : (n : ℕ) (p : Places) (inside : Inside) (x : Pair) → Totals n p inside
+most-readers : (s e : ℕ) → s < writer → leb (s + writer * e) 65_535 ≡ eqb e 0
+most-readers s zero l = le-leb (s + writer * 0) 65_535 (omega arith)
+most-readers s (suc e) l = lt-leb (s + writer * suc e) 65_535 (omega arith) ∙ sym (eqb·suc-zero e)
+
+most-none : (s e : ℕ) → leb (s + writer * e) 0 ≡ eqb s 0 && eqb e 0
+most-none zero zero = refl
+most-none zero (suc e) = lt-leb (0 + writer * suc e) 0 (omega arith) ∙ sym (eqb·suc-zero e)
+most-none (suc s) e = lt-leb (suc s + writer * e) 0 (omega arith) ∙ ap (λ (b : Bool). b && eqb e 0) (sym (eqb·suc-zero s))
+
+-- the total meets an event's need
+met-is : (n : ℕ) (p : Places) (event : ℕ) → n < writer → leb (totalOf n p) (mostFor event) ≡ needMet n p event
+met-is n p event l = by (eqb event 2) (eqb event 6)
+  where
+    few : totalAt n p 2 < writer
+    few = omega (arith, howMany-most (λ t. eqb (p t) 2) n)
+
+    by : (a b : Bool) → leb (totalOf n p) (cond a 65_535 (cond b 0 any))
+        ≡ cond a (not (anyInExclusive n p)) (cond b (not (anyInShared n p) && not (anyInExclusive n p)) true)
+    by true b = most-readers (totalAt n p 2) (totalAt n p 6) few ∙ sym (none-howMany (λ t. eqb (p t) 6) n)
+    by false true =
+        most-none (totalAt n p 2) (totalAt n p 6)
+        ∙ rw (none-howMany (λ t. eqb (p t) 2) n, none-howMany (λ t. eqb (p t) 6) n)
+    by false false = le-leb (totalOf n p) any (omega (arith, few, howMany-most (λ t. eqb (p t) 6) n))
+
+number-is : (n : ℕ) (p : Places) (inside : ℕ) (x : Pair) → n < writer → inside ≡ totalOf n p
     → numberBy n (p (x .thread)) inside x ≡ pairRefusal n p x
 unfolding numberBy pairRefusal
-number-is n p inside x t = rw (t .shared, t .exclusive, none-many n (λ j. eqb (p j) 2), none-many n (λ j. eqb (p j) 6))
+number-is n p inside x l e = rw (e, met-is n p (x .event) l)
 
--- a pair that fits has a thread below N
-fits-below : (n place : ℕ) (inside : Inside) (x : Pair) → numberBy n place inside x ≡ 0 → x .thread < n
+-- what a pair that fits shows: a thread below N, an event, and the place that it follows
+record Fitting (n place : ℕ) (x : Pair) : Type 0 where
+  below : x .thread < n
+  known : between 1 8 (x .event) ≡ true
+  next : isNext place (x .event) ≡ true
+
+fits-shows : (n place inside : ℕ) (x : Pair) → numberBy n place inside x ≡ 0 → Fitting n place x
 unfolding numberBy firstRefusal
-fits-below n place inside x e =
-    ltb-true (x .thread) n (second (between 1 8 (x .event)) (ltb (x .thread) n) (passed _ _ e))
+fits-shows n place inside x e =
+    let rest : ℕ = cond (leb inside (mostFor (x .event))) 0 11 in
+    let pair : Bool = between 1 8 (x .event) && ltb (x .thread) n in
+    let both = and-both (between 1 8 (x .event)) (ltb (x .thread) n) (first pair (isNext place (x .event)) rest e) in
+    record { below = ltb-true (x .thread) n (both .1); known = both .0; next = second pair (isNext place (x .event)) rest e }
   where
-    passed : (b : Bool) (r : ℕ) → cond b r 9 ≡ 0 → b ≡ true
-    passed true r q = refl
-    passed false r q = absurd (omega arith)
+    first : (a b : Bool) (r : ℕ) → cond a (cond b r 10) 9 ≡ 0 → a ≡ true
+    first true b r q = refl
+    first false b r q = absurd (omega arith)
 
-    second : (a b : Bool) → a && b ≡ true → b ≡ true
-    second true b q = q
-    second false b q = let z : false ≡ true = q in cc
+    second : (a b : Bool) (r : ℕ) → cond a (cond b r 10) 9 ≡ 0 → b ≡ true
+    second true true r q = refl
+    second true false r q = absurd (omega arith)
+    second false b r q = absurd (omega arith)
 
-totals-countable : (n : ℕ) (p : Places) (t place : ℕ) → n < 65_536 → t < n → Countable (totalAt n p place) (eqb (p t) place)
-totals-countable n p t place f l =
-    record {
-      counted = many-one n t (λ j. eqb (p j) place) l;
-      few = omega (arith, many-most n (λ j. eqb (p j) place));
-    }
+-- the total while a thread moves
+module _ (n : ℕ) (p : Places) (x : Pair) (few : n < writer) (fine : p (x .thread) ≡ 4 → ⊥) (f : Fitting n (p (x .thread)) x) where
+  takes-is : weight (placeBefore (x .event)) ≡ weight (p (x .thread))
+  takes-is =
+      ap weight
+      (sym (eqb-true (p (x .thread)) (placeBefore (x .event)) (follows (p (x .thread)) fine (x .event) (f .known) ∙ f .next)))
 
-countable : (n : ℕ) (p : Places) (inside : Inside) (t : ℕ) → Totals n p inside → n < 65_536 → t < n → CountableFrom inside (p t)
-countable n p inside t e f l =
-    record {
-      shared = subst (λ (m : ℕ). Countable m (eqb (p t) 2)) (sym (e .shared)) (totals-countable n p t 2 f l);
-      exclusive = subst (λ (m : ℕ). Countable m (eqb (p t) 6)) (sym (e .exclusive)) (totals-countable n p t 6 f l);
-    }
+  total-room : totalOf n p + weight (placeAfter (x .event)) < 2 ^ 64
+  total-room =
+      omega (
+        arith,
+        total-advanced n p x 2 (f .below),
+        total-advanced n p x 6 (f .below),
+        howMany-most (λ t. eqb (p t) 2) n,
+        howMany-most (λ t. eqb (p t) 6) n,
+        howMany-most (λ t. eqb (advanced p x t) 2) n,
+        howMany-most (λ t. eqb (advanced p x t) 6) n,
+        howMany-at (λ t. eqb (p t) 2) n (x .thread) (f .below),
+        howMany-at (λ t. eqb (p t) 6) n (x .thread) (f .below),
+      )
 
-total-step : (n : ℕ) (p : Places) (x : Pair) (place m : ℕ) → x .thread < n → m ≡ totalAt n p place
-    → m + cond (eqb (placeAfter (x .event)) place) 1 0 - cond (eqb (p (x .thread)) place) 1 0 ≡ totalAt n (advanced p x) place
-total-step n p x place m l e = omega (arith, total-advanced n p x place l)
+  total-counts : weight (placeBefore (x .event)) ≤ totalOf n p
+  total-counts =
+      omega (
+        arith,
+        takes-is,
+        howMany-at (λ t. eqb (p t) 2) n (x .thread) (f .below),
+        howMany-at (λ t. eqb (p t) 6) n (x .thread) (f .below),
+      )
+
+  total-step : totalOf n p + weight (placeAfter (x .event)) - weight (placeBefore (x .event)) ≡ totalOf n (advanced p x)
+  total-step = omega (arith, takes-is, total-advanced n p x 2 (f .below), total-advanced n p x 6 (f .below))
 
 -- ---- the places that an array holds
 
@@ -94,72 +145,50 @@ placesIn-set a x l = fun-ext (λ t. at t (eqb t (x .thread)) refl)
         getD-set-other a (x .thread) t (placeAfter (x .event)) 0 (eqb-false t (x .thread) e)
         ∙ ap (λ (b : Bool). cond b (placeAfter (x .event)) (getD a t 0)) (sym e)
 
--- ---- the pairs of the bytes from index 2 k on
-
-abbrev pub pairAt : List ℕ → ℕ → Pair
-pairAt bytes k = record { thread = getD bytes (2 * k) 0; event = getD bytes (2 * k + 1) 0 }
-
-two-more : (k : ℕ) → 2 * (k + 1) ≡ suc (suc (2 * k))
-two-more k = omega arith
-
-one-more : (k : ℕ) → 2 * k + 1 ≡ suc (2 * k)
-one-more k = omega arith
-
-pub pairs-next : (bytes : List ℕ) (k : ℕ) → k < length bytes / 2
-    → pairsOf (drop (2 * k) bytes) ≡ pairAt bytes k ∷ pairsOf (drop (2 * (k + 1)) bytes)
-unfolding pairsOf
-pairs-next bytes k l =
-    rw (two-more k, one-more k, drop-cons bytes (2 * k) 0 (omega arith), drop-cons bytes (suc (2 * k)) 0 (omega arith))
-
-short-pairs : (l : List ℕ) → length l < 2 → pairsOf l ≡ []
-unfolding pairsOf
-short-pairs [] h = refl
-short-pairs (t ∷ []) h = refl
-short-pairs (t ∷ e ∷ rest) h = absurd (omega arith)
-
-pub pairs-end : (bytes : List ℕ) (k : ℕ) → length bytes / 2 ≤ k → pairsOf (drop (2 * k) bytes) ≡ []
-pairs-end bytes k l = short-pairs (drop (2 * k) bytes) (omega (arith, length-drop (2 * k) bytes))
-
 -- ---- the loop
 
--- k pairs fit: the places and totals after them, and the reply that is left
-pub record Passed (n : ℕ) (bytes a : List ℕ) (inside : Inside) (k : ℕ) : Type 0 where
+-- k pairs fit: the places and the total after them, and the reply that is left
+pub record Passed (n : ℕ) (bytes a : List ℕ) (inside k : ℕ) : Type 0 where
   pub within : k ≤ length bytes / 2
   pub size : length a ≡ 256
-  pub totals : Totals n (placesIn a) inside
+  pub fine : (t : ℕ) → eqb (placesIn a t) 4 ≡ false
+  pub total : inside ≡ totalOf n (placesIn a)
   pub reply : historyReply n (pairsOf bytes) ≡ replyFrom n (placesIn a) k (pairsOf (drop (2 * k) bytes))
 
-none-counted : (n : ℕ) → howMany n (λ t. false) ≡ 0
-unfolding howMany
-none-counted zero = refl
-none-counted (suc n) = omega (arith, none-counted n)
+-- pair k fits: its row can be added and taken, and k + 1 pairs fit
+pub record Turned (n : ℕ) (bytes a : List ℕ) (inside k : ℕ) (row : Row) : Type 0 where
+  pub adds-fit : inside + row .adds < 2 ^ 64
+  pub takes-fit : row .takes ≤ inside + row .adds
+  pub goes-on : getD bytes (2 * k) 0 < 256 → Passed n bytes (set a (getD bytes (2 * k) 0) (row .after)) (inside + row .adds - row .takes) (k + 1)
 
-pub start : (n : ℕ) (bytes : List ℕ) → Passed n bytes (replicate 256 0) (record { shared = 0; exclusive = 0 }) 0
+-- a thread's place is never 4
+after-fine : (event : ℕ) → eqb (placeAfter event) 4 ≡ false
+after-fine event = by (eqb event 4) (eqb event 8) refl
+  where
+    by : (a b : Bool) → eqb event 4 ≡ a → eqb (cond (a || b) 0 event) 4 ≡ false
+    by true b q = refl
+    by false true q = refl
+    by false false q = q
+
+advanced-fine : (p : Places) (x : Pair) → ((t : ℕ) → eqb (p t) 4 ≡ false) → (t : ℕ) → eqb (advanced p x t) 4 ≡ false
+advanced-fine p x f t = by (eqb t (x .thread))
+  where
+    by : (b : Bool) → eqb (cond b (placeAfter (x .event)) (p t)) 4 ≡ false
+    by true = after-fine (x .event)
+    by false = f t
+
+pub start : (n : ℕ) (bytes : List ℕ) → Passed n bytes (replicate 256 0) 0 0
 start n bytes =
     record {
       within = omega arith;
       size = length-replicate {A = ℕ} 256 0;
-      totals = rw (placesIn-zeros 256) (record { shared = sym (none-counted n); exclusive = sym (none-counted n) });
+      fine = λ t. ap (λ (p : ℕ). eqb p 4) (zeros 256 t);
+      total = subst (λ (p : Places). 0 ≡ totalOf n p) (sym (placesIn-zeros 256)) (omega (arith, howMany-none (λ t. false) n (λ t l. tt)));
       reply = rw (placesIn-zeros 256) (reply-is n (pairsOf bytes));
     }
 
--- no refusal has the number 0
-refusal-counts : (r : Refusal) → eqb (numberOf r) 0 ≡ false
-refusal-counts BadSize = refl
-refusal-counts Unsound = refl
-refusal-counts NoThread = refl
-refusal-counts NoMove = refl
-refusal-counts BadTarget = refl
-refusal-counts NotInPhase = refl
-refusal-counts MutexHeld = refl
-refusal-counts BadForm = refl
-refusal-counts UnknownPair = refl
-refusal-counts NotNext = refl
-refusal-counts Occupied = refl
-refusal-counts NoRoom = refl
-
 -- the pair at k, as the loop's turn judges it
-module _ (n : ℕ) (bytes a : List ℕ) (inside : Inside) (k : ℕ) (s : Passed n bytes a inside k) (l : k < length bytes / 2) where
+module _ (n : ℕ) (few : n < writer) (bytes a : List ℕ) (inside k : ℕ) (s : Passed n bytes a inside k) (l : k < length bytes / 2) where
   abbrev x : Pair
   x = pairAt bytes k
 
@@ -174,45 +203,54 @@ module _ (n : ℕ) (bytes a : List ℕ) (inside : Inside) (k : ℕ) (s : Passed 
   reply-here =
       s .reply
       ∙ ap (replyFrom n (placesIn a) k) (pairs-next bytes k l)
-      ∙ rw (number-is n (placesIn a) inside x (s .totals))
+      ∙ rw (number-is n (placesIn a) inside x few (s .total))
 
   -- a bad pair is the answer
   pub bad-here : (v : Verdict) (r : Refusal) → v ≡ Bad r → numberIn v ≡ number
       → refused (numberOf r) k ≡ historyReply n (pairsOf bytes)
   bad-here v r w e =
       let f : numberOf r ≡ number = rw w at e in
-      sym (reply-here ∙ rw (← f, refusal-counts r))
+      sym (reply-here ∙ rw (← f, not-zero r))
 
-  -- one that fits can be counted
-  pub countable-here : (v : Verdict) → n < 65_536 → v ≡ Fits → numberIn v ≡ number → CountableFrom inside (getD a (x .thread) 0)
-  countable-here v f w e =
-      countable n (placesIn a) inside (x .thread) (s .totals) f
-      (fits-below n (getD a (x .thread) 0) inside x (sym (rw w at e)))
+  -- one that fits leads on, and its row can be added and taken
+  module _ (v : Verdict) (w : v ≡ Fits) (q : numberIn v ≡ number) (row : Row) (same : row ≡ rowOf (x .event)) where
+    zero-here : 0 ≡ number
+    zero-here = rw w at q
 
-  -- and leads on
-  pub passed-next : (v : Verdict) (after : ℕ) (inside′ : Inside) → getD bytes (2 * k) 0 < 256
-      → v ≡ Fits → numberIn v ≡ number → after ≡ placeAfter (x .event)
-      → inside′ .shared ≡ inside .shared + cond (eqb after 2) 1 0 - cond (eqb (getD a (x .thread) 0) 2) 1 0
-      → inside′ .exclusive ≡ inside .exclusive + cond (eqb after 6) 1 0 - cond (eqb (getD a (x .thread) 0) 6) 1 0
-      → Passed n bytes (set a (x .thread) after) inside′ (k + 1)
-  passed-next v after inside′ b w q f g h =
-      let e : 0 ≡ number = rw w at q in
-      let below : x .thread < n = fits-below n (getD a (x .thread) 0) inside x (sym e) in
-      let same : placesIn (set a (x .thread) after) ≡ advanced (placesIn a) x = rw f (placesIn-set a x (omega (arith, s .size))) in
-      record {
-        within = omega arith;
-        size = length-set a (x .thread) after ∙ s .size;
-        totals =
-            rw same
-            (record {
-              shared = g ∙ rw f (total-step n (placesIn a) x 2 (inside .shared) below (s .totals .shared));
-              exclusive = h ∙ rw f (total-step n (placesIn a) x 6 (inside .exclusive) below (s .totals .exclusive));
-            });
-        reply = reply-here ∙ rw (← e, same, add-one k);
-      }
+    fitting : Fitting n (getD a (x .thread) 0) x
+    fitting = fits-shows n (getD a (x .thread) 0) inside x (sym zero-here)
+
+    fine-here : placesIn a (x .thread) ≡ 4 → ⊥
+    fine-here = eqb-false (placesIn a (x .thread)) 4 (s .fine (x .thread))
+
+    adds-here : inside + row .adds < 2 ^ 64
+    unfolding rowOf
+    adds-here = rw (same, s .total) (total-room n (placesIn a) x few fine-here fitting)
+
+    takes-here : row .takes ≤ inside + row .adds
+    unfolding rowOf
+    takes-here =
+        let m : weight (placeBefore (x .event)) ≤ totalOf n (placesIn a) = total-counts n (placesIn a) x few fine-here fitting in
+        rw same (omega (arith, s .total))
+
+    passed-next : getD bytes (2 * k) 0 < 256 → Passed n bytes (set a (x .thread) (row .after)) (inside + row .adds - row .takes) (k + 1)
+    unfolding rowOf
+    passed-next b =
+        let moved : placesIn (set a (x .thread) (row .after)) ≡ advanced (placesIn a) x = rw same (placesIn-set a x (omega (arith, s .size))) in
+        let step : inside + row .adds - row .takes ≡ totalOf n (advanced (placesIn a) x) = rw (same, s .total) (total-step n (placesIn a) x few fine-here fitting) in
+        record {
+          within = omega arith;
+          size = length-set a (x .thread) (row .after) ∙ s .size;
+          fine = λ t. ap (λ (p : Places). eqb (p t) 4) moved ∙ advanced-fine (placesIn a) x (s .fine) t;
+          total = step ∙ ap (totalOf n) (sym moved);
+          reply = reply-here ∙ rw (← zero-here, moved, add-one k);
+        }
+
+    pub turned : Turned n bytes a inside k row
+    turned = record { adds-fit = adds-here; takes-fit = takes-here; goes-on = passed-next }
 
 -- past the last pair
-pub passed-all : (n : ℕ) (bytes a : List ℕ) (inside : Inside) (k : ℕ) → Passed n bytes a inside k → length bytes / 2 ≤ k
+pub passed-all : (n : ℕ) (bytes a : List ℕ) (inside k : ℕ) → Passed n bytes a inside k → length bytes / 2 ≤ k
     → done (length bytes / 2) ≡ historyReply n (pairsOf bytes)
 unfolding replyFrom
 passed-all n bytes a inside k s l =

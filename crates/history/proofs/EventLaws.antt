@@ -2,7 +2,7 @@
 -- Assumes nothing.
 use Prim.Native.Nat.{ℕ, zero, suc}
 use mathlib.Core.Path.{_≡_, refl, ap, _∙_}
-use mathlib.Core.Bool.{Bool, true, false, _&&_}
+use mathlib.Core.Bool.{Bool, true, false, _&&_, and-false}
 use native.Mathlib.Omega.{arith}
 use borrow.Author.Tests.{lt-leb}
 use lib.Dec.{leb}
@@ -11,10 +11,6 @@ use Rattle.definitions.specs.declared.Event.the-variants.{EnterSharedCall, Ente
 use Rattle.definitions.specs.declared.MaybeEvent.the-variants.{Known, Unknown}
 use Rattle.definitions.specs.Answers.{codeOf, eventOf}
 use Rattle.definitions.specs.Threads.{between}
-
-pub and-false : (a : Bool) → a && false ≡ false
-and-false true = refl
-and-false false = refl
 
 -- the code of a known event
 pub known-code : (code : ℕ) (e : Event) → Known e ≡ eventOf code → code ≡ codeOf e
@@ -41,6 +37,12 @@ code-known EnterExclusiveReturn = refl
 code-known LeaveExclusiveCall = refl
 code-known LeaveExclusiveReturn = refl
 
+-- a code past the last is not
+pub past-last : (n : ℕ) → between 1 8 (suc (suc (suc (suc (suc (suc (suc (suc (suc n))))))))) ≡ false
+past-last n =
+    let code : ℕ = suc (suc (suc (suc (suc (suc (suc (suc (suc n)))))))) in
+    ap (λ (b : Bool). leb 1 code && b) (lt-leb code 8 (omega arith)) ∙ and-false (leb 1 code)
+
 -- no other code is
 pub unknown-code : (code : ℕ) → Unknown ≡ eventOf code → between 1 8 code ≡ false
 unfolding eventOf
@@ -53,6 +55,19 @@ unknown-code (suc (suc (suc (suc (suc zero))))) q = cc
 unknown-code (suc (suc (suc (suc (suc (suc zero)))))) q = cc
 unknown-code (suc (suc (suc (suc (suc (suc (suc zero))))))) q = cc
 unknown-code (suc (suc (suc (suc (suc (suc (suc (suc zero)))))))) q = cc
-unknown-code (suc (suc (suc (suc (suc (suc (suc (suc (suc n))))))))) q =
-    let code : ℕ = suc (suc (suc (suc (suc (suc (suc (suc (suc n)))))))) in
-    ap (λ (b : Bool). leb 1 code && b) (lt-leb code 8 (omega arith)) ∙ and-false (leb 1 code)
+unknown-code (suc (suc (suc (suc (suc (suc (suc (suc (suc n))))))))) q = past-last n
+
+-- the codes of the eight events ruled out, one by one
+pub no-event : (code : ℕ) → (code ≡ 1 → ⊥) → (code ≡ 2 → ⊥) → (code ≡ 3 → ⊥) → (code ≡ 4 → ⊥) → (code ≡ 5 → ⊥) → (code ≡ 6 → ⊥)
+    → (code ≡ 7 → ⊥) → (code ≡ 8 → ⊥) → Unknown ≡ eventOf code
+unfolding eventOf
+no-event zero a b c d e f g h = refl
+no-event (suc zero) a b c d e f g h = absurd (a refl)
+no-event (suc (suc zero)) a b c d e f g h = absurd (b refl)
+no-event (suc (suc (suc zero))) a b c d e f g h = absurd (c refl)
+no-event (suc (suc (suc (suc zero)))) a b c d e f g h = absurd (d refl)
+no-event (suc (suc (suc (suc (suc zero))))) a b c d e f g h = absurd (e refl)
+no-event (suc (suc (suc (suc (suc (suc zero)))))) a b c d e f g h = absurd (f refl)
+no-event (suc (suc (suc (suc (suc (suc (suc zero))))))) a b c d e f g h = absurd (g refl)
+no-event (suc (suc (suc (suc (suc (suc (suc (suc zero)))))))) a b c d e f g h = absurd (h refl)
+no-event (suc (suc (suc (suc (suc (suc (suc (suc (suc n))))))))) a b c d e f g h = refl

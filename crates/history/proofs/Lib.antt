@@ -1,3 +1,4 @@
 pub mod EventLaws
+pub mod RowLaws
 pub mod PlainLaws
 pub mod CheckLaws

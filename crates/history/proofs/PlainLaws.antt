@@ -1,18 +1,17 @@
 -- The plain lock read pair by pair: `permitted` and the check's reply, which speak of prefixes, as recursions over the list.
 -- Assumes nothing.
-use Prim.Native.Nat.{ℕ, zero, suc, _+_, _≤_, _<_}
+use Prim.Native.Nat.{ℕ, zero, suc, _+_, _<_}
 use mathlib.Core.Path.{_≡_, refl, sym, ap, _∙_}
 use mathlib.Core.Bool.{Bool, true, false, cond, not, _&&_, _||_, and-true, and-assoc, or-false, or-assoc}
 use mathlib.Core.List.{List, [], _∷_}
-use native.Mathlib.Nat.{add-zero, add-suc, suc-add}
-use native.Mathlib.Omega.{arith}
+use native.Mathlib.Nat.{add-zero, zero-add, add-suc, suc-add}
 use borrow.Author.Tests.{eq-eqb, ne-eqb}
 use lib.Dec.{eqb}
 use lib.ListN.{length, getD, take}
 use Rattle.definitions.specs.Answers.{Reply, done, refused}
 use Rattle.definitions.specs.Threads.{every, some, howMany, first}
 use Rattle.definitions.specs.PlainLock.{Pair, Places, atStart, placeAfter, advanced, placesAfter, pairRefusal, refusalAt, permitted, firstBad, historyReply}
-use Rattle.theory.proofs.Quantifiers.{none-howMany, howMany-most, howMany-at, howMany-change}
+use Rattle.theory.proofs.Quantifiers.{howMany-change}
 
 -- ---- the tests over the indices below n, from the front
 
@@ -101,27 +100,14 @@ reply-from n p k (x ∷ xs) =
     ∙ reply-step ok (fitsFrom n q xs) k (length xs) (badFrom n q xs) at
     ∙ ap (λ (r : Reply). cond ok r (refused (pairRefusal n p x) k)) (reply-from n q (suc k) xs)
 
-zero-plus : (n : ℕ) → 0 + n ≡ n
-zero-plus n = omega arith
-
 pub reply-is : (n : ℕ) (h : List Pair) → historyReply n h ≡ replyFrom n atStart 0 h
 unfolding historyReply permitted firstBad refusalAt
 reply-is n h =
-    ap (λ (k : ℕ). cond (fitsFrom n atStart h) (done k) (refused (refusalFrom n atStart h (badFrom n atStart h)) (badFrom n atStart h))) (sym (zero-plus (length h)))
-    ∙ ap (λ (k : ℕ). cond (fitsFrom n atStart h) (done (0 + length h)) (refused (refusalFrom n atStart h (badFrom n atStart h)) k)) (sym (zero-plus (badFrom n atStart h)))
+    ap (λ (k : ℕ). cond (fitsFrom n atStart h) (done k) (refused (refusalFrom n atStart h (badFrom n atStart h)) (badFrom n atStart h))) (sym (zero-add (length h)))
+    ∙ ap (λ (k : ℕ). cond (fitsFrom n atStart h) (done (0 + length h)) (refused (refusalFrom n atStart h (badFrom n atStart h)) k)) (sym (zero-add (badFrom n atStart h)))
     ∙ reply-from n atStart 0 h
 
 -- ---- how many threads, while one moves
-
--- the laws of the crate theory, by the number of threads first
-pub none-many : (n : ℕ) (f : ℕ → Bool) → not (some n f) ≡ eqb (howMany n f) 0
-none-many n f = none-howMany f n
-
-pub many-most : (n : ℕ) (f : ℕ → Bool) → howMany n f ≤ n
-many-most n f = howMany-most f n
-
-pub many-one : (n t : ℕ) (f : ℕ → Bool) → t < n → cond (f t) 1 0 ≤ howMany n f
-many-one n t f l = howMany-at f n t l
 
 -- how many of the threads below n are at a place
 abbrev pub totalAt : ℕ → Places → ℕ → ℕ

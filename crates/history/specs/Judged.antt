@@ -1,44 +1,59 @@
--- A pair judged by its thread's place and by how many threads are in shared and in exclusive: what the check keeps instead of the pairs before.
+-- A pair judged by its thread's place and by the total of those inside: what the check keeps instead of the pairs before.
 -- That this is `pairRefusal` of the plain lock is proved in proofs/CheckLaws. Assumes nothing.
-use Prim.Native.Nat.{ℕ, _≤_, _<_}
-use mathlib.Core.Bool.{Bool, true, cond, _&&_}
+use Prim.Native.Nat.{ℕ, _+_, _*_}
+use mathlib.Core.Bool.{cond, _&&_}
 use mathlib.Core.List.{[], _∷_}
-use lib.Dec.{ltb, eqb}
+use lib.Dec.{leb, ltb, eqb}
+use lib.ListN.{getD}
 use Rattle.definitions.specs.Bounds.{firstEvent, lastEvent}
 use Rattle.definitions.specs.Answers.{firstRefusal, numberOf}
 use Rattle.definitions.specs.Threads.{between}
-use Rattle.definitions.specs.PlainLock.{Pair, isNext}
-use Rattle.history.specs.declared.Inside.{Inside}
+use Rattle.definitions.specs.PlainLock.{Pair, isNext, placeAfter}
+use Rattle.history.specs.declared.Row.{Row}
 use Rattle.history.specs.declared.Verdict.{Verdict}
 use Rattle.history.specs.declared.Verdict.the-variants.{Fits, Bad}
 
--- "Event 2 needs nobody in exclusive. Event 6 needs nobody in either. Nothing else is forbidden."
-abbrev pub needMetBy : Inside → ℕ → Bool
-needMetBy inside event =
-    cond (eqb event 2)
-    (eqb (inside .exclusive) 0)
-    (cond (eqb event 6) (eqb (inside .shared) 0 && eqb (inside .exclusive) 0) true)
+-- what a thread in exclusive counts, more than there are threads; one in shared counts 1
+abbrev pub writer : ℕ
+writer = 65_536
+
+-- what a thread at a place counts in the total
+abbrev pub weight : ℕ → ℕ
+weight place = cond (eqb place 2) 1 0 + writer * cond (eqb place 6) 1 0
+
+-- the largest number that a total is kept in
+abbrev pub any : ℕ
+any = 18_446_744_073_709_551_615
+
+-- the largest total that meets an event's need: "Event 2 needs nobody in exclusive. Event 6 needs nobody in either. Nothing else is forbidden."
+abbrev pub mostFor : ℕ → ℕ
+mostFor event = cond (eqb event 2) 65_535 (cond (eqb event 6) 0 any)
+
+-- the place that an event follows: "Each thread goes round 1, 2, 3, 4 or 5, 6, 7, 8."; 256, which no byte is, for no event
+unfoldable pub placeBefore : ℕ → ℕ
+placeBefore event = getD (256 ∷ 0 ∷ 1 ∷ 2 ∷ 3 ∷ 0 ∷ 5 ∷ 6 ∷ 7 ∷ []) event 256
+
+-- what an event asks and does
+unfoldable pub rowOf : ℕ → Row
+rowOf event =
+    record {
+      before = placeBefore event;
+      most = mostFor event;
+      after = placeAfter event;
+      adds = weight (placeAfter event);
+      takes = weight (placeBefore event);
+    }
 
 -- the refusals 9 to 11 of a pair, in their order, or 0
-unfoldable pub numberBy : ℕ → ℕ → Inside → Pair → ℕ
+unfoldable pub numberBy : ℕ → ℕ → ℕ → Pair → ℕ
 numberBy n place inside x =
     firstRefusal
     (record { number = 9; passed = between firstEvent lastEvent (x .event) && ltb (x .thread) n }
     ∷ record { number = 10; passed = isNext place (x .event) }
-    ∷ record { number = 11; passed = needMetBy inside (x .event) }
+    ∷ record { number = 11; passed = leb inside (mostFor (x .event)) }
     ∷ [])
 
 -- the number that a verdict stands for, 0 where the pair fits
 abbrev pub numberIn : Verdict → ℕ
 numberIn Fits = 0
 numberIn (Bad r) = numberOf r
-
--- a total, of which the thread that moves is one if `was` says so, can be counted on
-pub record Countable (total : ℕ) (was : Bool) : Type 0 where
-  pub counted : cond was 1 0 ≤ total
-  pub few : total < 65_536
-
--- both totals can, for a thread that leaves the place `before`
-pub record CountableFrom (inside : Inside) (before : ℕ) : Type 0 where
-  pub shared : Countable (inside .shared) (eqb before 2)
-  pub exclusive : Countable (inside .exclusive) (eqb before 6)

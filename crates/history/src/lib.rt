@@ -1,11 +1,12 @@
 // The check of a history: one pass over its pairs, which keeps each thread's place in its round and how many threads are in shared and in exclusive.
 ghost use mathlib.Core.Path.{_≡_};
-ghost use mathlib.Core.Bool.{cond};
-ghost use Prim.Native.Nat.{_+_, _-_};
+ghost use mathlib.Core.Bool.{false, cond};
 ghost use lib.Dec.{eqb};
-ghost use Rattle.definitions.specs.Answers.{codeOf, replyOfAnswer};
-ghost use Rattle.definitions.specs.PlainLock.{isNext, placeAfter, pairsOf, historyReply, checkReply};
-ghost use Rattle.history.specs.Judged.{needMetBy, numberBy, numberIn, Countable, CountableFrom};
+ghost use Rattle.definitions.specs.Answers.{numberOf, replyOfAnswer};
+ghost use Rattle.definitions.specs.Bounds.{firstEvent, lastEvent};
+ghost use Rattle.definitions.specs.Threads.{between};
+ghost use Rattle.definitions.specs.PlainLock.{pairsOf, historyReply, checkReply};
+ghost use Rattle.history.specs.Judged.{rowOf, numberBy, numberIn};
 use definitions::Answer;
 use definitions::Event;
 use definitions::MaybeEvent;
@@ -16,10 +17,21 @@ pub const MOST_THREADS: u16 = 200;
 // The longest history, in bytes.
 pub const MOST_HISTORY: usize = 60_000;
 
-// How many threads are in shared, and in exclusive.
-pub struct Inside {
-    pub shared: usize,
-    pub exclusive: usize,
+// The total of those inside: a thread in shared adds 1 to it, one in exclusive this.
+const WRITER: usize = 65_536;
+
+// The largest total with nobody in exclusive, and the largest of all.
+const READERS: usize = 65_535;
+
+const ANY: usize = 18_446_744_073_709_551_615;
+
+// What an event asks and does: the place that it follows, 256 for a code that is no event; the largest total that it can meet; the thread's place after it, and what it adds to the total and takes from it.
+pub struct Row {
+    pub before: u16,
+    pub most: usize,
+    pub after: u8,
+    pub adds: usize,
+    pub takes: usize,
 }
 
 // What a pair gets after those before it.
@@ -28,78 +40,62 @@ pub enum Verdict {
     Bad(Refusal),
 }
 
-// Whether an event follows the thread's place.
-fn is_next(place: u8, code: u8) -> bool
-    ensures { λ r. ⌜ r ≡ isNext place code ⌝ }
+fn values(before: u16, most: usize, after: u8, adds: usize, takes: usize) -> Row
+    ensures { λ r. ⌜ r ≡ record { before = before; most = most; after = after; adds = adds; takes = takes } ⌝ }
 {
-    if place == 0 {
-        (code == 1) | (code == 5)
-    } else {
-        code as u16 == place as u16 + 1
+    Row {
+        before,
+        most,
+        after,
+        adds,
+        takes,
     }
 }
 
-// Event 2 needs nobody in exclusive, event 6 nobody in either.
-fn need_met(inside: Inside, event: Event) -> bool
-    ensures { λ r. ⌜ r ≡ needMetBy inside (codeOf event) ⌝ }
+// Rows of constants: they are compiled to tables, where comparisons are compiled to branches that are often mispredicted.
+fn row_of(code: u8) -> Row
+    ensures { λ r. ⌜ r ≡ rowOf code ⌝ }
 {
-    match event {
-        Event::EnterSharedReturn => inside.exclusive == 0,
-        Event::EnterExclusiveReturn => (inside.shared == 0) & (inside.exclusive == 0),
-        Event::EnterSharedCall => true,
-        Event::LeaveSharedCall => true,
-        Event::LeaveSharedReturn => true,
-        Event::EnterExclusiveCall => true,
-        Event::LeaveExclusiveCall => true,
-        Event::LeaveExclusiveReturn => true,
+    match code {
+        1 => values(0, ANY, 1, 0, 0),
+        2 => values(1, READERS, 2, 1, 0),
+        3 => values(2, ANY, 3, 0, 1),
+        4 => values(3, ANY, 0, 0, 0),
+        5 => values(0, ANY, 5, 0, 0),
+        6 => values(5, 0, 6, WRITER, 0),
+        7 => values(6, ANY, 7, 0, WRITER),
+        8 => values(7, ANY, 0, 0, 0),
+        _ => values(256, ANY, code, 0, 0),
     }
 }
 
-// Judges a pair by its thread's place and by who is inside.
-fn judge(threads: u16, thread: u8, code: u8, place: u8, inside: Inside) -> Verdict
-    ensures { λ r. ⌜ numberIn r ≡ numberBy threads place inside (record { thread = thread; event = code }) ⌝ }
+// The refusal of a code that doesn't follow its thread's place.
+fn not_next(code: u8) -> Refusal
+    ensures { λ r. ⌜ numberOf r ≡ cond (between firstEvent lastEvent code) 10 9 ⌝ }
 {
     let found = Event::from_code(code);
-    let MaybeEvent::Known(event) = found else {
-        return Verdict::Bad(Refusal::UnknownPair);
-    };
+    if let MaybeEvent::Unknown = found {
+        return Refusal::UnknownPair;
+    }
+    Refusal::NotNext
+}
+
+// Judges a pair by its event's row, its thread's place and the total of those inside.
+fn judge(threads: u16, thread: u8, code: u8, row: Row, place: u8, inside: usize) -> Verdict
+    requires { ⌜ row ≡ rowOf code ⌝ }
+    requires { ⌜ eqb place 4 ≡ false ⌝ }
+    ensures { λ r. ⌜ numberIn r ≡ numberBy threads place inside (record { thread = thread; event = code }) ⌝ }
+{
     if threads <= thread as u16 {
         return Verdict::Bad(Refusal::UnknownPair);
     }
-    if !is_next(place, code) {
-        return Verdict::Bad(Refusal::NotNext);
+    if place as u16 != row.before {
+        return Verdict::Bad(not_next(code));
     }
-    if !need_met(inside, event) {
+    if row.most < inside {
         return Verdict::Bad(Refusal::Occupied);
     }
     Verdict::Fits
-}
-
-// A thread's place is its last event's code, 0 after a 4 or 8.
-fn place_after(code: u8) -> u8
-    ensures { λ r. ⌜ r ≡ placeAfter code ⌝ }
-{
-    if (code == 4) | (code == 8) { 0 } else { code }
-}
-
-// A total after one thread moved: whether it was counted, and whether it is now.
-fn total_after(total: usize, was: bool, is: bool) -> usize
-    requires { ⌜ Countable total was ⌝ }
-    ensures { λ r. ⌜ r ≡ total + cond is 1 0 - cond was 1 0 ⌝ }
-{
-    total + is as usize - was as usize
-}
-
-// The totals after a thread went from one place to another.
-fn inside_after(inside: Inside, before: u8, after: u8) -> Inside
-    requires { ⌜ CountableFrom inside before ⌝ }
-    ensures { λ r. ⌜ r .shared ≡ inside .shared + cond (eqb after 2) 1 0 - cond (eqb before 2) 1 0 ⌝ }
-    ensures { λ r. ⌜ r .exclusive ≡ inside .exclusive + cond (eqb after 6) 1 0 - cond (eqb before 6) 1 0 ⌝ }
-{
-    Inside {
-        shared: total_after(inside.shared, before == 2, after == 2),
-        exclusive: total_after(inside.exclusive, before == 6, after == 6),
-    }
 }
 
 // One pass. Any byte is an index of the 256 places, so a thread is looked up before it is judged; those below N are the only ones written.
@@ -107,10 +103,7 @@ fn check_pairs(threads: u16, history: &[u8]) -> Answer
     ensures { λ r. ⌜ replyOfAnswer r ≡ historyReply threads (pairsOf (now (history .entry))) ⌝ }
 {
     let mut places = [0u8; 256];
-    let mut inside = Inside {
-        shared: 0,
-        exclusive: 0,
-    };
+    let mut inside: usize = 0;
     let events = history.len() / 2;
     let mut k: usize = 0;
     while k < events {
@@ -119,13 +112,13 @@ fn check_pairs(threads: u16, history: &[u8]) -> Answer
         let code = history[at + 1];
         let t = thread as usize;
         let before = places[t];
-        let verdict = judge(threads, thread, code, before, inside);
+        let row = row_of(code);
+        let verdict = judge(threads, thread, code, row, before, inside);
         if let Verdict::Bad(refusal) = verdict {
             return Answer::Refused(refusal, k);
         }
-        let after = place_after(code);
-        places[t] = after;
-        inside = inside_after(inside, before, after);
+        places[t] = row.after;
+        inside = inside + row.adds - row.takes;
         k += 1;
     }
     Answer::Done(events)

@@ -3,7 +3,7 @@
 use Prim.Native.Nat.{ℕ, zero, suc, _+_, _*_, _/_, _≤_, _<_}
 use mathlib.Core.Path.{_≡_, refl, sym, ap, _∙_}
 use mathlib.Core.List.{List, [], _++_, append-assoc, append-nil}
-use native.Mathlib.Nat.{zero-add}
+use native.Mathlib.Nat.{add-mul}
 use native.Mathlib.Omega.{arith}
 use lib.ListN.{length, getD, drop, length-append}
 use Rattle.definitions.specs.Table.{filled}
@@ -11,9 +11,11 @@ use Rattle.definitions.specs.Moves.{Request}
 use Rattle.definitions.specs.PlainLock.{pairsOf}
 use Rattle.definitions.specs.Plan.{planOf, plan, planned, bytesOf}
 use Rattle.theory.proofs.Lengths.{bytes-length}
-use Rattle.history.proofs.CheckLaws.{pairAt, pairs-next, pairs-end}
-use Rattle.plan.specs.Written.{movesOf, placed, Wrote}
-use Rattle.plan.proofs.PlanLaws.{plan-length, sent-both, sent-next, sent-length, wrote-none}
+use Rattle.theory.specs.Put.{Put}
+use Rattle.theory.proofs.Putting.{none, filled-up}
+use Rattle.theory.proofs.Pairs.{pairAt, pairs-next, pairs-end}
+use Rattle.plan.specs.Written.{movesOf}
+use Rattle.plan.proofs.PlanLaws.{plan-length, sent-both, sent-next, sent-length}
 
 -- ---- the plan of the pairs from index k on
 
@@ -31,46 +33,60 @@ from-end n bytes k l = ap (plan n) (pairs-end bytes k l)
 
 -- ---- counted
 
-pub moves-few : (n event : ℕ) → n ≤ 200 → movesOf n event ≤ 402
+pub moves-most : (n event most : ℕ) → 2 * n + 2 ≤ most → 3 ≤ most → movesOf n event ≤ most
 unfolding movesOf
-moves-few n zero h = omega arith
-moves-few n (suc zero) h = omega arith
-moves-few n (suc (suc zero)) h = omega arith
-moves-few n (suc (suc (suc zero))) h = omega arith
-moves-few n (suc (suc (suc (suc zero)))) h = omega arith
-moves-few n (suc (suc (suc (suc (suc zero))))) h = omega arith
-moves-few n (suc (suc (suc (suc (suc (suc zero)))))) h = omega arith
-moves-few n (suc (suc (suc (suc (suc (suc (suc zero))))))) h = omega arith
-moves-few n (suc (suc (suc (suc (suc (suc (suc (suc zero)))))))) h = omega arith
-moves-few n (suc (suc (suc (suc (suc (suc (suc (suc (suc event))))))))) h = omega arith
+moves-most n zero most h l = omega arith
+moves-most n (suc zero) most h l = omega arith
+moves-most n (suc (suc zero)) most h l = omega arith
+moves-most n (suc (suc (suc zero))) most h l = omega arith
+moves-most n (suc (suc (suc (suc zero)))) most h l = omega arith
+moves-most n (suc (suc (suc (suc (suc zero))))) most h l = omega arith
+moves-most n (suc (suc (suc (suc (suc (suc zero)))))) most h l = omega arith
+moves-most n (suc (suc (suc (suc (suc (suc (suc zero))))))) most h l = omega arith
+moves-most n (suc (suc (suc (suc (suc (suc (suc (suc zero)))))))) most h l = omega arith
+moves-most n (suc (suc (suc (suc (suc (suc (suc (suc (suc event))))))))) most h l = omega arith
 
--- k pairs are counted
-pub record Counting (n : ℕ) (bytes : List ℕ) (k moves : ℕ) : Type 0 where
+pub moves-few : (n event : ℕ) → n ≤ 200 → movesOf n event ≤ 402
+moves-few n event h = moves-most n event 402 (omega arith) (omega arith)
+
+-- k pairs are counted: the moves made once, and those made for each thread
+pub record Counting (n : ℕ) (bytes : List ℕ) (k once each : ℕ) : Type 0 where
   pub within : k ≤ length bytes / 2
-  pub total : moves + length (planFrom n bytes k) ≡ length (planned n bytes)
-  pub few : moves ≤ 402 * k
+  pub total : once + each * n + length (planFrom n bytes k) ≡ length (planned n bytes)
+  pub few : once + each * n ≤ 402 * k
+  pub shares : once + each ≤ 4 * k
 
-pub counting-none : (n : ℕ) (bytes : List ℕ) → Counting n bytes 0 0
-counting-none n bytes = record { within = omega arith; total = zero-add (length (planned n bytes)); few = omega arith }
+pub counting-none : (n : ℕ) (bytes : List ℕ) → Counting n bytes 0 0 0
+counting-none n bytes =
+    record { within = omega arith; total = omega arith; few = omega arith; shares = omega arith }
 
-pub counting-more : (n : ℕ) (bytes : List ℕ) (k moves more : ℕ) → n ≤ 200 → k < length bytes / 2
-    → Counting n bytes k moves → more ≡ movesOf n (getD bytes (2 * k + 1) 0) → Counting n bytes (k + 1) (moves + more)
-counting-more n bytes k moves more h l a e =
+-- the shares of an event are small
+pub share-small : (once each event : ℕ) → ((m : ℕ) → once + each * m ≡ movesOf m event) → once + each ≤ 4
+share-small once each event f = omega (arith, f 1, moves-most 1 event 4 (omega arith) (omega arith))
+
+pub counting-more : (n : ℕ) (bytes : List ℕ) (k once each once′ each′ : ℕ) → n ≤ 200 → k < length bytes / 2
+    → Counting n bytes k once each → ((m : ℕ) → once′ + each′ * m ≡ movesOf m (getD bytes (2 * k + 1) 0))
+    → Counting n bytes (k + 1) (once + once′) (each + each′)
+counting-more n bytes k once each once′ each′ h l a f =
     record {
       within = omega arith;
       total =
           omega (
             arith,
             a .total,
+            f n,
+            add-mul each each′ n,
             plan-length n (pairAt bytes k),
             length-append (planOf n (pairAt bytes k)) (planFrom n bytes (k + 1)),
             ap length (from-next n bytes k l),
           );
-      few = omega (arith, moves-few n (getD bytes (2 * k + 1) 0) h);
+      few = omega (arith, f n, add-mul each each′ n, moves-few n (getD bytes (2 * k + 1) 0) h);
+      shares = omega (arith, a .shares, share-small once′ each′ (getD bytes (2 * k + 1) 0) f);
     }
 
-pub counting-all : (n : ℕ) (bytes : List ℕ) (k moves : ℕ) → length bytes / 2 ≤ k → Counting n bytes k moves → moves ≡ length (planned n bytes)
-counting-all n bytes k moves l a = omega (arith, a .total, ap length (from-end n bytes k l))
+pub counting-all : (n : ℕ) (bytes : List ℕ) (k once each : ℕ) → length bytes / 2 ≤ k → Counting n bytes k once each
+    → once + each * n ≡ length (planned n bytes)
+counting-all n bytes k once each l a = omega (arith, a .total, ap length (from-end n bytes k l))
 
 -- ---- written
 
@@ -78,25 +94,21 @@ counting-all n bytes k moves l a = omega (arith, a .total, ap length (from-end n
 pub record Writing (n : ℕ) (bytes out : List ℕ) (k : ℕ) (left : List ℕ) (next : ℕ) : Type 0 where
   pub within : k ≤ length bytes / 2
   pub sent : List Request
-  pub wrote : Wrote out 0 (bytesOf sent) left next
+  pub wrote : Put out 0 (bytesOf sent) left next
   pub rest : planned n bytes ≡ sent ++ planFrom n bytes k
   pub size : length left ≡ length out
 
 module _ (n : ℕ) (bytes out : List ℕ) (fits : length (bytesOf (planned n bytes)) ≤ length out) where
   pub writing-none : Writing n bytes out 0 out 0
   unfolding bytesOf
-  writing-none = record { within = omega arith; sent = []; wrote = wrote-none out 0; rest = refl; size = refl }
+  writing-none = record { within = omega arith; sent = []; wrote = none out 0; rest = refl; size = refl }
 
   module _ (k : ℕ) (left : List ℕ) (next : ℕ) (a : Writing n bytes out k left next) where
     pub writing-end : length bytes / 2 ≤ k → left ≡ filled out (bytesOf (planned n bytes))
-    unfolding placed
     writing-end l =
         let whole : a .sent ≡ planned n bytes =
         sym (a .rest ∙ ap (λ (r : List Request). a .sent ++ r) (from-end n bytes k l) ∙ append-nil (a .sent)) in
-        let all : List ℕ = bytesOf (planned n bytes) in
-        a .wrote .bytes
-        ∙ ap (λ (r : List Request). placed out 0 (bytesOf r)) whole
-        ∙ ap (λ (m : ℕ). all ++ drop m out) (zero-add (length all))
+        filled-up (a .wrote) ∙ ap (λ (r : List Request). filled out (bytesOf r)) whole
 
     module _ (l : k < length bytes / 2) where
       rest-length : length (a .sent) + (movesOf n (getD bytes (2 * k + 1) 0) + length (planFrom n bytes (k + 1))) ≡ length (planned n bytes)
@@ -114,13 +126,13 @@ module _ (n : ℕ) (bytes out : List ℕ) (fits : length (bytesOf (planned n byt
       writing-room =
           omega (arith, rest-length, a .size, sent-next out 0 (a .sent) left next (a .wrote), bytes-length (planned n bytes))
 
-      pub writing-more : (left′ : List ℕ) (next′ : ℕ) → Wrote left next (bytesOf (planOf n (pairAt bytes k))) left′ next′
+      pub writing-more : (left′ : List ℕ) (next′ : ℕ) → Put left next (bytesOf (planOf n (pairAt bytes k))) left′ next′
           → Writing n bytes out (k + 1) left′ next′
       writing-more left′ next′ w =
           let x : List Request = planOf n (pairAt bytes k) in
           let room : 3 * (length (a .sent) + length x) ≤ length out =
           omega (arith, rest-length, plan-length n (pairAt bytes k), bytes-length (planned n bytes)) in
-          let w′ : Wrote out 0 (bytesOf (a .sent ++ x)) left′ next′ =
+          let w′ : Put out 0 (bytesOf (a .sent ++ x)) left′ next′ =
           sent-both out 0 (a .sent) x left left′ next next′ (omega arith) (a .wrote) w in
           record {
             within = omega arith;

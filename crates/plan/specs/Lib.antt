@@ -1,2 +1,2 @@
--- What the plan's writers promise: how many moves an event takes, and bytes placed in an output.
+-- What the plan's writers promise: how many moves an event takes, and the requests that they repeat.
 pub mod Written

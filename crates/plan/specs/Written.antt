@@ -1,9 +1,9 @@
--- How many moves an event takes, the requests that the writers repeat, and bytes placed in an output at an index.
+-- How many moves an event takes, and the requests that the writers repeat.
 -- That `movesOf` is the length of the event's plan is proved in proofs/PlanLaws. Assumes nothing.
 use Prim.Native.Nat.{ℕ, _+_, _*_, _/_, _≤_}
 use mathlib.Core.Path.{_≡_}
-use mathlib.Core.List.{List, [], _∷_, _++_}
-use lib.ListN.{length, getD, take, drop}
+use mathlib.Core.List.{List, [], _∷_}
+use lib.ListN.{length, getD}
 use Rattle.definitions.specs.Threads.{gather}
 use Rattle.definitions.specs.Moves.{Request, go, setMove, clearMove}
 use Rattle.definitions.specs.Plan.{planned}
@@ -27,15 +27,6 @@ setsAndGoes i n = gather n (λ t. request i setMove t ∷ request i go 0 ∷ [])
 -- "clear each t from 0 upward"
 abbrev pub clears : ℕ → ℕ → List Request
 clears i n = gather n (λ t. request i clearMove t ∷ [])
-
--- an output with the bytes at an index replaced
-unfoldable pub placed : List ℕ → ℕ → List ℕ → List ℕ
-placed out at written = take at out ++ written ++ drop (at + length written) out
-
--- bytes were placed, and nothing else changed; `after` is the index behind them
-pub record Wrote (out : List ℕ) (at : ℕ) (written left : List ℕ) (after : ℕ) : Type 0 where
-  pub bytes : left ≡ placed out at written
-  pub next : after ≡ at + length written
 
 -- what the check's answer shows of a history: N, and the number of its events
 pub record Checked (n : ℕ) (bytes : List ℕ) (events : ℕ) : Type 0 where

@@ -1,12 +1,13 @@
 // The plan for a history: the check, then the moves counted, then the triples written event by event.
 ghost use mathlib.Core.Path.{_≡_};
 ghost use mathlib.Core.List.{[], _∷_};
-ghost use Prim.Native.Nat.{_+_, _*_, _≤_};
+ghost use Prim.Native.Nat.{ℕ, _+_, _*_, _≤_};
 ghost use lib.ListN.{length};
 ghost use Rattle.definitions.specs.Answers.{replyOfAnswer};
 ghost use Rattle.definitions.specs.Table.{filled};
 ghost use Rattle.definitions.specs.Plan.{planOf, bytesOf, planned, planReply, planOutput};
-ghost use Rattle.plan.specs.Written.{movesOf, request, goes, setsAndGoes, clears, Wrote, Checked, Counted};
+ghost use Rattle.theory.specs.Put.{Put};
+ghost use Rattle.plan.specs.Written.{movesOf, request, goes, setsAndGoes, clears, Checked, Counted};
 use definitions::Answer;
 use definitions::Event;
 use definitions::MaybeEvent;
@@ -22,10 +23,16 @@ const SET: u8 = 3;
 
 const CLEAR: u8 = 4;
 
+// How many moves an event takes: those made once, and those made again for each thread.
+pub struct Share {
+    pub once: usize,
+    pub each: usize,
+}
+
 // Writes a triple, and answers the index behind it.
 fn put(out: &mut [u8], at: usize, thread: u8, action: u8, target: u8) -> usize
     requires { ⌜ at + 3 ≤ length (now out) ⌝ }
-    ensures { λ r. ⌜ Wrote (now (out .entry)) at (bytesOf (request thread action target ∷ [])) (now (out .exit)) r ⌝ }
+    ensures { λ r. ⌜ Put (now (out .entry)) at (bytesOf (request thread action target ∷ [])) (now (out .exit)) r ⌝ }
 {
     out[at] = thread;
     out[at + 1] = action;
@@ -36,7 +43,7 @@ fn put(out: &mut [u8], at: usize, thread: u8, action: u8, target: u8) -> usize
 // Go, `count` times.
 fn go_times(out: &mut [u8], at: usize, thread: u8, count: usize) -> usize
     requires { ⌜ at + 3 * count ≤ length (now out) ⌝ }
-    ensures { λ r. ⌜ Wrote (now (out .entry)) at (bytesOf (goes thread count)) (now (out .exit)) r ⌝ }
+    ensures { λ r. ⌜ Put (now (out .entry)) at (bytesOf (goes thread count)) (now (out .exit)) r ⌝ }
 {
     let mut next = at;
     let mut i: usize = 0;
@@ -50,7 +57,7 @@ fn go_times(out: &mut [u8], at: usize, thread: u8, count: usize) -> usize
 // Set t and go, for each t.
 fn set_each(out: &mut [u8], at: usize, thread: u8, threads: u8) -> usize
     requires { ⌜ at + 6 * threads ≤ length (now out) ⌝ }
-    ensures { λ r. ⌜ Wrote (now (out .entry)) at (bytesOf (setsAndGoes thread threads)) (now (out .exit)) r ⌝ }
+    ensures { λ r. ⌜ Put (now (out .entry)) at (bytesOf (setsAndGoes thread threads)) (now (out .exit)) r ⌝ }
 {
     let mut next = at;
     let mut t: u8 = 0;
@@ -65,7 +72,7 @@ fn set_each(out: &mut [u8], at: usize, thread: u8, threads: u8) -> usize
 // Clear t, for each t.
 fn clear_each(out: &mut [u8], at: usize, thread: u8, threads: u8) -> usize
     requires { ⌜ at + 3 * threads ≤ length (now out) ⌝ }
-    ensures { λ r. ⌜ Wrote (now (out .entry)) at (bytesOf (clears thread threads)) (now (out .exit)) r ⌝ }
+    ensures { λ r. ⌜ Put (now (out .entry)) at (bytesOf (clears thread threads)) (now (out .exit)) r ⌝ }
 {
     let mut next = at;
     let mut t: u8 = 0;
@@ -79,7 +86,7 @@ fn clear_each(out: &mut [u8], at: usize, thread: u8, threads: u8) -> usize
 // Event 6: go, set t and go for each t, go.
 fn enter_exclusive(out: &mut [u8], at: usize, thread: u8, threads: u8) -> usize
     requires { ⌜ at + 3 * (2 * threads + 2) ≤ length (now out) ⌝ }
-    ensures { λ r. ⌜ Wrote (now (out .entry)) at (bytesOf (planOf threads (record { thread = thread; event = 6 }))) (now (out .exit)) r ⌝ }
+    ensures { λ r. ⌜ Put (now (out .entry)) at (bytesOf (planOf threads (record { thread = thread; event = 6 }))) (now (out .exit)) r ⌝ }
 {
     let started = put(out, at, thread, GO, 0);
     let gathered = set_each(out, started, thread, threads);
@@ -89,7 +96,7 @@ fn enter_exclusive(out: &mut [u8], at: usize, thread: u8, threads: u8) -> usize
 // Event 7: go, clear each t, go.
 fn leave_exclusive(out: &mut [u8], at: usize, thread: u8, threads: u8) -> usize
     requires { ⌜ at + 3 * (threads + 2) ≤ length (now out) ⌝ }
-    ensures { λ r. ⌜ Wrote (now (out .entry)) at (bytesOf (planOf threads (record { thread = thread; event = 7 }))) (now (out .exit)) r ⌝ }
+    ensures { λ r. ⌜ Put (now (out .entry)) at (bytesOf (planOf threads (record { thread = thread; event = 7 }))) (now (out .exit)) r ⌝ }
 {
     let started = put(out, at, thread, GO, 0);
     let cleared = clear_each(out, started, thread, threads);
@@ -99,7 +106,7 @@ fn leave_exclusive(out: &mut [u8], at: usize, thread: u8, threads: u8) -> usize
 // The triples of one pair.
 fn write_pair(out: &mut [u8], at: usize, threads: u8, thread: u8, code: u8) -> usize
     requires { ⌜ at + 3 * movesOf threads code ≤ length (now out) ⌝ }
-    ensures { λ r. ⌜ Wrote (now (out .entry)) at (bytesOf (planOf threads (record { thread = thread; event = code }))) (now (out .exit)) r ⌝ }
+    ensures { λ r. ⌜ Put (now (out .entry)) at (bytesOf (planOf threads (record { thread = thread; event = code }))) (now (out .exit)) r ⌝ }
 {
     let found = Event::from_code(code);
     let MaybeEvent::Known(event) = found else {
@@ -117,39 +124,45 @@ fn write_pair(out: &mut [u8], at: usize, threads: u8, thread: u8, code: u8) -> u
     }
 }
 
-// How many moves an event takes.
-fn moves_of(threads: u8, code: u8) -> usize
-    ensures { λ r. ⌜ r ≡ movesOf threads code ⌝ }
+fn values(once: usize, each: usize) -> Share
+    ensures { λ r. ⌜ r ≡ record { once = once; each = each } ⌝ }
 {
-    let found = Event::from_code(code);
-    let MaybeEvent::Known(event) = found else {
-        return 0;
-    };
-    match event {
-        Event::EnterSharedCall => 1,
-        Event::EnterSharedReturn => 3,
-        Event::LeaveSharedCall => 2,
-        Event::LeaveSharedReturn => 1,
-        Event::EnterExclusiveCall => 1,
-        Event::EnterExclusiveReturn => 2 * (threads as usize) + 2,
-        Event::LeaveExclusiveCall => threads as usize + 2,
-        Event::LeaveExclusiveReturn => 1,
+    Share { once, each }
+}
+
+// Shares are constants: they are compiled to tables, and not to branches, which are often mispredicted.
+fn share_of(code: u8) -> Share
+    ensures { λ r. ⌜ ((n : ℕ) → r .once + r .each * n ≡ movesOf n code) ⌝ }
+{
+    match code {
+        1 => values(1, 0),
+        2 => values(3, 0),
+        3 => values(2, 0),
+        4 => values(1, 0),
+        5 => values(1, 0),
+        6 => values(2, 2),
+        7 => values(2, 1),
+        8 => values(1, 0),
+        _ => values(0, 0),
     }
 }
 
-// How many moves the plan makes.
+// How many moves the plan makes. The shares are added up apart: a product in the loop would be compiled to branches.
 fn count_moves(threads: u8, history: &[u8], events: usize) -> usize
     requires { ⌜ Checked threads (now history) events ⌝ }
     ensures { λ r. ⌜ Counted threads (now (history .entry)) r ⌝ }
 {
-    let mut moves: usize = 0;
+    let mut once: usize = 0;
+    let mut each: usize = 0;
     let mut j: usize = 0;
     while j < events {
         let code = history[2 * j + 1];
-        moves += moves_of(threads, code);
+        let share = share_of(code);
+        once += share.once;
+        each += share.each;
         j += 1;
     }
-    moves
+    once + each * threads as usize
 }
 
 // The triples of all pairs, from the front of the output.

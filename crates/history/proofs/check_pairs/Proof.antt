@@ -3,7 +3,8 @@
 use Prim.Native.Nat.{_-_, _*_}
 use borrow.Author.Needs.{needs}
 use native.Mathlib.Omega.{arith}
-use Rattle.history.proofs.CheckLaws.{Passed, start, bad-here, countable-here, passed-next, passed-all}
+use lib.ListN.{getD}
+use Rattle.history.proofs.CheckLaws.{Passed, start, bad-here, Turned, turned, passed-all}
 use Rattle.history.proofs.check_pairs.Statement.{statement}
 use Rattle.history.proofs.check_pairs.Tie as tie
 
@@ -34,23 +35,29 @@ cast-t c = omega (arith, c .shared-slice-known3 .given (2 * c .before .before .b
 array-read-before : tie.Need-array-read-before Inv-loop μ-loop
 array-read-before c = omega (arith, c .shared-slice-known3 .given (2 * c .before .before .before .loop .k))
 
+row-of-requires : tie.Need-row-of-requires Inv-loop μ-loop
+row-of-requires c κs = search needs
+
 judge-requires : tie.Need-judge-requires Inv-loop μ-loop
-judge-requires c κs = search needs
+judge-requires c κs =
+    let at = c .before .before .before .before .loop in
+    (c .row-of .ensures, at .inv .fine (getD (c .before .before .before .before .before .before .args .history .now) (2 * at .k) 0))
 
 enum-known-verdict : tie.Need-enum-known-verdict Inv-loop μ-loop
 enum-known-verdict c = search needs
 
 returns : tie.Need-returns Inv-loop μ-loop
 returns c =
-    let at = c .before .before .before .before .before .before .before in
+    let at = c .before .before .before .before .before .before .before .before in
     bad-here
     (at .before .before .args .threads)
+    (at .before .before .fits .threads .fits)
     (at .before .before .args .history .now)
     (at .loop .places)
     (at .loop .inside)
     (at .loop .k)
     (at .loop .inv)
-    (c .before .before .before .before .before .before .loop-test .taken)
+    (c .before .before .before .before .before .before .before .loop-test .taken)
     (c .before .before .before .judge .result)
     (c .before .verdict .given .0 .0)
     (c .before .verdict .given .1)
@@ -59,27 +66,34 @@ returns c =
 enum-told : tie.Need-enum-told Inv-loop μ-loop
 enum-told c = search needs
 
-place-after-requires : tie.Need-place-after-requires Inv-loop μ-loop
-place-after-requires c κs = search needs
-
-array-write-places : tie.Need-array-write-places Inv-loop μ-loop
-array-write-places c = omega (arith, c .before .before .before .before .shared-slice-known3 .given (2 * c .before .before .before .before .before .before .before .loop .k))
-
-inside-after-requires : tie.Need-inside-after-requires Inv-loop μ-loop
-inside-after-requires c κs =
-    let at = c .before .before .before .before .before .before .before in
-    countable-here
+-- the turn of a pair that fits
+turn : (told : tie.After-enum-told Inv-loop μ-loop)
+    → Turned (told .before .before .before .before .before .before .before .before .before .args .threads) (told .before .before .before .before .before .before .before .before .before .args .history .now) (told .before .before .before .before .before .before .before .loop .places) (told .before .before .before .before .before .before .before .loop .inside) (told .before .before .before .before .before .before .before .loop .k) (told .before .before .before .row-of .result)
+turn told =
+    let at = told .before .before .before .before .before .before .before in
+    turned
     (at .before .before .args .threads)
+    (at .before .before .fits .threads .fits)
     (at .before .before .args .history .now)
     (at .loop .places)
     (at .loop .inside)
     (at .loop .k)
     (at .loop .inv)
-    (c .before .before .before .before .before .before .loop-test .taken)
-    (c .before .before .before .judge .result)
-    (at .before .before .fits .threads .fits)
-    (c .before .enum-told .given .1)
-    (c .before .before .before .judge .ensures)
+    (told .before .before .before .before .before .before .loop-test .taken)
+    (told .before .before .judge .result)
+    (told .enum-told .given .1)
+    (told .before .before .judge .ensures)
+    (told .before .before .before .row-of .result)
+    (told .before .before .before .row-of .ensures)
+
+array-write-places : tie.Need-array-write-places Inv-loop μ-loop
+array-write-places c = omega (arith, c .before .before .before .before .shared-slice-known3 .given (2 * c .before .before .before .before .before .before .before .loop .k))
+
+add-inside : tie.Need-add-inside Inv-loop μ-loop
+add-inside c = record { fits = turn (c .before) .adds-fit }
+
+sub-inside : tie.Need-sub-inside Inv-loop μ-loop
+sub-inside c = turn (c .before .before) .takes-fit
 
 add-k : tie.Need-add-k Inv-loop μ-loop
 add-k c = search needs
@@ -89,24 +103,8 @@ loop-less c = search needs
 
 loop-again : tie.Need-loop-again Inv-loop μ-loop
 loop-again c =
-    let at = c .before .before .before .before .before .before .before .before in
-    passed-next
-    (at .before .before .args .threads)
-    (at .before .before .args .history .now)
-    (at .loop .places)
-    (at .loop .inside)
-    (at .loop .k)
-    (at .loop .inv)
-    (c .before .before .before .before .before .before .before .loop-test .taken)
-    (c .before .before .before .before .judge .result)
-    (c .before .place-after .result)
-    (c .inside-after .result)
-    (c .before .before .before .before .before .shared-slice-known3 .given (2 * at .loop .k) .fits)
-    (c .before .before .enum-told .given .1)
-    (c .before .before .before .before .judge .ensures)
-    (c .before .place-after .ensures)
-    (c .inside-after .ensures .0)
-    (c .inside-after .ensures .1)
+    let told = c .before .before in
+    turn told .goes-on (told .before .before .before .before .shared-slice-known3 .given _ .fits)
 
 returns-2 : tie.Need-returns-2 Inv-loop μ-loop
 returns-2 c =
@@ -133,13 +131,14 @@ check-pairs-spec =
     shared-slice-read-code
     cast-t
     array-read-before
+    row-of-requires
     judge-requires
     enum-known-verdict
     returns
     enum-told
-    place-after-requires
     array-write-places
-    inside-after-requires
+    add-inside
+    sub-inside
     add-k
     loop-less
     loop-again

@@ -4,15 +4,15 @@ use Prim.Native.Nat.{_+_, _-_, _*_}
 use borrow.Author.Needs.{needs}
 use native.Mathlib.Omega.{arith}
 use lib.ListN.{getD}
-use Rattle.plan.proofs.LoopLaws.{Counting, counting-none, counting-more, counting-all, moves-few}
+use Rattle.plan.proofs.LoopLaws.{Counting, counting-none, share-small, counting-more, counting-all}
 use Rattle.plan.proofs.count_moves.Statement.{statement}
 use Rattle.plan.proofs.count_moves.Tie as tie
 
 abbrev Inv-loop : tie.InvT-loop
-Inv-loop threads history events moves₀ j₀ moves j = Counting threads history j moves
+Inv-loop threads history events once₀ each₀ j₀ once each j = Counting threads history j once each
 
 abbrev μ-loop : tie.MeasureT-loop
-μ-loop threads history events moves₀ j₀ moves j = events - j
+μ-loop threads history events once₀ each₀ j₀ once each j = events - j
 
 loop-holds : tie.Need-loop-holds Inv-loop μ-loop
 loop-holds c = counting-none (c .before .args .threads) (c .before .args .history .now)
@@ -26,13 +26,20 @@ add-code c = search needs
 shared-slice-read-code : tie.Need-shared-slice-read-code Inv-loop μ-loop
 shared-slice-read-code c = search needs
 
-moves-of-requires : tie.Need-moves-of-requires Inv-loop μ-loop
-moves-of-requires c κs = search needs
+share-of-requires : tie.Need-share-of-requires Inv-loop μ-loop
+share-of-requires c κs = search needs
 
-add-moves : tie.Need-add-moves Inv-loop μ-loop
-add-moves c =
-    let a = c .before .before .before .before .before .args in
-    omega (arith, c .moves-of .ensures, moves-few (a .threads) (getD (a .history .now) (2 * c .before .before .before .loop .j + 1) 0) (c .before .before .before .before .before .pre .few))
+add-once : tie.Need-add-once Inv-loop μ-loop
+add-once c =
+    let at = c .before .before .before .before .loop in
+    let share = c .before .share-of in
+    omega (arith, at .inv .shares, share-small (share .result .once) (share .result .each) (getD (c .before .before .before .before .before .before .args .history .now) (2 * at .j + 1) 0) (share .ensures))
+
+add-each : tie.Need-add-each Inv-loop μ-loop
+add-each c =
+    let at = c .before .before .before .before .before .loop in
+    let share = c .before .before .share-of in
+    omega (arith, at .inv .shares, share-small (share .result .once) (share .result .each) (getD (c .before .before .before .before .before .before .before .args .history .now) (2 * at .j + 1) 0) (share .ensures))
 
 add-j : tie.Need-add-j Inv-loop μ-loop
 add-j c = search needs
@@ -42,18 +49,25 @@ loop-less c = search needs
 
 loop-again : tie.Need-loop-again Inv-loop μ-loop
 loop-again c =
-    let start = c .before .before .before .before .before in
-    let at = c .before .before .before .loop in
-    counting-more (start .args .threads) (start .args .history .now) (at .j) (at .moves) (c .moves-of .result)
-    (start .pre .few) (omega arith) (at .inv) (c .moves-of .ensures)
+    let start = c .before .before .before .before .before .before .before in
+    let at = c .before .before .before .before .before .loop in
+    let share = c .before .before .share-of in
+    counting-more (start .args .threads) (start .args .history .now) (at .j) (at .once) (at .each) (share .result .once) (share .result .each)
+    (start .pre .few) (omega arith) (at .inv) (share .ensures)
+
+mul-result : tie.Need-mul-result Inv-loop μ-loop
+mul-result c = omega (arith, c .before .loop .inv .few)
+
+add-result : tie.Need-add-result Inv-loop μ-loop
+add-result c = omega (arith, c .before .loop .inv .few)
 
 returns : tie.Need-returns Inv-loop μ-loop
 returns c =
     let start = c .before .before .before in
     let at = c .before .loop in
     record {
-      count = counting-all (start .args .threads) (start .args .history .now) (at .j) (at .moves) (omega arith) (at .inv);
-      few = omega arith;
+      count = counting-all (start .args .threads) (start .args .history .now) (at .j) (at .once) (at .each) (omega arith) (at .inv);
+      few = omega (arith, at .inv .few);
     }
 
 pub count-moves-spec : {M : Type 1} → statement M
@@ -66,9 +80,12 @@ count-moves-spec =
     mul-code
     add-code
     shared-slice-read-code
-    moves-of-requires
-    add-moves
+    share-of-requires
+    add-once
+    add-each
     add-j
     loop-less
     loop-again
+    mul-result
+    add-result
     returns)

@@ -11,8 +11,10 @@ use Rattle.definitions.specs.Threads.{gather}
 use Rattle.definitions.specs.Moves.{Request}
 use Rattle.definitions.specs.Plan.{planOf, bytesOf}
 use Rattle.history.proofs.EventLaws.{known-code}
-use Rattle.plan.specs.Written.{movesOf, Wrote}
-use Rattle.plan.proofs.PlanLaws.{wrote-none, no-plan}
+use Rattle.plan.specs.Written.{movesOf}
+use Rattle.theory.specs.Put.{Put}
+use Rattle.theory.proofs.Putting.{none}
+use Rattle.plan.proofs.PlanLaws.{no-plan}
 use borrow.Author.Needs.{needs}
 use Rattle.plan.proofs.write_pair.Statement.{statement}
 use Rattle.plan.proofs.write_pair.Tie as tie
@@ -28,15 +30,15 @@ room-at : (c : tie.After-known-told) (f : Event) → c .before .found .given .0 
 room-at c f q = rw (code-at c f q) (c .before .before .before .before .before .pre)
 
 plan-at : (c : tie.After-known-told) (f : Event) → c .before .found .given .0 .0 ≡ f → (left : List ℕ) (after : ℕ)
-    → Wrote (c .before .before .before .before .before .args .out .now) (c .before .before .before .before .before .args .at)
+    → Put (c .before .before .before .before .before .args .out .now) (c .before .before .before .before .before .args .at)
     (bytesOf (planOf (c .before .before .before .before .before .args .threads) (record { thread = c .before .before .before .before .before .args .thread; event = codeOf f }))) left after
-    → Wrote (c .before .before .before .before .before .args .out .now) (c .before .before .before .before .before .args .at)
+    → Put (c .before .before .before .before .before .args .out .now) (c .before .before .before .before .before .args .at)
     (bytesOf (planOf (c .before .before .before .before .before .args .threads) (record { thread = c .before .before .before .before .before .args .thread; event = c .before .before .before .before .before .args .code }))) left after
 plan-at c f q left after w = rw (code-at c f q) at w
 
-nothing : (out : List ℕ) (at : ℕ) (l : List Request) → l ≡ [] → Wrote out at (bytesOf l) out at
+nothing : (out : List ℕ) (at : ℕ) (l : List Request) → l ≡ [] → Put out at (bytesOf l) out at
 unfolding bytesOf
-nothing out at l e = rw e (wrote-none out at)
+nothing out at l e = rw e (none out at)
 
 from-code-requires : tie.Need-from-code-requires
 from-code-requires c κs = search needs
