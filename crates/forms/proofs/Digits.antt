@@ -11,10 +11,12 @@ use borrow.Author.Tests.{ne-eqb, lt-ltb, le-leb, lt-leb}
 use lib.Dec.{leb, ltb, eqb}
 use lib.ListN.{length, take, drop, getD}
 use lib.Seq.{take-suc, getD-take}
-use Rattle.definitions.specs.Script.{same, isDigit, digitsOf, valueFrom, numberFits, numberRead}
+use Rattle.definitions.specs.Script.{Form, bad, same, isDigit, digitsOf, valueFrom, numberFits, numberRead}
 use Rattle.theory.proofs.Digits.{digits-within, take-digits, digit-more, digit-low, digit-high, value-behind, value-below}
 use Rattle.forms.specs.declared.Number.{Number}
-use Rattle.forms.specs.Answers.{numberFor}
+use Rattle.forms.specs.declared.MaybeNumber.{MaybeNumber}
+use Rattle.forms.specs.declared.MaybeNumber.the-variants.{Known, Unknown}
+use Rattle.forms.specs.Answers.{numberFor, closedFor}
 use Rattle.theory.proofs.Lists.{from-on}
 use Rattle.forms.proofs.Text.{differ}
 
@@ -132,3 +134,18 @@ pub followed : (xs : List ℕ) (r : Number) → Found xs r → (tail : List ℕ)
     → s ≡ same (take (length xs - r .digits) (drop (r .digits) xs)) tail → s ≡ b
     → (numberRead xs .fits && same (numberRead xs .rest) tail) ≡ b
 followed xs r f tail s b e h = rw (f .fits, f .rest) (ap (λ (l : List ℕ). same l tail) (sym (from-on xs (r .digits))) ∙ sym e ∙ h)
+
+-- ---- a number that a text follows, and nothing else
+
+abbrev formBy : (ℕ → Form) → MaybeNumber → Form
+formBy f (Known value) = f value
+formBy f Unknown = bad
+
+-- what is read of it, from the reader's answer
+pub read-by : (f : ℕ → Form) (xs closing : List ℕ) (m n : MaybeNumber) → m ≡ closedFor xs closing → m ≡ n
+    → formBy f n ≡ cond (numberRead xs .fits && same (numberRead xs .rest) closing) (f (numberRead xs .value)) bad
+read-by f xs closing m n e h = ap (formBy f) (sym h ∙ e) ∙ push (numberRead xs .fits && same (numberRead xs .rest) closing)
+  where
+    push : (b : Bool) → formBy f (cond b (Known (numberRead xs .value)) Unknown) ≡ cond b (f (numberRead xs .value)) bad
+    push true = refl
+    push false = refl

@@ -1,13 +1,13 @@
 // The reader of a script's forms: one line, handed over alone and without its line feed.
 ghost use mathlib.Core.Path.{_≡_};
-ghost use mathlib.Core.Bool.{cond, _&&_};
+ghost use mathlib.Core.Bool.{cond, not, _&&_, _||_};
 ghost use Prim.Native.Nat.{_+_, _≤_};
 ghost use lib.Dec.{eqb};
 ghost use lib.ListN.{getD};
 ghost use Rattle.definitions.specs.Threads.{between};
 ghost use Rattle.definitions.specs.Bounds.{mostDepth};
 ghost use Rattle.definitions.specs.Script.{same, starts, isDigit, noteFits, numberRead, note, bad, threadsForm, targetForm, actForm, moveForm, formOf};
-ghost use Rattle.forms.specs.Answers.{formFor, numberFor, aimedForm};
+ghost use Rattle.forms.specs.Answers.{formFor, numberFor, closedFor, aimedForm};
 
 // What a line says. What each case means stands in specs/Answers.antt.
 pub enum Form {
@@ -24,6 +24,12 @@ struct Number {
     fits: bool,
     value: u16,
     digits: usize,
+}
+
+// A number, or that there is none.
+enum MaybeNumber {
+    Known(u16),
+    Unknown,
 }
 
 // "numbers of one to three digits"
@@ -114,11 +120,18 @@ fn read_number(part: &[u8]) -> Number
     }
 }
 
-// A byte that a note may have at this depth.
-fn byte_fits(c: u8, depth: u8) -> bool
-    ensures { λ r. ⌜ r ≡ (between 32 126 c && between 1 mostDepth depth) ⌝ }
+// A byte that a note may have.
+fn is_printable(c: u8) -> bool
+    ensures { λ r. ⌜ r ≡ between 32 126 c ⌝ }
 {
-    ((32 <= c) & (c <= 126)) & ((1 <= depth) & (depth <= MOST_DEPTH))
+    (32 <= c) & (c <= 126)
+}
+
+// A round bracket; no other byte changes the depth.
+fn is_bracket(c: u8) -> bool
+    ensures { λ r. ⌜ r ≡ (eqb c 40 || eqb c 41) ⌝ }
+{
+    (c == b'(') | (c == b')')
 }
 
 // The depth behind a byte.
@@ -135,7 +148,21 @@ fn depth_after(depth: u8, c: u8) -> u8
     depth
 }
 
-// The text of a note, with the note's own closing bracket as its last byte.
+// The depth is that of no byte of a note.
+fn is_outside(depth: u8) -> bool
+    ensures { λ r. ⌜ r ≡ not (between 1 mostDepth depth) ⌝ }
+{
+    !((1 <= depth) & (depth <= MOST_DEPTH))
+}
+
+// The note's own bracket is closed, and by its last byte.
+fn is_closed(depth: u8, at: usize, end: usize) -> bool
+    ensures { λ r. ⌜ r ≡ (eqb depth 0 && eqb at end) ⌝ }
+{
+    (depth == 0) & (at == end)
+}
+
+// The text of a note, with the note's own closing bracket as its last byte. The depth is tested where it changes.
 fn note_fits(text: &[u8]) -> bool
     ensures { λ r. ⌜ r ≡ noteFits (now (text .entry)) ⌝ }
 {
@@ -143,46 +170,54 @@ fn note_fits(text: &[u8]) -> bool
     let mut i: usize = 0;
     while i < text.len() {
         let c = text[i];
-        if !byte_fits(c, depth) {
+        i += 1;
+        if !is_printable(c) {
             return false;
         }
-        depth = depth_after(depth, c);
-        i += 1;
+        if is_bracket(c) {
+            depth = depth_after(depth, c);
+            if is_outside(depth) {
+                return is_closed(depth, i, text.len());
+            }
+        }
     }
-    depth == 0
+    is_closed(depth, i, text.len())
+}
+
+// A number that a text follows, and nothing else.
+fn read_closed(part: &[u8], closing: &[u8]) -> MaybeNumber
+    ensures { λ r. ⌜ r ≡ closedFor (now (part .entry)) (now (closing .entry)) ⌝ }
+{
+    let number = read_number(part);
+    if !number.fits {
+        return MaybeNumber::Unknown;
+    }
+    let digits = number.digits;
+    if !same_text(&part[digits..], closing) {
+        return MaybeNumber::Unknown;
+    }
+    MaybeNumber::Known(number.value)
 }
 
 // What follows `(threads `: `N)`.
 fn read_threads(part: &[u8]) -> Form
     ensures { λ r. ⌜ formFor r ≡ threadsForm (numberRead (now (part .entry))) ⌝ }
 {
-    let number = read_number(part);
-    if !number.fits {
-        return Form::Bad;
+    let number = read_closed(part, b")");
+    match number {
+        MaybeNumber::Known(value) => Form::Threads(value),
+        MaybeNumber::Unknown => Form::Bad,
     }
-    let digits = number.digits;
-    if !same_text(&part[digits..], b")") {
-        return Form::Bad;
-    }
-    Form::Threads(number.value)
 }
 
 // What follows `(T (set ` or `(T (clear `: `K))`.
 fn read_target(thread: u16, mv: u16, part: &[u8]) -> Form
     ensures { λ r. ⌜ formFor r ≡ targetForm thread mv (numberRead (now (part .entry))) ⌝ }
 {
-    let number = read_number(part);
-    if !number.fits {
-        return Form::Bad;
-    }
-    let digits = number.digits;
-    if !same_text(&part[digits..], b"))") {
-        return Form::Bad;
-    }
-    Form::Request {
-        thread,
-        mv,
-        target: number.value,
+    let number = read_closed(part, b"))");
+    match number {
+        MaybeNumber::Known(target) => Form::Request { thread, mv, target },
+        MaybeNumber::Unknown => Form::Bad,
     }
 }
 

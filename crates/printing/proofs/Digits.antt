@@ -3,13 +3,16 @@
 use Prim.Native.Nat.{ℕ, _+_, _*_, _/_, _%_, _≤_, _<_}
 use native.Mathlib.Omega.{arith}
 use mathlib.Core.Path.{_≡_, refl, ap, _∙_}
+use mir.Val.{boolByte}
 use mathlib.Core.Logic.{⊎-elim}
 use mathlib.Core.List.{List, [], _∷_, _++_, append-assoc}
+use lib.Dec.{leb}
+use lib.ListN.{length, length-append}
 use borrow.Author.Tests.{le-leb, lt-leb}
 use Rattle.definitions.specs.Script.{decimal}
-use Rattle.theory.proofs.Tests.{below?}
+use Rattle.theory.proofs.Tests.{either, below?}
 use Rattle.theory.proofs.Numbers.{decimal-small, decimal-more}
-use Rattle.printing.specs.Put.{digitAt}
+use Rattle.printing.specs.Digit.{digitAt}
 
 -- the last digit
 abbrev last : ℕ → List ℕ
@@ -56,3 +59,17 @@ digits n h =
     (digits₄ (n / 10) (omega arith) ∙ simp append-assoc))
     ∙ simp append-assoc)
     (below? 10 n)
+
+-- ---- how many they are
+
+reached : (p n : ℕ) → length (digitAt p n) ≡ boolByte (leb p n)
+reached p n = ⊎-elim (λ e. rw e) (λ e. rw e) (either (leb p n))
+
+pub one-most : (p n : ℕ) → boolByte (leb p n) ≤ 1
+one-most p n = ⊎-elim (λ e. rw e (omega arith)) (λ e. rw e (omega arith)) (either (leb p n))
+
+pub digits-count : (n : ℕ) → n < 100_000
+    → 1 + (boolByte (leb 10 n) + boolByte (leb 100 n)) + (boolByte (leb 1_000 n) + boolByte (leb 10_000 n)) ≡ length (decimal n)
+digits-count n h =
+    rw (digits n h)
+    (simp length-append (omega (arith, reached 10_000 n, reached 1_000 n, reached 100 n, reached 10 n)))

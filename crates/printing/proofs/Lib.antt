@@ -2,3 +2,6 @@
 pub mod Putting
 pub mod Digits
 pub mod Names
+pub mod Lines
+pub mod Endings
+pub mod Whole

@@ -1,2 +1,3 @@
--- What a printing function leaves in a lent output.
-pub mod Put
+-- What the printing functions cite: a digit, and the output of a run.
+pub mod Digit
+pub mod Output

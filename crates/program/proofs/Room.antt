@@ -7,7 +7,7 @@ use mathlib.Core.Bool.{not}
 use mathlib.Core.List.{List}
 use lib.Dec.{T, leb, eqb, leb→le, eqb→eq}
 use lib.ListN.{length}
-use Rattle.definitions.specs.Answers.{Reply, done, refused}
+use Rattle.definitions.specs.Answers.{done, refused}
 use Rattle.definitions.specs.Script.{runOutputOf, runRefusal, runReply}
 use Rattle.theory.proofs.Tests.{decided, cond-yes, cond-no}
 use Rattle.theory.proofs.Ways.{peel}

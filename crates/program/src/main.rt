@@ -50,7 +50,7 @@ fn say_too_long() {
 }
 
 // Runs a script and prints its output, for which the buffer always suffices.
-fn run_script(script: &[u8]) {
+fn print_output(script: &[u8]) {
     let mut output = [0u8; ENOUGH_OUTPUT];
     let answer = script::run(script, &mut output);
     let Answer::Done(length) = answer else {
@@ -70,5 +70,5 @@ fn main() {
         say_failed(b"the script could not be read\n");
         return;
     };
-    run_script(&input[..length]);
+    print_output(&input[..length]);
 }

@@ -73,7 +73,7 @@ moved s i p q l e =
 -- ---- what a move prints
 
 -- "(event T (name))" and its line feed
-event-size : (thread event : ℕ) → length (eventLine thread (shown event)) ≡ length (decimal thread) + (12 + length (eventName event))
+pub event-size : (thread event : ℕ) → length (eventLine thread (shown event)) ≡ length (decimal thread) + (12 + length (eventName event))
 unfolding eventLine bytes
 event-size thread event = simp length-append (omega arith)
 

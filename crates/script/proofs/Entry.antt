@@ -1,83 +1,64 @@
--- What the entry's tests and its two passes make of the promised reply and output; and the fresh table that a run starts from.
+-- What the first line makes of a run, the fresh table that it starts from, and what its printed output makes of the promised reply.
 -- Assumes nothing.
 use Prim.Native.Nat.{ℕ, _+_, _-_, _≤_, _<_}
-use native.Mathlib.Nat.{zero-add}
 use native.Mathlib.Omega.{arith}
 use mathlib.Core.Path.{_≡_, sym, ap, _∙_}
 use mathlib.Core.Logic.{⊎-elim}
-use mathlib.Core.Bool.{Bool, true, false}
+use mathlib.Core.Bool.{true, false}
 use mathlib.Core.List.{List}
 use lib.Dec.{leb, eqb, leb→le}
 use lib.ListN.{length, take, drop}
 use lib.Seq.{take-at}
 use borrow.Author.Tests.{le-leb, lt-leb, leb-true}
 use Rattle.definitions.specs.Bounds.{mostScript, mostThreads}
-use Rattle.definitions.specs.Answers.{done, refused, firstRefusal}
+use Rattle.definitions.specs.Answers.{done, refused, numberOf, replyOfAnswer, firstRefusal}
 use Rattle.definitions.specs.Table.{countFits, fresh, filled}
 use Rattle.definitions.specs.OpenMoves.{freshRefusal, freshReply, freshOutput}
+use Rattle.definitions.specs.PlainLock.{pairsOf}
 use Rattle.definitions.specs.Script as spec
 use Rattle.definitions.specs.Script.{Line, formOf, linesOf, printed, printedFirst, refusedLine, runOutputOf, runRefusal, runReply, runOutput}
+use Rattle.definitions.specs.declared.Answer.{Answer}
+use Rattle.definitions.specs.declared.Refusal.{Refusal}
 use Rattle.theory.proofs.Tests.{and-l, and-r, true-T, either}
 use Rattle.theory.proofs.Quantifiers.{howMany-none}
 use Rattle.theory.proofs.Lengths.{fresh-length}
 use Rattle.theory.proofs.Views.{fresh-table}
 use Rattle.theory.proofs.SoundKept.{fresh-table-sound}
+use Rattle.runs.specs.Requests.{eventLines}
 use Rattle.runs.proofs.Suffices.{suffices}
 use Rattle.table.specs.Examined.{raised}
 use Rattle.lock.specs.Carried.{Held}
 use Rattle.forms.specs.Answers.{formFor}
 use Rattle.forms.specs.declared.Form.{Form}
 use Rattle.forms.specs.declared.Form.the-variants as form
-use Rattle.printing.specs.Put.{Put, Room, putAt, reach}
+use Rattle.printing.specs.Output.{outputOf, Measurable}
+use Rattle.theory.specs.Put.{Delivered}
+use Rattle.printing.specs.declared.Ending.the-variants.{Refused}
 use Rattle.script.specs.Lines.{lineLength}
-use Rattle.script.specs.Steps.{printedFrom, Starting, Begun}
+use Rattle.script.specs.Records.{Starting, Begun, printedFrom, Recorded}
+use Rattle.script.specs.declared.Ran.{Ran}
 use Rattle.script.proofs.Printed.{run-first}
 
 -- ---- the entry
-
--- a text put at the front fills the output from there
-filled-up : (out text out′ : List ℕ) (n : ℕ) → Put true out 0 text out′ n → out′ ≡ filled out text
-unfolding putAt
-filled-up out text out′ n p = rw zero-add at (p .output)
 
 module _ (script out : List ℕ) where
   pub too-long : mostScript < length script → (refused 8 0 ≡ runReply script out) × (out ≡ runOutput script out)
   unfolding runReply runOutput runRefusal firstRefusal
   too-long h = let e = lt-leb (length script) mostScript h in (simp e, simp e)
 
-  module _ (short : length script ≤ mostScript) where
-    pub count-room : Room false out 0 (runOutputOf script)
-    unfolding reach
-    count-room = record { ends = omega (arith, suffices script short) }
+  module _ (short : length script ≤ mostScript) (history : List ℕ) (ran : Ran) (r : Recorded (runOutputOf script) history ran) where
+    pub measurable : Measurable (take (ran .shown) history) (ran .ending)
+    measurable = record { few = r .few; short = rw (← r .prints) (suffices script short) }
 
-    module _ (out′ : List ℕ) (needed : ℕ) (p : Put false out 0 (runOutputOf script) out′ needed) where
-      pub counted-out : out′ ≡ out
-      unfolding putAt
-      counted-out = p .output
-
-      no-room : length out < needed → (refused 12 0 ≡ runReply script out) × (out ≡ runOutput script out)
-      unfolding runReply runOutput runRefusal firstRefusal
-      no-room h =
-          let e = le-leb (length script) mostScript short in
-          let f = lt-leb (length (runOutputOf script)) (length out) (omega (arith, p .next)) in
-          (simp (e, f), simp (e, f))
-
-      pub too-short : length out′ < needed → (refused 12 0 ≡ runReply script out) × (out′ ≡ runOutput script out)
-      too-short h = let r = no-room (rw counted-out at h) in (r .0, counted-out ∙ r .1)
-
-      module _ (fits : needed ≤ length out′) where
-        pub write-room : Room true out′ 0 (runOutputOf script)
-        unfolding reach
-        write-room = record { ends = omega (arith, p .next) }
-
-        pub written : (out″ : List ℕ) (n : ℕ) → Put true out′ 0 (runOutputOf script) out″ n → (done n ≡ runReply script out) × (out″ ≡ runOutput script out)
-        unfolding runReply runOutput runRefusal firstRefusal
-        written out″ n q =
-            let k : needed ≤ length out = rw counted-out at fits in
-            let e = le-leb (length script) mostScript short in
-            let f = le-leb (length (runOutputOf script)) (length out) (omega (arith, p .next)) in
-            let same : n ≡ length (runOutputOf script) = omega (arith, q .next) in
-            (simp (e, f) (ap done same), simp (e, f) (filled-up out′ (runOutputOf script) out″ n q ∙ ap (λ (o : List ℕ). filled o (runOutputOf script)) counted-out))
+    pub run-printed : (out′ : List ℕ) (a : Answer) → Delivered (outputOf (take (ran .shown) history) (ran .ending)) out out′ a
+        → (replyOfAnswer a ≡ runReply script out) × (out′ ≡ runOutput script out)
+    unfolding runReply runOutput runRefusal firstRefusal
+    run-printed out′ a p =
+        let q : Delivered (runOutputOf script) out out′ a = rw (r .prints) p in
+        let e = le-leb (length script) mostScript short in
+        let fits = leb (length (runOutputOf script)) (length out) in
+        ⊎-elim (λ (f : fits ≡ true). (q .reply ∙ simp (e, f), q .output ∙ simp (e, f))) (λ (f : fits ≡ false). (q .reply ∙ simp (e, f), q .output ∙ simp (e, f)))
+        (either fits)
 
 -- ---- the fresh table
 
@@ -136,23 +117,12 @@ module _ (n : ℕ) (ls : List Line) where
   unfolding printedFirst
   from-fresh e = rw e
 
-module _ {script : List ℕ} {start n : ℕ} {w : Bool} {out : List ℕ} (s : Starting script start n w out) where
-  pub bad-room : countFits n ≡ false → Room w out 0 (refusedLine 1 1)
-  bad-room e = rw (from-bad n (linesOf (drop start script)) e) at (s .room)
-
-  pub begins-fresh : (table : List ℕ) → countFits n ≡ true → table ≡ fresh n → Begun script start table w out
-  begins-fresh table e f =
-      rw f
-      (record {
-        begins = s .begins;
-        short = s .short;
-        held = fresh-held n e;
-        room = rw (from-fresh n (linesOf (drop start script)) e) at (s .room);
-      })
+pub begins-fresh : {script : List ℕ} {start : ℕ} {history : List ℕ} (n : ℕ) → Starting script start history → (table : List ℕ) → countFits n ≡ true → table ≡ fresh n → Begun script start table history
+begins-fresh n s table e f = rw f (record { starting = s; held = fresh-held n e })
 
 -- ---- by the form of the first line
 
-module _ (script : List ℕ) (end : ℕ) (ends : end ≡ 0 + lineLength (drop 0 script)) (h : end < length script) (f : Form) (read : formFor f ≡ formOf (take (end - 0) (drop 0 script))) where
+module _ (script : List ℕ) (end : ℕ) (ends : end ≡ lineLength script) (h : end < length script) (f : Form) (read : formFor f ≡ formOf (take (end - 0) (drop 0 script))) where
   by-form : (g : Form) → f ≡ g → runOutputOf script ≡ printedFirst (formFor g) (linesOf (drop (end + 1) script))
   by-form g e = run-first script end ends h ∙ ap (λ (x : spec.Form). printedFirst x (linesOf (drop (end + 1) script))) (sym read ∙ ap formFor e)
 
@@ -171,9 +141,13 @@ module _ (script : List ℕ) (end : ℕ) (ends : end ≡ 0 + lineLength (drop 0 
   unfolding printedFirst
   run-bad e = by-form form.Bad e
 
--- the same text under another name
-pub room-as : {w : Bool} {out : List ℕ} {at : ℕ} {s t : List ℕ} → s ≡ t → Room w out at s → Room w out at t
-room-as e r = rw e at r
+-- ---- what a run leaves
 
-pub put-as : {w : Bool} {out : List ℕ} {at : ℕ} {s t out′ : List ℕ} {n : ℕ} → s ≡ t → Put w out at t out′ n → Put w out at s out′ n
-put-as e p = rw e p
+-- it is stopped at its first line
+pub stopped-first : {output history : List ℕ} (x : Refusal) {ran : Ran} → output ≡ refusedLine (numberOf x) 1 → ran ≡ record { shown = 0; ending = Refused x 1 } → Recorded output history ran
+unfolding pairsOf eventLines
+stopped-first x e r = rw r (record { fits = omega arith; few = omega arith; prints = e })
+
+-- the same output under another name
+pub recorded-as : {output output′ history : List ℕ} {ran : Ran} → output ≡ output′ → Recorded output′ history ran → Recorded output history ran
+recorded-as e r = rw e r

@@ -1,5 +1,6 @@
 -- Shared laws first, then the theorems.
 pub mod LineLaws
+pub mod Histories
 pub mod Turns
 pub mod Printed
 pub mod Loop

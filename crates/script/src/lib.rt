@@ -1,32 +1,34 @@
-// The run of a script: one pass measures its output, a second one writes it.
+// The run of a script. One pass over its lines makes the moves and keeps the history that they show, byte pairs, thread then event; the output is printed from it.
 use definitions::Answer;
 use definitions::Outcome;
 use definitions::Refusal;
 use forms::Form;
 use forms::read_form;
 use lock::try_move;
-use printing::put_event;
-use printing::put_refused;
-use printing::put_steps;
+use printing::Ending;
+use printing::print;
+use printing::put_byte;
 use table::fresh;
 ghost use mathlib.Core.Path.{_≡_};
-ghost use Prim.Native.Nat.{_+_, _<_, _≤_};
+ghost use mathlib.Core.List.{[], _∷_};
+ghost use mathlib.Core.Bool.{cond};
+ghost use Prim.Native.Nat.{_+_, _≤_};
+ghost use lib.Dec.{ltb};
 ghost use lib.ListN.{length, drop};
 ghost use Rattle.definitions.specs.Script.{formOf, asked, turnOf, linesOf, printed, runOutputOf, runReply, runOutput};
 ghost use Rattle.definitions.specs.Answers.{replyOfAnswer};
 ghost use Rattle.lock.specs.Carried.{Held};
 ghost use Rattle.lock.specs.Carried as carried;
-ghost use Rattle.printing.specs.Put.{Put, Room};
+ghost use Rattle.theory.specs.Put.{Put, Room};
 ghost use Rattle.script.specs.Lines.{lineLength};
-ghost use Rattle.script.specs.Steps.{said, Stepped, Begun, printedFrom, Starting, Runs};
+ghost use Rattle.script.specs.Steps.{added, Stepped};
+ghost use Rattle.script.specs.Records.{Roomy, Begun, printedFrom, Starting, Recorded};
 
 // "the script breaks its form or exceeds 30,000 bytes"
 const MOST_SCRIPT: usize = 30000;
 
-// "R the number (a bad form is 8, a bad N 1)"
-const BAD_SIZE: usize = 1;
-
-const BAD_FORM: usize = 8;
+// The bytes of the longest history that a run shows. Each event comes from a line of its own, the shortest of which, `(0 (go))`, has nine bytes with its line feed; so there are at most 3,333.
+const MOST_SHOWN: usize = 6666;
 
 // The bytes of the largest table.
 const MOST_TABLE: usize = 603;
@@ -34,14 +36,40 @@ const MOST_TABLE: usize = 603;
 // "each ended by a line feed (10)"
 const LINE_FEED: u8 = 10;
 
-// Where the line that begins at start ends: at its line feed, or at the script's end.
-fn line_end(script: &[u8], start: usize) -> usize
-    requires { ⌜ start ≤ length (now script) ⌝ }
-    ensures { λ r. ⌜ r ≡ start + lineLength (drop start (now (script .entry))) ⌝ }
+// The place of the first line feed among the four bytes from a place on, or 4.
+fn feed_in_four(text: &[u8], at: usize) -> usize
+    requires { ⌜ at + 4 ≤ length (now text) ⌝ }
+    ensures { λ r. ⌜ lineLength (drop at (now (text .entry))) ≡ cond (ltb r 4) r (4 + lineLength (drop (at + 4) (now (text .entry)))) ⌝ }
 {
-    let mut i = start;
-    while i < script.len() {
-        if script[i] == LINE_FEED {
+    if text[at] == LINE_FEED {
+        return 0;
+    }
+    if text[at + 1] == LINE_FEED {
+        return 1;
+    }
+    if text[at + 2] == LINE_FEED {
+        return 2;
+    }
+    if text[at + 3] == LINE_FEED {
+        return 3;
+    }
+    4
+}
+
+// How many bytes stand before the first line feed, or all where there is none. It is looked for in four bytes at a time.
+fn line_length(text: &[u8]) -> usize
+    ensures { λ r. ⌜ r ≡ lineLength (now (text .entry)) ⌝ }
+{
+    let mut i: usize = 0;
+    while 4 <= text.len() - i {
+        let place = feed_in_four(text, i);
+        if place < 4 {
+            return i + place;
+        }
+        i += 4;
+    }
+    while i < text.len() {
+        if text[i] == LINE_FEED {
             return i;
         }
         i += 1;
@@ -49,7 +77,7 @@ fn line_end(script: &[u8], start: usize) -> usize
     i
 }
 
-// What a line did to the run: it stopped it, or let it go on with so many moves made, so many forbidden 1, and the position in the output.
+// What a line did to the run: it stopped it, or let it go on with so many moves made, so many forbidden 1, and the position behind the history.
 enum Step {
     Stopped(Refusal),
     Went {
@@ -59,19 +87,33 @@ enum Step {
     },
 }
 
-// A line's request: the move is made, and its event printed.
+// A run that has ended: how many bytes its history has, and how it ended.
+struct Ran {
+    shown: usize,
+    ending: Ending,
+}
+
+// A pair behind the history.
+fn add_pair(history: &mut [u8], at: usize, thread: u8, code: u8) -> usize
+    requires { ⌜ Room (now history) at (thread ∷ code ∷ []) ⌝ }
+    ensures { λ r. ⌜ Put (now (history .entry)) at (thread ∷ code ∷ []) (now (history .exit)) r ⌝ }
+{
+    let next = put_byte(history, at, thread);
+    put_byte(history, next, code)
+}
+
+// A line's request: the move is made, and its event added to the history.
 fn make(
     table: &mut [u8],
     raised: usize,
     thread: usize,
     mv: usize,
     target: usize,
-    out: &mut [u8],
+    history: &mut [u8],
     at: usize,
-    writing: bool,
 ) -> Step
-    requires { ⌜ Held (now table) raised × ((thread < 100_000) × Room writing (now out) at (said (now table) (asked (now table) (carried.asked thread mv target)))) ⌝ }
-    ensures { λ r. ⌜ Stepped writing (asked (now (table .entry)) (carried.asked thread mv target)) (now (table .entry)) (now (out .entry)) at (now (table .exit)) (now (out .exit)) r ⌝ }
+    requires { ⌜ Held (now table) raised × Room (now history) at (added (now table) (asked (now table) (carried.asked thread mv target))) ⌝ }
+    ensures { λ r. ⌜ Stepped (asked (now (table .entry)) (carried.asked thread mv target)) (now (table .entry)) (now (history .entry)) at (now (table .exit)) (now (history .exit)) r ⌝ }
 {
     let done = try_move(table, raised, thread, mv, target);
     let outcome = done.outcome;
@@ -84,7 +126,8 @@ fn make(
             at,
         },
         Outcome::Shown(event) => {
-            let at = put_event(out, at, writing, thread, event);
+            let code = event.code();
+            let at = add_pair(history, at, thread as u8, code);
             Step::Went {
                 moves: 1,
                 raised,
@@ -95,16 +138,9 @@ fn make(
 }
 
 // A line behind the first, handed over without its line feed.
-fn take_line(
-    line: &[u8],
-    table: &mut [u8],
-    raised: usize,
-    out: &mut [u8],
-    at: usize,
-    writing: bool,
-) -> Step
-    requires { ⌜ Held (now table) raised × Room writing (now out) at (said (now table) (turnOf (now table) (formOf (now line)))) ⌝ }
-    ensures { λ r. ⌜ Stepped writing (turnOf (now (table .entry)) (formOf (now (line .entry)))) (now (table .entry)) (now (out .entry)) at (now (table .exit)) (now (out .exit)) r ⌝ }
+fn take_line(line: &[u8], table: &mut [u8], raised: usize, history: &mut [u8], at: usize) -> Step
+    requires { ⌜ Held (now table) raised × Room (now history) at (added (now table) (turnOf (now table) (formOf (now line)))) ⌝ }
+    ensures { λ r. ⌜ Stepped (turnOf (now (table .entry)) (formOf (now (line .entry)))) (now (table .entry)) (now (history .entry)) at (now (table .exit)) (now (history .exit)) r ⌝ }
 {
     let form = read_form(line);
     match form {
@@ -116,9 +152,8 @@ fn take_line(
                 thread as usize,
                 mv as usize,
                 target as usize,
-                out,
+                history,
                 at,
-                writing,
             )
         }
         Form::Note => Step::Went {
@@ -130,10 +165,20 @@ fn take_line(
     }
 }
 
+// A run that was stopped at a line.
+fn stopped(shown: usize, refusal: Refusal, line: usize) -> Ran
+    ensures { λ r. ⌜ r ≡ record { shown = shown; ending = Ending.Refused refusal line } ⌝ }
+{
+    Ran {
+        shown,
+        ending: Ending::Refused(refusal, line),
+    }
+}
+
 // The lines from start on, which is the second; no forbidden is 1 yet.
-fn run_lines(script: &[u8], start: usize, table: &mut [u8], out: &mut [u8], writing: bool) -> usize
-    requires { ⌜ Begun (now script) start (now table) writing (now out) ⌝ }
-    ensures { λ r. ⌜ Put writing (now (out .entry)) 0 (printed (now (table .entry)) 2 0 (linesOf (drop start (now (script .entry))))) (now (out .exit)) r ⌝ }
+fn run_lines(script: &[u8], start: usize, table: &mut [u8], history: &mut [u8]) -> Ran
+    requires { ⌜ Begun (now script) start (now table) (now history) ⌝ }
+    ensures { λ r. ⌜ Recorded (printed (now (table .entry)) 2 0 (linesOf (drop start (now (script .entry))))) (now (history .exit)) r ⌝ }
 {
     let mut from = start;
     let mut line: usize = 2;
@@ -141,16 +186,15 @@ fn run_lines(script: &[u8], start: usize, table: &mut [u8], out: &mut [u8], writ
     let mut raised: usize = 0;
     let mut at: usize = 0;
     while from < script.len() {
-        let end = line_end(script, from);
+        let end = from + line_length(&script[from..]);
         if script.len() <= end {
-            return put_refused(out, at, writing, BAD_FORM, line);
+            return stopped(at, Refusal::BadForm, line);
         }
         let next_line = end + 1;
-        let step = take_line(&script[from..end], table, raised, out, at, writing);
+        let step = take_line(&script[from..end], table, raised, history, at);
         match step {
             Step::Stopped(refusal) => {
-                let number = refusal.number();
-                return put_refused(out, at, writing, number as usize, line);
+                return stopped(at, refusal, line);
             }
             Step::Went {
                 moves,
@@ -165,48 +209,51 @@ fn run_lines(script: &[u8], start: usize, table: &mut [u8], out: &mut [u8], writ
         line += 1;
         from = next_line;
     }
-    put_steps(out, at, writing, steps)
+    Ran {
+        shown: at,
+        ending: Ending::Steps(steps),
+    }
 }
 
 // A run for a number of threads: the table is fresh, and start is where the second line begins.
-fn run_from(script: &[u8], start: usize, threads: u16, out: &mut [u8], writing: bool) -> usize
-    requires { ⌜ Starting (now script) start threads writing (now out) ⌝ }
-    ensures { λ r. ⌜ Put writing (now (out .entry)) 0 (printedFrom threads (linesOf (drop start (now (script .entry))))) (now (out .exit)) r ⌝ }
+fn run_from(script: &[u8], start: usize, threads: u16, history: &mut [u8]) -> Ran
+    requires { ⌜ Starting (now script) start (now history) ⌝ }
+    ensures { λ r. ⌜ Recorded (printedFrom threads (linesOf (drop start (now (script .entry))))) (now (history .exit)) r ⌝ }
 {
     let mut bytes = [0u8; MOST_TABLE];
     let made = fresh(threads, &mut bytes);
     let Answer::Done(size) = made else {
-        return put_refused(out, 0, writing, BAD_SIZE, 1);
+        return stopped(0, Refusal::BadSize, 1);
     };
-    run_lines(script, start, &mut bytes[..size], out, writing)
+    run_lines(script, start, &mut bytes[..size], history)
 }
 
-// The whole output of a script that isn't too long.
-fn print_run(script: &[u8], out: &mut [u8], writing: bool) -> usize
-    requires { ⌜ Runs (now script) writing (now out) ⌝ }
-    ensures { λ r. ⌜ Put writing (now (out .entry)) 0 (runOutputOf (now (script .entry))) (now (out .exit)) r ⌝ }
+// The whole run of a script that isn't too long.
+fn run_script(script: &[u8], history: &mut [u8]) -> Ran
+    requires { ⌜ Roomy (now script) (now history) ⌝ }
+    ensures { λ r. ⌜ Recorded (runOutputOf (now (script .entry))) (now (history .exit)) r ⌝ }
 {
-    let end = line_end(script, 0);
+    let end = line_length(script);
     if script.len() <= end {
-        return put_refused(out, 0, writing, BAD_FORM, 1);
+        return stopped(0, Refusal::BadForm, 1);
     }
     let form = read_form(&script[0..end]);
     match form {
         Form::Threads(threads) => {
             let start = end + 1;
-            run_from(script, start, threads, out, writing)
+            run_from(script, start, threads, history)
         }
         Form::Request {
             thread: _,
             mv: _,
             target: _,
-        } => put_refused(out, 0, writing, BAD_FORM, 1),
-        Form::Note => put_refused(out, 0, writing, BAD_FORM, 1),
-        Form::Bad => put_refused(out, 0, writing, BAD_FORM, 1),
+        } => stopped(0, Refusal::BadForm, 1),
+        Form::Note => stopped(0, Refusal::BadForm, 1),
+        Form::Bad => stopped(0, Refusal::BadForm, 1),
     }
 }
 
-// The entry: the output is measured before a byte of it is written.
+// The entry. The moves are made once, and nothing is written before the output is known to have room.
 pub fn run(script: &[u8], out: &mut [u8]) -> Answer
     ensures { λ r. ⌜ replyOfAnswer r ≡ runReply (now (script .entry)) (now (out .entry)) ⌝ }
     ensures { λ _. ⌜ now (out .exit) ≡ runOutput (now (script .entry)) (now (out .entry)) ⌝ }
@@ -214,10 +261,9 @@ pub fn run(script: &[u8], out: &mut [u8]) -> Answer
     if MOST_SCRIPT < script.len() {
         return Answer::Refused(Refusal::BadForm, 0);
     }
-    let needed = print_run(script, out, false);
-    if out.len() < needed {
-        return Answer::Refused(Refusal::NoRoom, 0);
-    }
-    let written = print_run(script, out, true);
-    Answer::Done(written)
+    let mut history = [0u8; MOST_SHOWN];
+    let ran = run_script(script, &mut history);
+    let shown = ran.shown;
+    let ending = ran.ending;
+    print(&history[..shown], ending, out)
 }

@@ -1,57 +1,37 @@
--- `forms::read_target` meets its contract: the number that was found, and the text behind it. Assumes nothing.
-use mathlib.Core.Bool.{true, false}
+-- `forms::read_target` meets its contract, by what was read of the number and of the text behind it. Assumes nothing.
 use borrow.Author.Needs.{needs}
-use borrow.Author.Tests.{not-true, not-false}
-use Rattle.definitions.specs.Script.{bytes}
-use Rattle.forms.proofs.Digits.{Found, found, missing, followed}
+use Rattle.definitions.specs.Script.{request, bytes}
+use Rattle.forms.proofs.Digits.{read-by}
 use Rattle.forms.proofs.read_target.Statement.{statement}
 use Rattle.forms.proofs.read_target.Tie as tie
 
-number : (c : tie.Else1) → Found (c .before .before .before .before .args .part .now) (c .before .before .read-number .result)
-number c = found _ _ (c .before .before .read-number .ensures) (not-false _ (c .if1 .left))
+slice-aggregate-read-closed : tie.Need-slice-aggregate-read-closed
+slice-aggregate-read-closed c = search needs
 
-read-number-requires : tie.Need-read-number-requires
-read-number-requires c κs = search needs
+read-closed-requires : tie.Need-read-closed-requires
+read-closed-requires c κs = search needs
+
+enum-known-number : tie.Need-enum-known-number
+enum-known-number c = search needs
+
+enum-told : tie.Need-enum-told
+enum-told c = search needs
 
 returns : tie.Need-returns
-returns c = rw (missing _ _ (c .before .before .read-number .ensures) (not-true _ (c .if1 .taken)))
-
-sub-same-text : tie.Need-sub-same-text
-sub-same-text c = number c .within
-
-part-same-text-start : tie.Need-part-same-text-start
-part-same-text-start c = number c .within
-
-part-same-text-end : tie.Need-part-same-text-end
-part-same-text-end c = search needs
-
-slice-aggregate-same-text : tie.Need-slice-aggregate-same-text
-slice-aggregate-same-text c = search needs
-
-same-text-requires : tie.Need-same-text-requires
-same-text-requires c κs = search needs
+unfolding bytes
+returns c = read-by (request (c .before .before .before .before .before .before .args .thread) (c .before .before .before .before .before .before .args .mv)) _ (bytes "))") _ _ (c .before .before .before .read-closed .ensures) (c .before .number .given .1)
 
 returns-2 : tie.Need-returns-2
 unfolding bytes
-returns-2 c =
-    rw (followed _ _ (number (c .before .before .before .before)) (bytes "))") _ false (c .before .same-text .ensures) (not-true _ (c .if2 .taken)))
-
-returns-3 : tie.Need-returns-3
-unfolding bytes
-returns-3 c =
-    let n = number (c .before .before .before .before) in
-    rw (followed _ _ n (bytes "))") _ true (c .before .same-text .ensures) (not-false _ (c .if2 .left)), n .value)
+returns-2 c = read-by (request (c .before .before .before .before .before .args .thread) (c .before .before .before .before .before .args .mv)) _ (bytes "))") _ _ (c .before .before .read-closed .ensures) (c .enum-told .given .1)
 
 pub read-target-spec : {M : Type 1} → statement M
 read-target-spec =
     tie.close
     (tie.spec
-    read-number-requires
+    slice-aggregate-read-closed
+    read-closed-requires
+    enum-known-number
+    enum-told
     returns
-    sub-same-text
-    part-same-text-start
-    part-same-text-end
-    slice-aggregate-same-text
-    same-text-requires
-    returns-2
-    returns-3)
+    returns-2)

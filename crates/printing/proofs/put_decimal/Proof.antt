@@ -2,21 +2,21 @@
 -- Assumes nothing.
 use Prim.Native.Nat.{ℕ, _+_, _%_, _<_}
 use native.Mathlib.Omega.{arith}
-use mathlib.Core.Path.{_≡_}
-use mathlib.Core.Bool.{Bool}
 use mathlib.Core.List.{List, [], _∷_, _++_}
 use borrow.Author.Needs.{needs}
 use Rattle.definitions.specs.Script.{decimal}
-use Rattle.printing.specs.Put.{Room, Put, digitAt}
-use Rattle.printing.proofs.Putting.{room-first, room₂, room₃, room₄, room₅, all₅}
+use Rattle.theory.specs.Put.{Room}
+use Rattle.printing.specs.Digit.{digitAt}
+use Rattle.theory.proofs.Putting.{room-first}
+use Rattle.printing.proofs.Putting.{room₂, room₃, room₄, room₅, all₅}
 use Rattle.printing.proofs.Digits.{digits}
 use Rattle.printing.proofs.put_decimal.Statement.{statement}
 use Rattle.printing.proofs.put_decimal.Tie as tie
 
 -- the room for the digits one by one
-room : {w : Bool} {a : List ℕ} {at n : ℕ} → n < 100_000 → Room w a at (decimal n)
-    → Room w a at (digitAt 10_000 n ++ (digitAt 1_000 n ++ (digitAt 100 n ++ (digitAt 10 n ++ ((48 + n % 10) ∷ [])))))
-room {w} {a} {at} {n} h r = rw (digits n h) at r
+room : {a : List ℕ} {at n : ℕ} → n < 100_000 → Room a at (decimal n)
+    → Room a at (digitAt 10_000 n ++ (digitAt 1_000 n ++ (digitAt 100 n ++ (digitAt 10 n ++ ((48 + n % 10) ∷ [])))))
+room {a} {at} {n} h r = rw (digits n h) at r
 
 put-digit-requires : tie.Need-put-digit-requires
 put-digit-requires c κs =

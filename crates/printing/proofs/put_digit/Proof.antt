@@ -1,7 +1,7 @@
 -- `printing::put_digit` meets its contract, by whether the number reaches the power.
 -- Assumes nothing.
 use borrow.Author.Tests.{lt-leb, le-leb}
-use Rattle.printing.proofs.Putting.{none}
+use Rattle.theory.proofs.Putting.{none}
 use borrow.Author.Needs.{needs}
 use Rattle.printing.proofs.put_digit.Statement.{statement}
 use Rattle.printing.proofs.put_digit.Tie as tie
@@ -9,7 +9,7 @@ use Rattle.printing.proofs.put_digit.Tie as tie
 returns : tie.Need-returns
 returns c =
     let a = c .before .before in
-    rw (lt-leb (a .args .power) (a .args .n) (c .if1 .taken)) (none (a .args .writing) (a .args .out .now) (a .args .at))
+    rw (lt-leb (a .args .power) (a .args .n) (c .if1 .taken)) (none (a .args .out .now) (a .args .at))
 
 div-digit : tie.Need-div-digit
 div-digit c = search needs

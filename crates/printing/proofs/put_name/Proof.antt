@@ -1,59 +1,166 @@
--- `printing::put_name` meets its contract: the part of the names' text that the event's code picks is its name.
+-- `printing::put_name` meets its contract, arm by arm (proofs/Names).
 -- Assumes nothing.
-use native.Mathlib.Omega.{arith}
 use borrow.Author.Needs.{needs}
-use Rattle.definitions.specs.Script.{bytes}
-use Rattle.printing.proofs.Names.{names, codes, named, named-room}
+use Rattle.definitions.specs.Script.{bytes, eventName}
+use Rattle.theory.proofs.Putting.{none}
+use Rattle.printing.proofs.Names.{name-room, name-put, unnamed}
 use Rattle.printing.proofs.put_name.Statement.{statement}
 use Rattle.printing.proofs.put_name.Tie as tie
 
-code-requires : tie.Need-code-requires
-code-requires c κs = search needs
+slice-aggregate-put-text : tie.Need-slice-aggregate-put-text
+slice-aggregate-put-text c = search needs
 
-cast-code : tie.Need-cast-code
-cast-code c = search needs
+put-text-requires : tie.Need-put-text-requires
+unfolding bytes eventName
+put-text-requires c κs = name-room _ 1 (c .before .before .match .keys1) (c .before .before .before .before .pre)
 
-sub-start : tie.Need-sub-start
-sub-start c = omega (arith, c .code .ensures, codes (c .before .before .before .args .event))
+slice-aggregate-put-text-2 : tie.Need-slice-aggregate-put-text-2
+slice-aggregate-put-text-2 c = search needs
 
-mul-start : tie.Need-mul-start
-mul-start c = search needs
+put-text-requires-2 : tie.Need-put-text-requires-2
+unfolding bytes eventName
+put-text-requires-2 c κs = name-room _ 2 (c .before .before .match .keys2) (c .before .before .before .before .pre)
 
-array-read-start : tie.Need-array-read-start
-array-read-start c = omega (arith, c .code .ensures, codes (c .before .before .before .args .event))
+slice-aggregate-put-text-3 : tie.Need-slice-aggregate-put-text-3
+slice-aggregate-put-text-3 c = search needs
 
-mul-end : tie.Need-mul-end
-mul-end c = search needs
+put-text-requires-3 : tie.Need-put-text-requires-3
+unfolding bytes eventName
+put-text-requires-3 c κs = name-room _ 3 (c .before .before .match .keys3) (c .before .before .before .before .pre)
 
-array-read-end : tie.Need-array-read-end
-array-read-end c = omega (arith, c .code .ensures, codes (c .before .before .before .args .event))
+slice-aggregate-put-text-4 : tie.Need-slice-aggregate-put-text-4
+slice-aggregate-put-text-4 c = search needs
 
-put-part-requires : tie.Need-put-part-requires
-unfolding names bytes
-put-part-requires c κs =
-    let code = c .before .before .code in
-    named-room (c .before .before .before .before .before .args .event) (code .result) (code .ensures) (c .before .before .before .before .before .pre)
+put-text-requires-4 : tie.Need-put-text-requires-4
+unfolding bytes eventName
+put-text-requires-4 c κs = name-room _ 4 (c .before .before .match .keys4) (c .before .before .before .before .pre)
+
+slice-aggregate-put-text-5 : tie.Need-slice-aggregate-put-text-5
+slice-aggregate-put-text-5 c = search needs
+
+put-text-requires-5 : tie.Need-put-text-requires-5
+unfolding bytes eventName
+put-text-requires-5 c κs = name-room _ 5 (c .before .before .match .keys5) (c .before .before .before .before .pre)
+
+slice-aggregate-put-text-6 : tie.Need-slice-aggregate-put-text-6
+slice-aggregate-put-text-6 c = search needs
+
+put-text-requires-6 : tie.Need-put-text-requires-6
+unfolding bytes eventName
+put-text-requires-6 c κs = name-room _ 6 (c .before .before .match .keys6) (c .before .before .before .before .pre)
+
+slice-aggregate-put-text-7 : tie.Need-slice-aggregate-put-text-7
+slice-aggregate-put-text-7 c = search needs
+
+put-text-requires-7 : tie.Need-put-text-requires-7
+unfolding bytes eventName
+put-text-requires-7 c κs = name-room _ 7 (c .before .before .match .keys7) (c .before .before .before .before .pre)
+
+slice-aggregate-put-text-8 : tie.Need-slice-aggregate-put-text-8
+slice-aggregate-put-text-8 c = search needs
+
+put-text-requires-8 : tie.Need-put-text-requires-8
+unfolding bytes eventName
+put-text-requires-8 c κs = name-room _ 8 (c .before .before .match .keys8) (c .before .before .before .before .pre)
 
 same-length : tie.Need-same-length
 same-length c = search needs
 
 returns : tie.Need-returns
-unfolding names bytes
-returns c =
-    let code = c .before .before .before .before .before .code in
-    rw (← named (c .before .before .before .before .before .before .before .before .args .event) (code .result) (code .ensures)) (c .before .before .put-part .ensures)
+unfolding bytes eventName
+returns c = name-put _ 1 (c .before .before .before .before .before .match .keys1) (c .before .before .put-text .ensures)
+
+same-length-2 : tie.Need-same-length-2
+same-length-2 c = search needs
+
+returns-2 : tie.Need-returns-2
+unfolding bytes eventName
+returns-2 c = name-put _ 2 (c .before .before .before .before .before .match .keys2) (c .before .before .put-text2 .ensures)
+
+same-length-3 : tie.Need-same-length-3
+same-length-3 c = search needs
+
+returns-3 : tie.Need-returns-3
+unfolding bytes eventName
+returns-3 c = name-put _ 3 (c .before .before .before .before .before .match .keys3) (c .before .before .put-text3 .ensures)
+
+same-length-4 : tie.Need-same-length-4
+same-length-4 c = search needs
+
+returns-4 : tie.Need-returns-4
+unfolding bytes eventName
+returns-4 c = name-put _ 4 (c .before .before .before .before .before .match .keys4) (c .before .before .put-text4 .ensures)
+
+same-length-5 : tie.Need-same-length-5
+same-length-5 c = search needs
+
+returns-5 : tie.Need-returns-5
+unfolding bytes eventName
+returns-5 c = name-put _ 5 (c .before .before .before .before .before .match .keys5) (c .before .before .put-text5 .ensures)
+
+same-length-6 : tie.Need-same-length-6
+same-length-6 c = search needs
+
+returns-6 : tie.Need-returns-6
+unfolding bytes eventName
+returns-6 c = name-put _ 6 (c .before .before .before .before .before .match .keys6) (c .before .before .put-text6 .ensures)
+
+same-length-7 : tie.Need-same-length-7
+same-length-7 c = search needs
+
+returns-7 : tie.Need-returns-7
+unfolding bytes eventName
+returns-7 c = name-put _ 7 (c .before .before .before .before .before .match .keys7) (c .before .before .put-text7 .ensures)
+
+same-length-8 : tie.Need-same-length-8
+same-length-8 c = search needs
+
+returns-8 : tie.Need-returns-8
+unfolding bytes eventName
+returns-8 c = name-put _ 8 (c .before .before .before .before .before .match .keys8) (c .before .before .put-text8 .ensures)
+
+returns-9 : tie.Need-returns-9
+returns-9 c =
+    let r = c .match .rest in
+    let a = c .before .before in
+    rw
+    (unnamed (a .args .code) (r .0 .0 .0 .0 .0 .0 .0 .1) (r .0 .0 .0 .0 .0 .0 .1) (r .0 .0 .0 .0 .0 .1) (r .0 .0 .0 .0 .1) (r .0 .0 .0 .1) (r .0 .0 .1) (r .0 .1) (r .1))
+    (none (a .args .out .now) (a .args .at))
 
 pub put-name-spec : {M : Type 1} → statement M
 put-name-spec =
     tie.close
     (tie.spec
-    code-requires
-    cast-code
-    sub-start
-    mul-start
-    array-read-start
-    mul-end
-    array-read-end
-    put-part-requires
+    slice-aggregate-put-text
+    put-text-requires
+    slice-aggregate-put-text-2
+    put-text-requires-2
+    slice-aggregate-put-text-3
+    put-text-requires-3
+    slice-aggregate-put-text-4
+    put-text-requires-4
+    slice-aggregate-put-text-5
+    put-text-requires-5
+    slice-aggregate-put-text-6
+    put-text-requires-6
+    slice-aggregate-put-text-7
+    put-text-requires-7
+    slice-aggregate-put-text-8
+    put-text-requires-8
     same-length
-    returns)
+    returns
+    same-length-2
+    returns-2
+    same-length-3
+    returns-3
+    same-length-4
+    returns-4
+    same-length-5
+    returns-5
+    same-length-6
+    returns-6
+    same-length-7
+    returns-7
+    same-length-8
+    returns-8
+    returns-9)

@@ -1,9 +1,9 @@
 -- `printing::put_refused` meets its contract: the five texts of a refused line, one behind the other.
 -- Assumes nothing.
-use native.Mathlib.Omega.{arith}
 use borrow.Author.Needs.{needs}
 use Rattle.definitions.specs.Script.{bytes, decimal, refusedLine}
-use Rattle.printing.proofs.Putting.{room-first, room₂, room₃, room₄, room₅, all₅}
+use Rattle.theory.proofs.Putting.{room-first}
+use Rattle.printing.proofs.Putting.{room₂, room₃, room₄, room₅, all₅}
 use Rattle.printing.proofs.put_refused.Statement.{statement}
 use Rattle.printing.proofs.put_refused.Tie as tie
 

@@ -3,7 +3,7 @@
 use mathlib.Core.List.{_++_}
 use borrow.Author.Needs.{needs}
 use Rattle.definitions.specs.Script.{bytes, decimal, stepsLine}
-use Rattle.printing.proofs.Putting.{room-first, room-second, both}
+use Rattle.theory.proofs.Putting.{room-first, room-second, both}
 use Rattle.printing.proofs.put_steps.Statement.{statement}
 use Rattle.printing.proofs.put_steps.Tie as tie
 

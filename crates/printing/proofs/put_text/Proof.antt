@@ -2,21 +2,22 @@
 -- Assumes nothing.
 use Prim.Native.Nat.{_≤_, _-_}
 use native.Mathlib.Omega.{arith}
-use lib.ListN.{length, take, length-take}
+use lib.ListN.{length, take}
 use lib.Seq.{take-all}
-use Rattle.printing.specs.Put.{Put, putAt, reach}
-use Rattle.printing.proofs.Putting.{none, room-byte, byte-more, room-front, same-size}
+use Rattle.theory.specs.Put.{Put}
+use Rattle.theory.proofs.Putting.{none, same-size}
+use Rattle.printing.proofs.Putting.{room-byte, byte-more, room-front}
 use Rattle.printing.proofs.put_text.Statement.{statement}
 use Rattle.printing.proofs.put_text.Tie as tie
 
 abbrev Inv-loop : tie.InvT-loop
-Inv-loop out₀ at writing text next₀ i₀ out next i = (i ≤ length text) × Put writing out₀ at (take i text) out next
+Inv-loop out₀ at text next₀ i₀ out next i = (i ≤ length text) × Put out₀ at (take i text) out next
 
 abbrev μ-loop : tie.MeasureT-loop
-μ-loop out₀ at writing text next₀ i₀ out next i = length text - i
+μ-loop out₀ at text next₀ i₀ out next i = length text - i
 
 loop-holds : tie.Need-loop-holds Inv-loop μ-loop
-loop-holds c = (omega arith, none (c .before .before .args .writing) (c .before .before .args .out .now) (c .before .before .args .at))
+loop-holds c = (omega arith, none (c .before .before .args .out .now) (c .before .before .args .at))
 
 shared-slice-read-put-byte : tie.Need-shared-slice-read-put-byte Inv-loop μ-loop
 shared-slice-read-put-byte c = omega arith

@@ -41,13 +41,13 @@ array-share-prefix-input c =
     let call = c .before .before .before .before .read-input in
     omega (arith, read-within _ _ _ (c .before .read .given .1) (call .ensures), call .kept, length-replicate {A = ℕ} 30_001 0)
 
-slice-aggregate-run-script : tie.Need-slice-aggregate-run-script
-slice-aggregate-run-script c =
+slice-aggregate-print-output : tie.Need-slice-aggregate-print-output
+slice-aggregate-print-output c =
     let call = c .before .before .before .before .before .read-input in
     sym (length-take-le _ _ (omega (arith, read-within _ _ _ (c .before .before .read .given .1) (call .ensures), call .kept, length-replicate {A = ℕ} 30_001 0)))
 
-run-script-requires : tie.Need-run-script-requires
-run-script-requires c κs = search needs
+print-output-requires : tie.Need-print-output-requires
+print-output-requires c κs = search needs
 
 returns-2 : tie.Need-returns-2
 returns-2 c = search needs
@@ -64,6 +64,6 @@ main-spec =
     say-failed-requires
     returns
     array-share-prefix-input
-    slice-aggregate-run-script
-    run-script-requires
+    slice-aggregate-print-output
+    print-output-requires
     returns-2)

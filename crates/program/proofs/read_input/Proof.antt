@@ -1,6 +1,5 @@
 -- `program::read_input` meets its contract: the count never passes the length, which no read changes. Assumes nothing.
 use Prim.Native.Nat.{_≤_, _-_}
-use native.Mathlib.Omega.{arith}
 use mathlib.Core.Path.{_≡_}
 use lib.ListN.{length}
 use borrow.Author.Needs.{needs}

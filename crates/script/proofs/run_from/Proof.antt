@@ -1,13 +1,13 @@
 -- `script::run_from` meets its contract: the fresh entry turns a bad number of threads down, else the table's bytes are a fresh table (proofs/Entry).
 -- Assumes nothing.
 use native.Mathlib.Omega.{arith}
-use mathlib.Core.Path.{sym, ap, _∙_}
 use Prim.Native.Nat.{ℕ}
-use mathlib.Core.Path.{_≡_}
+use mathlib.Core.Path.{_≡_, sym, ap, _∙_}
 use lib.ListN.{length, replicate, length-replicate}
 use lib.Seq.{length-take-le}
 use Rattle.definitions.specs.Answers.{replyOfAnswer}
-use Rattle.script.proofs.Entry.{refused-count, done-count, done-fits, done-front, from-bad, from-fresh, bad-room, begins-fresh, room-as, put-as}
+use Rattle.definitions.specs.declared.Refusal.the-variants.{BadSize}
+use Rattle.script.proofs.Entry.{refused-count, done-count, done-fits, done-front, from-bad, from-fresh, begins-fresh, stopped-first, recorded-as}
 use borrow.Author.Needs.{needs}
 use Rattle.script.proofs.run_from.Statement.{statement}
 use Rattle.script.proofs.run_from.Tie as tie
@@ -28,17 +28,12 @@ enum-known-made c = search needs
 enum-told : tie.Need-enum-told
 enum-told c = search needs
 
-put-refused-requires : tie.Need-put-refused-requires
-put-refused-requires c κs =
-    (omega arith, (omega arith, bad-room (c .before .before .before .before .before .before .before .before .pre) (refused-count _ _ long _ _ (sym (ap replyOfAnswer (c .before .enum-told .given .1)) ∙ c .before .before .before .before .fresh .ensures .0))))
-
-same-length : tie.Need-same-length
-same-length c = search needs
+stopped-requires : tie.Need-stopped-requires
+stopped-requires c κs = search needs
 
 returns : tie.Need-returns
 returns c =
-    put-as (from-bad _ _ (refused-count _ _ long _ _ (sym (ap replyOfAnswer (c .before .before .before .before .enum-told .given .1)) ∙ c .before .before .before .before .before .before .before .fresh .ensures .0)))
-    (c .before .before .put-refused .ensures)
+    stopped-first BadSize (from-bad _ _ (refused-count _ _ long _ _ (sym (ap replyOfAnswer (c .before .enum-told .given .1)) ∙ c .before .before .before .before .fresh .ensures .0))) (c .stopped .ensures)
 
 array-borrow-prefix-bytes : tie.Need-array-borrow-prefix-bytes
 array-borrow-prefix-bytes c =
@@ -57,16 +52,16 @@ run-lines-requires : tie.Need-run-lines-requires
 run-lines-requires c κs =
     let f = c .before .before .before .before .before .before .fresh in
     let e = sym (ap replyOfAnswer (c .before .before .before .made .given .1)) ∙ f .ensures .0 in
-    begins-fresh (c .before .before .before .before .before .before .before .before .before .before .pre) _ (done-count _ _ long _ e) (done-front _ _ long _ e (f .last .1 .0) (f .ensures .1))
+    begins-fresh _ (c .before .before .before .before .before .before .before .before .before .before .pre) _ (done-count _ _ long _ e) (done-front _ _ long _ e (f .last .1 .0) (f .ensures .1))
 
-same-length-2 : tie.Need-same-length-2
-same-length-2 c = search needs
+same-length : tie.Need-same-length
+same-length c = search needs
 
 returns-2 : tie.Need-returns-2
 returns-2 c =
     let f = c .before .before .before .before .before .before .before .before .before .before .fresh in
     let e = sym (ap replyOfAnswer (c .before .before .before .before .before .before .before .made .given .1)) ∙ f .ensures .0 in
-    put-as (from-fresh _ _ (done-count _ _ long _ e))
+    recorded-as (from-fresh _ _ (done-count _ _ long _ e))
     (rw (done-front _ _ long _ e (f .last .1 .0) (f .ensures .1)) at (c .before .before .before .run-lines .ensures))
 
 pub run-from-spec : {M : Type 1} → statement M
@@ -77,11 +72,10 @@ run-from-spec =
     fresh-requires
     enum-known-made
     enum-told
-    put-refused-requires
-    same-length
+    stopped-requires
     returns
     array-borrow-prefix-bytes
     slice-aggregate-run-lines
     run-lines-requires
-    same-length-2
+    same-length
     returns-2)

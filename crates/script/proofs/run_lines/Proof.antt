@@ -1,43 +1,59 @@
--- `script::run_lines` meets its contract. The invariant: what is left to print, put at the present place, is the whole output (proofs/Loop).
+-- `script::run_lines` meets its contract. The invariant: the lines of the history so far, and what is printed from the present line on, are the whole output (proofs/Loop).
 -- Assumes nothing.
-use Prim.Native.Nat.{_-_}
+use Prim.Native.Nat.{_+_, _-_}
 use native.Mathlib.Omega.{arith}
 use mathlib.Core.Path.{_∙_}
 use borrow.Author.Needs.{needs}
 use lib.ListN.{length, drop}
 use Rattle.definitions.specs.Script.{linesOf, printed}
-use Rattle.script.proofs.Loop.{Going, begun, steps-room, steps-put, cut-room, cut-put, line-room, stop-room, stop-put, moves-most, next}
+use Rattle.script.proofs.LineLaws.{ends-at}
+use Rattle.script.proofs.Printed.{end-within}
+use Rattle.script.proofs.Loop.{Going, begun, finished, cut, line-room, stop, moves-most, next}
 use Rattle.script.proofs.run_lines.Statement.{statement}
 use Rattle.script.proofs.run_lines.Tie as tie
 
 abbrev Inv-loop : tie.InvT-loop
-Inv-loop script start table₀ out₀ writing from₀ line₀ steps₀ raised₀ at₀ table out from line steps raised at =
-    Going script writing table₀ out₀ (printed table₀ 2 0 (linesOf (drop start script))) table out from line steps raised at
+Inv-loop script start table₀ history₀ from₀ line₀ steps₀ raised₀ at₀ table history from line steps raised at =
+    Going script table₀ history₀ (printed table₀ 2 0 (linesOf (drop start script))) table history from line steps raised at
 
 abbrev μ-loop : tie.MeasureT-loop
-μ-loop script start table₀ out₀ writing from₀ line₀ steps₀ raised₀ at₀ table out from line steps raised at =
+μ-loop script start table₀ history₀ from₀ line₀ steps₀ raised₀ at₀ table history from line steps raised at =
     length script - from
 
 loop-holds : tie.Need-loop-holds Inv-loop μ-loop
-loop-holds c = begun _ _ _ _ _ (c .before .before .before .pre)
+loop-holds c = begun _ _ _ _ (c .before .before .before .pre)
 
-line-end-requires : tie.Need-line-end-requires Inv-loop μ-loop
-line-end-requires c κs = c .before .loop .inv .within
+sub-line-length : tie.Need-sub-line-length Inv-loop μ-loop
+sub-line-length c = search needs
 
-put-refused-requires : tie.Need-put-refused-requires Inv-loop μ-loop
-put-refused-requires c κs =
-    let g = c .before .before .before .before .loop .inv in
-    (omega arith, (omega (arith, g .lines, g .within, c .before .before .before .before .before .before .before .before .pre .short), cut-room g _ (c .before .before .before .loop-test .taken) (c .before .before .line-end .ensures) (c .before .if1 .taken)))
+part-line-length-start : tie.Need-part-line-length-start Inv-loop μ-loop
+part-line-length-start c = search needs
+
+part-line-length-end : tie.Need-part-line-length-end Inv-loop μ-loop
+part-line-length-end c = search needs
+
+line-length-requires : tie.Need-line-length-requires Inv-loop μ-loop
+line-length-requires c κs = tt
+
+add-end : tie.Need-add-end Inv-loop μ-loop
+add-end c =
+    let script = c .before .before .before .before .before .before .before .args .script .now in
+    let from = c .before .before .before .loop .from in
+    let size = c .line-length .result in
+    record { fits = omega (arith, end-within script from (from + size) (c .before .before .loop-test .taken) (ends-at script from size (c .line-length .ensures))) }
+
+stopped-requires : tie.Need-stopped-requires Inv-loop μ-loop
+stopped-requires c κs = tt
 
 same-length : tie.Need-same-length Inv-loop μ-loop
-same-length c = c .before .before .before .before .before .before .before .loop .inv .table-size
+same-length c = c .before .before .before .before .before .loop .inv .table-size
 
 same-length-2 : tie.Need-same-length-2 Inv-loop μ-loop
-same-length-2 c = c .before .before .put-refused .kept .0 ∙ c .before .before .before .before .before .before .before .loop .inv .out-size
+same-length-2 c = c .before .before .before .before .before .loop .inv .history-size
 
 returns : tie.Need-returns Inv-loop μ-loop
 returns c =
-    cut-put (c .before .before .before .before .before .before .before .loop .inv) _ (c .before .before .before .before .before .before .loop-test .taken) (c .before .before .before .before .before .line-end .ensures) (c .before .before .before .before .if1 .taken) _ _ (c .before .before .put-refused .ensures)
+    cut (c .before .before .before .before .before .before .before .before .before .pre .starting .room) (c .before .before .before .before .before .loop .inv) _ (c .before .before .before .before .loop-test .taken) (ends-at _ _ _ (c .before .before .line-length .ensures)) (c .before .if1 .taken) _ (c .stopped .ensures)
 
 add-next-line : tie.Need-add-next-line Inv-loop μ-loop
 add-next-line c = search needs
@@ -53,57 +69,44 @@ part-take-line-end c = search needs
 
 take-line-requires : tie.Need-take-line-requires Inv-loop μ-loop
 take-line-requires c κs =
-    let g = c .before .before .before .before .before .before .loop .inv in
-    (g .held, line-room g _ (c .before .before .before .before .before .loop-test .taken) (c .before .before .before .before .line-end .ensures) (c .before .before .before .if1 .left))
+    let g = c .before .before .before .before .before .before .before .loop .inv in
+    (g .held, line-room (c .before .before .before .before .before .before .before .before .before .before .before .pre .starting .room) g _ (c .before .before .before .before .before .before .loop-test .taken) (ends-at _ _ _ (c .before .before .before .before .line-length .ensures)) (c .before .before .before .if1 .left))
 
 enum-known-step : tie.Need-enum-known-step Inv-loop μ-loop
 enum-known-step c = search needs
 
-number-requires : tie.Need-number-requires Inv-loop μ-loop
-number-requires c κs = search needs
-
-cast-put-refused : tie.Need-cast-put-refused Inv-loop μ-loop
-cast-put-refused c = search needs
-
-put-refused-requires-2 : tie.Need-put-refused-requires-2 Inv-loop μ-loop
-put-refused-requires-2 c κs =
-    let g = c .before .before .before .before .before .before .before .before .before .before .before .before .before .before .before .before .loop .inv in
-    let t = c .before .before .before .before .before .before .before .before .before .take-line in (
-      omega (arith, c .before),
-      (
-        omega (arith, g .lines, g .within, c .before .before .before .before .before .before .before .before .before .before .before .before .before .before .before .before .before .before .before .before .pre .short),
-        stop-room (c .before .before .before .before .before .before .before .before .before .before .before .before .before .before .before .before .loop .inv) _ (c .before .before .before .before .before .before .before .before .before .before .before .before .before .before .before .loop-test .taken) (c .before .before .before .before .before .before .before .before .before .before .before .before .before .before .line-end .ensures) (c .before .before .before .before .before .before .before .before .before .before .before .before .before .if1 .left)
-            (t .last .1 .0) (t .last .1 .1 .1 .0) (t .result) (t .ensures) _ (c .before .before .before .step .given .1) _ (c .before .number .ensures),
-      ),
-    )
+stopped-requires-2 : tie.Need-stopped-requires-2 Inv-loop μ-loop
+stopped-requires-2 c κs = tt
 
 same-length-3 : tie.Need-same-length-3 Inv-loop μ-loop
-same-length-3 c = c .before .before .before .before .before .before .before .before .before .before .before .before .take-line .kept .1 .0 ∙ c .before .before .before .before .before .before .before .before .before .before .before .before .before .before .before .before .before .before .before .loop .inv .table-size
+same-length-3 c = c .before .before .before .before .before .before .before .before .take-line .kept .1 .0 ∙ c .before .before .before .before .before .before .before .before .before .before .before .before .before .before .before .before .loop .inv .table-size
 
 same-length-4 : tie.Need-same-length-4 Inv-loop μ-loop
-same-length-4 c = c .before .before .put-refused2 .kept .0 ∙ (c .before .before .before .before .before .before .before .before .before .before .before .before .take-line .kept .1 .1 .1 .0 ∙ c .before .before .before .before .before .before .before .before .before .before .before .before .before .before .before .before .before .before .before .loop .inv .out-size)
+same-length-4 c = c .before .before .before .before .before .before .before .before .take-line .kept .1 .1 .1 .0 ∙ c .before .before .before .before .before .before .before .before .before .before .before .before .before .before .before .before .loop .inv .history-size
 
 returns-2 : tie.Need-returns-2 Inv-loop μ-loop
 returns-2 c =
-    let t = c .before .before .before .before .before .before .before .before .before .before .before .before .take-line in
-    stop-put (c .before .before .before .before .before .before .before .before .before .before .before .before .before .before .before .before .before .before .before .loop .inv) _ (c .before .before .before .before .before .before .before .before .before .before .before .before .before .before .before .before .before .before .loop-test .taken) (c .before .before .before .before .before .before .before .before .before .before .before .before .before .before .before .before .before .line-end .ensures) (c .before .before .before .before .before .before .before .before .before .before .before .before .before .before .before .before .if1 .left)
-    (t .last .1 .0) (t .last .1 .1 .1 .0) (t .result) (t .ensures) _ (c .before .before .before .before .before .before .step .given .1) _ (c .before .before .before .before .number .ensures) _ _ (c .before .before .put-refused2 .ensures)
+    let t = c .before .before .before .before .before .before .before .before .take-line in
+    stop (c .before .before .before .before .before .before .before .before .before .before .before .before .before .before .before .before .before .before .before .before .pre .starting .room) (c .before .before .before .before .before .before .before .before .before .before .before .before .before .before .before .before .loop .inv) _ (c .before .before .before .before .before .before .before .before .before .before .before .before .before .before .before .loop-test .taken) (ends-at _ _ _ (c .before .before .before .before .before .before .before .before .before .before .before .before .before .line-length .ensures)) (c .before .before .before .before .before .before .before .before .before .before .before .before .if1 .left) (t .last .1 .0) (t .last .1 .1 .1 .0) (t .result) (t .ensures) _ (c .before .before .step .given .1) _ (c .stopped2 .ensures)
 
 enum-known-step-2 : tie.Need-enum-known-step-2 Inv-loop μ-loop
 enum-known-step-2 c = search needs
 
 add-steps : tie.Need-add-steps Inv-loop μ-loop
 add-steps c =
-    let g = c .before .before .before .before .before .before .before .before .before .before .before .before .before .before .loop .inv in
+    let room = c .before .before .before .before .before .before .before .before .before .before .before .before .before .before .before .before .before .before .before .pre .starting .room in
+    let g = c .before .before .before .before .before .before .before .before .before .before .before .before .before .before .before .loop .inv in
     let t = c .before .before .before .before .before .before .before .take-line in
-    omega (
-      arith,
-      g .moves,
-      g .within,
-      c .before .before .before .before .before .before .before .before .before .before .before .before .before .before .before .before .before .before .pre .short,
-      moves-most g _ (c .before .before .before .before .before .before .before .before .before .before .before .before .before .loop-test .taken) (c .before .before .before .before .before .before .before .before .before .before .before .before .line-end .ensures) (c .before .before .before .before .before .before .before .before .before .before .before .if1 .left)
-          (t .last .1 .0) (t .last .1 .1 .1 .0) (t .result) (t .ensures) _ _ _ (c .before .step2 .given .1),
-    )
+    record {
+      fits =
+          omega (
+            arith,
+            g .moves,
+            g .within,
+            room .short,
+            moves-most room g _ (c .before .before .before .before .before .before .before .before .before .before .before .before .before .before .loop-test .taken) (ends-at _ _ _ (c .before .before .before .before .before .before .before .before .before .before .before .before .line-length .ensures)) (c .before .before .before .before .before .before .before .before .before .before .before .if1 .left) (t .last .1 .0) (t .last .1 .1 .1 .0) (t .result) (t .ensures) _ _ _ (c .before .step2 .given .1),
+          );
+    }
 
 add-line : tie.Need-add-line Inv-loop μ-loop
 add-line c = search needs
@@ -113,24 +116,17 @@ loop-less c = search needs
 
 loop-again : tie.Need-loop-again Inv-loop μ-loop
 loop-again c =
-    let g = c .before .before .before .before .before .before .before .before .before .before .before .before .before .before .loop .inv in
     let t = c .before .before .before .before .before .before .before .take-line in
-    next g _ (c .before .before .before .before .before .before .before .before .before .before .before .before .before .loop-test .taken) (c .before .before .before .before .before .before .before .before .before .before .before .before .line-end .ensures) (c .before .before .before .before .before .before .before .before .before .before .before .if1 .left)
-    (t .last .1 .0) (t .last .1 .1 .1 .0) (t .result) (t .ensures) _ _ _ (c .before .step2 .given .1) (t .kept .1 .0)
-
-put-steps-requires : tie.Need-put-steps-requires Inv-loop μ-loop
-put-steps-requires c κs =
-    let g = c .before .before .loop .inv in
-    (omega (arith, g .moves, g .within, c .before .before .before .before .before .before .pre .short), steps-room g (c .before .loop-test .left))
+    next (c .before .before .before .before .before .before .before .before .before .before .before .before .before .before .before .before .before .before .before .pre .starting .room) (c .before .before .before .before .before .before .before .before .before .before .before .before .before .before .before .loop .inv) _ (c .before .before .before .before .before .before .before .before .before .before .before .before .before .before .loop-test .taken) (ends-at _ _ _ (c .before .before .before .before .before .before .before .before .before .before .before .before .line-length .ensures)) (c .before .before .before .before .before .before .before .before .before .before .before .if1 .left) (t .last .1 .0) (t .last .1 .1 .1 .0) (t .result) (t .ensures) _ _ _ (c .before .step2 .given .1) (t .kept .1 .0)
 
 same-length-5 : tie.Need-same-length-5 Inv-loop μ-loop
-same-length-5 c = c .before .before .before .before .before .loop .inv .table-size
+same-length-5 c = c .before .loop .inv .table-size
 
 same-length-6 : tie.Need-same-length-6 Inv-loop μ-loop
-same-length-6 c = c .before .before .put-steps .kept .0 ∙ c .before .before .before .before .before .loop .inv .out-size
+same-length-6 c = c .before .loop .inv .history-size
 
 returns-3 : tie.Need-returns-3 Inv-loop μ-loop
-returns-3 c = steps-put (c .before .before .before .before .before .loop .inv) (c .before .before .before .before .loop-test .left) _ _ (c .before .before .put-steps .ensures)
+returns-3 c = finished (c .before .before .before .before .before .pre .starting .room) (c .before .loop .inv) (c .loop-test .left)
 
 pub run-lines-spec : {M : Type 1} → statement M
 run-lines-spec =
@@ -139,8 +135,12 @@ run-lines-spec =
     Inv-loop
     μ-loop
     loop-holds
-    line-end-requires
-    put-refused-requires
+    sub-line-length
+    part-line-length-start
+    part-line-length-end
+    line-length-requires
+    add-end
+    stopped-requires
     same-length
     same-length-2
     returns
@@ -150,9 +150,7 @@ run-lines-spec =
     part-take-line-end
     take-line-requires
     enum-known-step
-    number-requires
-    cast-put-refused
-    put-refused-requires-2
+    stopped-requires-2
     same-length-3
     same-length-4
     returns-2
@@ -161,7 +159,6 @@ run-lines-spec =
     add-line
     loop-less
     loop-again
-    put-steps-requires
     same-length-5
     same-length-6
     returns-3)

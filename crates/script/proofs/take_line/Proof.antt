@@ -1,6 +1,5 @@
 -- `script::take_line` meets its contract: the form that was read says what the line does to the run (proofs/Turns).
 -- Assumes nothing.
-use native.Mathlib.Omega.{arith}
 use Rattle.script.proofs.Turns.{threads-halts, bad-halts, note-goes, request-room, request-steps}
 use borrow.Author.Needs.{needs}
 use Rattle.script.proofs.take_line.Statement.{statement}
@@ -27,7 +26,7 @@ cast-make-3 c = search needs
 make-requires : tie.Need-make-requires
 make-requires c κs =
     let a = c .before .before .before .before .before .before .before .before .before in
-    (a .pre .0, (omega (arith, c .before .before), request-room _ _ (c .before .before .before .before .before .read-form .ensures) _ _ _ _ _ _ _ (c .before .before .before .form .given .1) (a .pre .1)))
+    (a .pre .0, request-room _ _ (c .before .before .before .before .before .read-form .ensures) _ _ _ _ _ _ (c .before .before .before .form .given .1) (a .pre .1))
 
 enum-told-2 : tie.Need-enum-told-2
 enum-told-2 c = search needs
@@ -48,11 +47,11 @@ returns-2 : tie.Need-returns-2
 returns-2 c =
     let a = c .before .before .before .before .before .before .before .before .before .before .before .before .before .before in
     let m = c .before .before .before .before .make in
-    request-steps _ _ (c .before .before .before .before .before .before .before .before .before .before .read-form .ensures) (a .args .table .now) _ _ _ (a .args .writing) (a .args .out .now) (a .args .at) (m .last .0) (m .last .1 .1 .1 .1 .1 .0) (m .result)
+    request-steps _ _ (c .before .before .before .before .before .before .before .before .before .before .read-form .ensures) (a .args .table .now) _ _ _ (a .args .history .now) (a .args .at) (m .last .0) (m .last .1 .1 .1 .1 .1 .0) (m .result)
     (c .before .before .before .before .before .before .before .before .form .given .1) (m .ensures)
 
 returns-3 : tie.Need-returns-3
-returns-3 c = note-goes _ _ (c .before .before .read-form .ensures) _ _ _ _ _ (c .before .before .before .before .before .before .pre .0) (c .enum-told2 .given .1)
+returns-3 c = note-goes _ _ (c .before .before .read-form .ensures) _ _ _ _ (c .before .before .before .before .before .before .pre .0) (c .enum-told2 .given .1)
 
 returns-4 : tie.Need-returns-4
 returns-4 c = bad-halts _ _ (c .before .before .read-form .ensures) _ _ (c .enum-told3 .given .1)

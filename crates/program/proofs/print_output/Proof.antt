@@ -1,4 +1,4 @@
--- `program::run_script` meets its contract. Assumes nothing.
+-- `program::print_output` meets its contract. Assumes nothing.
 use Prim.Native.Nat.{ℕ}
 use native.Mathlib.Omega.{arith}
 use mathlib.Core.Path.{sym, ap, _∙_}
@@ -7,8 +7,8 @@ use lib.Seq.{length-take-le}
 use Rattle.definitions.specs.Answers.{replyOfAnswer}
 use Rattle.program.proofs.Room.{within}
 use borrow.Author.Needs.{needs}
-use Rattle.program.proofs.run_script.Statement.{statement}
-use Rattle.program.proofs.run_script.Tie as tie
+use Rattle.program.proofs.print_output.Statement.{statement}
+use Rattle.program.proofs.print_output.Tie as tie
 
 slice-aggregate-run : tie.Need-slice-aggregate-run
 slice-aggregate-run c = search needs
@@ -51,8 +51,8 @@ returns-2 c = search needs
 returns-3 : tie.Need-returns-3
 returns-3 c = search needs
 
-pub run-script-spec : {M : Type 1} → statement M
-run-script-spec =
+pub print-output-spec : {M : Type 1} → statement M
+print-output-spec =
     tie.close
     (tie.spec
     slice-aggregate-run
