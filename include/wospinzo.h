@@ -54,6 +54,11 @@ extern "C" {
 /* Bytes in which the output of every run fits. */
 #define WOSPINZO_RUN_ROOM 65536
 
+/* Bytes of stack that suffice for a call of any function but wospinzo_run, and
+ * for wospinzo_run (x86-64; tests/stack measures them). */
+#define WOSPINZO_STACK 1024
+#define WOSPINZO_RUN_STACK 8192
+
 /* The moves. Set and clear take a thread as target; the others take 0. */
 enum wospinzo_move_code {
     WOSPINZO_GO = 0,

@@ -30,10 +30,11 @@ struct Times {
     model: f64,
 }
 
-fn elapsed(calls: usize, mut call: impl FnMut() -> u64) -> f64 {
+/// Nanoseconds a call. Both parts are called through the same machine code.
+fn elapsed(calls: usize, part: &dyn Part, call: &mut dyn FnMut(&dyn Part) -> u64) -> f64 {
     let start = Instant::now();
     for _ in 0..calls {
-        black_box(call());
+        black_box(call(part));
     }
     start.elapsed().as_nanos() as f64 / calls as f64
 }
@@ -43,28 +44,28 @@ fn median(mut times: Vec<f64>) -> f64 {
     times[times.len() / 2]
 }
 
-/// Times two functions in alternation.
-fn times(mut archive: impl FnMut() -> u64, mut model: impl FnMut() -> u64) -> Times {
+/// Times a call of the archive and of the model in alternation.
+fn times(mut call: impl FnMut(&dyn Part) -> u64) -> Times {
     let start = Instant::now();
-    model();
-    archive();
+    call(&Model);
+    call(&Archive);
     let once = start.elapsed().as_nanos() / 2 + 1;
     let calls = (SPAN / once).clamp(1, 1000) as usize;
     // Fewer rounds for calls of milliseconds.
     let rounds = (3_000_000_000 / (2 * once * calls as u128)).clamp(31, ROUNDS as u128) as usize;
-    let (mut a, mut m) = (Vec::new(), Vec::new());
+    let (mut archive, mut model) = (Vec::new(), Vec::new());
     for round in 0..rounds {
         if round % 2 == 0 {
-            a.push(elapsed(calls, &mut archive));
-            m.push(elapsed(calls, &mut model));
+            archive.push(elapsed(calls, &Archive, &mut call));
+            model.push(elapsed(calls, &Model, &mut call));
         } else {
-            m.push(elapsed(calls, &mut model));
-            a.push(elapsed(calls, &mut archive));
+            model.push(elapsed(calls, &Model, &mut call));
+            archive.push(elapsed(calls, &Archive, &mut call));
         }
     }
     Times {
-        archive: median(a),
-        model: median(m),
+        archive: median(archive),
+        model: median(model),
     }
 }
 
@@ -171,7 +172,7 @@ fn requests(kind: &Kind, threads: usize) -> Vec<Request> {
 
 /// Makes the move on each table in turn. What a move may write is put back
 /// after it: mutex and target, and the bytes of the mover and of the targets.
-fn turns(part: impl Part, kind: &Kind, requests: &[Request]) -> impl FnMut() -> u64 {
+fn turns(kind: &Kind, requests: &[Request]) -> impl FnMut(&dyn Part) -> u64 {
     struct Turn {
         table: Vec<u8>,
         thread: u16,
@@ -194,7 +195,7 @@ fn turns(part: impl Part, kind: &Kind, requests: &[Request]) -> impl FnMut() -> 
         })
         .collect::<Vec<_>>();
     let mut next = 0;
-    move || {
+    move |part| {
         let turn = &mut turns[next];
         let answer = part.make_move(&mut turn.table, turn.thread, mov, turn.target);
         for (place, byte) in turn.kept {
@@ -216,10 +217,7 @@ fn moves() {
                 print!("{:>27} ", "-");
                 continue;
             }
-            let t = times(
-                turns(Archive, kind, &requests),
-                turns(Model, kind, &requests),
-            );
+            let t = times(turns(kind, &requests));
             *sum = (sum.0 + t.archive, sum.1 + t.model, sum.2 + 1);
             print!("{} ", cell(t));
         }
@@ -264,28 +262,19 @@ fn table_with(threads: usize, phase: u8) -> (Vec<u8>, u16) {
 fn readings() {
     head("fresh, nodes, open moves");
     row("fresh", |threads| {
-        let (mut a, mut m) = ([0; 603], [0; 603]);
-        times(
-            || Archive.fresh(threads as u16, black_box(&mut a)),
-            || Model.fresh(threads as u16, black_box(&mut m)),
-        )
+        let mut out = [0; 603];
+        times(|part| part.fresh(threads as u16, black_box(&mut out)))
     });
     row("nodes", |threads| {
         let (table, _) = table_with(threads, 14);
-        let (mut a, mut m) = ([0; 200], [0; 200]);
-        times(
-            || Archive.nodes(black_box(&table), &mut a),
-            || Model.nodes(black_box(&table), &mut m),
-        )
+        let mut out = [0; 200];
+        times(|part| part.nodes(black_box(&table), &mut out))
     });
     for phase in [0, 10, 15] {
         row(&format!("open moves, phase {phase}"), |threads| {
             let (table, thread) = table_with(threads, phase);
-            let (mut a, mut m) = ([0; 800], [0; 800]);
-            times(
-                || Archive.open_moves(black_box(&table), thread, &mut a),
-                || Model.open_moves(black_box(&table), thread, &mut m),
-            )
+            let mut out = [0; 800];
+            times(|part| part.open_moves(black_box(&table), thread, &mut out))
         });
     }
 }
@@ -300,21 +289,18 @@ fn history_rows() {
         let history = history(threads);
         let n = threads as u16;
         assert_eq!(number_of(Archive.check(n, &history)), 0);
-        times(
-            || Archive.check(n, black_box(&history)),
-            || Model.check(n, black_box(&history)),
-        )
+        times(|part| part.check(n, black_box(&history)))
     });
     row("plan, all of it written", |threads| {
         let history = history(threads);
         let n = threads as u16;
         let room = 3 * histories::plan_moves(threads, &history);
-        let (mut a, mut m) = (vec![0; room], vec![0; room]);
-        assert_eq!(3 * value_of(Archive.plan(n, &history, &mut a)), room as u64);
-        times(
-            || Archive.plan(n, black_box(&history), &mut a),
-            || Model.plan(n, black_box(&history), &mut m),
-        )
+        let mut out = vec![0; room];
+        assert_eq!(
+            3 * value_of(Archive.plan(n, &history, &mut out)),
+            room as u64
+        );
+        times(|part| part.plan(n, black_box(&history), &mut out))
     });
 }
 
@@ -335,12 +321,9 @@ fn script_rows() {
         ("run, moves and notes, N = 3", moves),
         ("run, one long note", note),
     ] {
-        let (mut a, mut m) = (vec![0; RUN_ROOM], vec![0; RUN_ROOM]);
-        assert_eq!(Archive.run(&script, &mut a), Model.run(&script, &mut m));
-        let t = times(
-            || Archive.run(black_box(&script), &mut a),
-            || Model.run(black_box(&script), &mut m),
-        );
+        let mut out = vec![0; RUN_ROOM];
+        assert_eq!(Archive.run(&script, &mut out), Model.run(&script, &mut out));
+        let t = times(|part| part.run(black_box(&script), &mut out));
         println!("{name:<34}{}", cell(t));
     }
 }

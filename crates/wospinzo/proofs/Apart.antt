@@ -1,9 +1,9 @@
 -- No two answers of an entry have the same number: the number tells the reply. Assumes nothing.
-use Prim.Native.Nat.{ℕ, _+_, _*_, _≤_}
+use Prim.Native.Nat.{ℕ, _≤_}
 use native.Mathlib.Omega.{arith}
 use mathlib.Core.Path.{_≡_, refl, ap₂, ap}
 use lib.Dec.{lit≤}
-use Rattle.definitions.specs.Answers.{Reply, shown, quiet, done, refused, codeOf, numberOf, replyOf, replyOfAnswer}
+use Rattle.definitions.specs.Answers.{shown, done, refused, codeOf, numberOf, replyOf, replyOfAnswer}
 use Rattle.definitions.specs.declared.Event.{Event}
 use Rattle.definitions.specs.declared.Event.the-variants.{EnterSharedCall, EnterSharedReturn, LeaveSharedCall, LeaveSharedReturn, EnterExclusiveCall, EnterExclusiveReturn, LeaveExclusiveCall, LeaveExclusiveReturn}
 use Rattle.definitions.specs.declared.Refusal.{Refusal}

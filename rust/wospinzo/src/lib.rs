@@ -103,6 +103,11 @@ pub const MAX_HISTORY: usize = 60_000;
 pub const MAX_SCRIPT: usize = 30_000;
 /// Bytes in which the output of every run fits.
 pub const RUN_ROOM: usize = 65_536;
+/// Bytes of stack in which the entry behind any function but [`run`] fits, measured
+/// on x86-64.
+pub const STACK: usize = 1024;
+/// Bytes of stack in which the entry behind [`run`] fits, measured on x86-64.
+pub const RUN_STACK: usize = 8192;
 
 /// The bytes of a table for so many threads.
 pub const fn table_size(threads: u16) -> usize {

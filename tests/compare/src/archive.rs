@@ -40,7 +40,15 @@ impl Part for Archive {
         unsafe { wospinzo_nodes(table.as_ptr(), table.len(), out.as_mut_ptr(), out.len()) }
     }
     fn open_moves(&self, table: &[u8], thread: u16, out: &mut [u8]) -> u64 {
-        unsafe { wospinzo_open_moves(table.as_ptr(), table.len(), thread, out.as_mut_ptr(), out.len()) }
+        unsafe {
+            wospinzo_open_moves(
+                table.as_ptr(),
+                table.len(),
+                thread,
+                out.as_mut_ptr(),
+                out.len(),
+            )
+        }
     }
     #[cfg(feature = "history")]
     fn check(&self, threads: u16, history: &[u8]) -> u64 {

@@ -2,7 +2,8 @@
 //! the nodes, the open moves, histories, plans and scripts.
 //!
 //! It shares no code with the part. It makes the same tests in the same order,
-//! and judges a table in one pass over its threads.
+//! and judges a table in one pass over its threads. Its entries are not
+//! inlined: a benchmark then calls them as it calls the archive's.
 
 /// The largest number of threads.
 pub const MAX_THREADS: usize = 200;
@@ -73,6 +74,7 @@ fn place_of(thread: usize) -> usize {
 // ---------------------------------------------------------------- the table
 
 /// Writes the fresh table of `threads` threads.
+#[inline(never)]
 pub fn fresh(threads: u16, out: &mut [u8]) -> Answer {
     let threads = usize::from(threads);
     if threads == 0 || threads > MAX_THREADS {
@@ -194,6 +196,7 @@ fn agrees(table: &[u8], threads: usize, tally: u64) -> bool {
 // ---------------------------------------------------------------- the moves
 
 /// Tests a request and makes the move.
+#[inline(never)]
 pub fn make_move(table: &mut [u8], thread: u16, mov: u16, target: u16) -> Outcome {
     let Survey {
         threads,
@@ -303,6 +306,7 @@ fn go(table: &mut [u8], threads: usize, forbidden: &mut usize, at: usize) -> Out
 const NODES: [u8; 18] = [0, 1, 1, 1, 1, 2, 3, 4, 4, 5, 6, 6, 6, 7, 8, 9, 10, 10];
 
 /// Writes the node of every thread.
+#[inline(never)]
 pub fn nodes(table: &[u8], out: &mut [u8]) -> Answer {
     let threads = match survey(table) {
         Ok(found) => found.threads,
@@ -318,6 +322,7 @@ pub fn nodes(table: &[u8], out: &mut [u8]) -> Answer {
 }
 
 /// Writes a thread's open moves as pairs of move and target.
+#[inline(never)]
 pub fn open_moves(table: &[u8], thread: u16, out: &mut [u8]) -> Answer {
     let threads = match survey(table) {
         Ok(found) => found.threads,
@@ -403,6 +408,7 @@ impl PlainLock {
 }
 
 /// Judges a history by the plain lock's rules.
+#[inline(never)]
 pub fn check(threads: u16, history: &[u8]) -> Answer {
     let threads = usize::from(threads);
     if threads == 0 || threads > MAX_THREADS {
@@ -421,6 +427,7 @@ pub fn check(threads: u16, history: &[u8]) -> Answer {
 }
 
 /// Writes the plan of a history as triples of thread, move and target.
+#[inline(never)]
 pub fn plan(threads: u16, history: &[u8], out: &mut [u8]) -> Answer {
     let checked = check(threads, history);
     let Answer::Done(_) = checked else {
@@ -617,6 +624,7 @@ impl Printer {
 }
 
 /// Runs a script and writes what it prints.
+#[inline(never)]
 pub fn run(script: &[u8], out: &mut [u8]) -> Answer {
     if script.len() > MAX_SCRIPT {
         return refused(Refusal::BadForm);

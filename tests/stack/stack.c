@@ -1,0 +1,109 @@
+/*
+ * Measures how many bytes of stack each entry uses: it runs on a stack of its
+ * own that was filled with one byte, and the lowest byte that changed is looked
+ * for. Inputs are the largest that the entry takes. Prints a table, and holds
+ * each figure to the bound that the header states.
+ */
+#define _XOPEN_SOURCE 600
+#include <stdint.h>
+#include <stdio.h>
+#include <string.h>
+#include <ucontext.h>
+
+#include "wospinzo.h"
+
+enum { STACK = 1 << 18, FILL = 0xA5 };
+
+static uint8_t stack[STACK];
+static uint8_t table[WOSPINZO_MAX_TABLE_SIZE];
+static uint8_t history[WOSPINZO_MAX_HISTORY];
+static uint8_t script[WOSPINZO_MAX_SCRIPT];
+/* The plan of the longest history fits: a round of a writer, four events, takes 3N + 6 moves. */
+static uint8_t out[3 * (WOSPINZO_MAX_HISTORY / 8 + 1) * (3 * WOSPINZO_MAX_THREADS + 6)];
+static uint64_t answer;
+
+static void nothing(void) { answer = 0; }
+static void fresh(void) { answer = wospinzo_fresh(WOSPINZO_MAX_THREADS, table, sizeof table); }
+static void move(void) { answer = wospinzo_move(table, sizeof table, 199, WOSPINZO_CALL_EXCLUSIVE, 0); }
+static void nodes(void) { answer = wospinzo_nodes(table, sizeof table, out, sizeof out); }
+static void open_moves(void) { answer = wospinzo_open_moves(table, sizeof table, 199, out, sizeof out); }
+static void check(void) { answer = wospinzo_check(WOSPINZO_MAX_THREADS, history, sizeof history); }
+static void plan(void) { answer = wospinzo_plan(WOSPINZO_MAX_THREADS, history, sizeof history, out, sizeof out); }
+static void run(void) { answer = wospinzo_run(script, sizeof script, out, WOSPINZO_RUN_ROOM); }
+
+static size_t used(void (*entry)(void))
+{
+    static ucontext_t here, there;
+    size_t low = 0;
+
+    memset(stack, FILL, sizeof stack);
+    getcontext(&there);
+    there.uc_stack.ss_sp = stack;
+    there.uc_stack.ss_size = sizeof stack;
+    there.uc_link = &here;
+    makecontext(&there, entry, 0);
+    swapcontext(&here, &there);
+    while (low < sizeof stack && stack[low] == FILL) low++;
+    return sizeof stack - low;
+}
+
+/* Rounds of one writer: events 5 to 8. */
+static void fill_history(void)
+{
+    size_t i;
+
+    for (i = 0; i + 1 < sizeof history; i += 2) {
+        history[i] = 199;
+        history[i + 1] = (uint8_t)(5 + i / 2 % 4);
+    }
+}
+
+/* Moves of one reader, and a note that fills the rest. */
+static void fill_script(void)
+{
+    static const char head[] = "(threads 200)\n";
+    static const char round[] = "(199 (call shared))\n(199 (go))\n(199 (go))\n(199 (go))\n(199 (go))\n(199 (go))\n(199 (go))\n";
+    size_t at = sizeof head - 1;
+
+    memcpy(script, head, at);
+    while (at + sizeof round + 16 < sizeof script) {
+        memcpy(script + at, round, sizeof round - 1);
+        at += sizeof round - 1;
+    }
+    memset(script + at, '.', sizeof script - at);
+    memcpy(script + at, "(note ", 6);
+    script[sizeof script - 2] = ')';
+    script[sizeof script - 1] = '\n';
+}
+
+int main(void)
+{
+    static const struct {
+        const char *name;
+        void (*call)(void);
+        size_t bound;
+    } entries[] = {
+        {"fresh", fresh, WOSPINZO_STACK},
+        {"move", move, WOSPINZO_STACK},
+        {"nodes", nodes, WOSPINZO_STACK},
+        {"open moves", open_moves, WOSPINZO_STACK},
+        {"check", check, WOSPINZO_STACK},
+        {"plan", plan, WOSPINZO_STACK},
+        {"run", run, WOSPINZO_RUN_STACK},
+    };
+    int passed = 0, failed = 0;
+    size_t i, frame = used(nothing);
+
+    fill_history();
+    fill_script();
+    printf("bytes of stack\n%-12s %8s %8s\n", "entry", "used", "bound");
+    for (i = 0; i < sizeof entries / sizeof *entries; i++) {
+        size_t bytes = used(entries[i].call) - frame;
+        int good = wospinzo_refusal(answer) == 0 && bytes <= entries[i].bound;
+
+        printf("%-12s %8zu %8zu%s\n", entries[i].name, bytes, entries[i].bound, good ? "" : "  FAILED");
+        if (good) passed++; else failed++;
+    }
+    printf("%d passed, %d failed\n", passed, failed);
+    return failed != 0;
+}
