@@ -1,4 +1,4 @@
--- The script: its lines, the eight forms, numbers as they are read and printed, and the run with what it prints, answers and leaves.
+-- The script: its lines, the eight forms, numbers as they are read and printed, the run with what it prints, answers and leaves, and what the program prints.
 -- A line's form is judged by the line alone; a line that lacks its line feed is a bad form; `(refused R L)` follows the events already printed.
 -- Assumes nothing.
 use Prim.Native.Nat.{ℕ, zero, suc, _+_, _-_, _*_, _/_, _%_}
@@ -109,14 +109,17 @@ pub data Form : Type 0 where
   note : Form
   bad : Form
 
--- "bytes 32 to 126, none too, whose round brackets balance, to depth 16 with the outermost as 1": xs is what follows `(note `, its last byte the note's own bracket. Before each byte the depth is from 1 to 16, and behind the last it is 0.
+-- "any number of bytes 32 to 126, none too, whose round brackets balance, to depth 16 with the outermost as 1": the bytes between `(note ` and the note's own closing bracket. Their depth, the brackets opened less those closed, is from 0 to 16 throughout, and 0 at their end.
 unfoldable pub noteFits : List ℕ → Bool
-noteFits xs =
-    every (length xs) (λ k. between 32 126 (getD xs k 0))
-    && (every (length xs) (λ k.
-    leb (occurrences 41 (take k xs)) (occurrences 40 (take k xs))
-    && ltb (occurrences 40 (take k xs)) (occurrences 41 (take k xs) + mostDepth))
-    && eqb (occurrences 41 xs) (occurrences 40 xs + 1))
+noteFits text =
+    every (length text) (λ k. between 32 126 (getD text k 0))
+    && (every (suc (length text)) (λ k.
+    between (occurrences 41 (take k text)) (occurrences 41 (take k text) + mostDepth) (occurrences 40 (take k text)))
+    && eqb (occurrences 40 text) (occurrences 41 text))
+
+-- `(note ...)`, from behind the space on: the note's own bracket is the line's last byte
+unfoldable pub noteForm : List ℕ → Form
+noteForm xs = cond (eqb (getD xs (length xs - 1) 0) 41 && noteFits (take (length xs - 1) xs)) note bad
 
 -- `(threads N)`, from N on
 abbrev pub threadsForm : NumberRead → Form
@@ -144,7 +147,7 @@ moveForm r = cond (r .fits) (actForm (r .value) (r .rest)) bad
 unfoldable pub formOf : List ℕ → Form
 formOf line =
     cond (starts (bytes "(threads ") line) (threadsForm (numberRead (drop 9 line)))
-    (cond (starts (bytes "(note ") line) (cond (noteFits (drop 6 line)) note bad)
+    (cond (starts (bytes "(note ") line) (noteForm (drop 6 line))
     (cond (starts (bytes "(") line) (moveForm (numberRead (drop 1 line))) bad))
 
 -- a line's form; one that lacks its line feed is bad
@@ -242,3 +245,9 @@ runReply script out =
 
 unfoldable pub runOutput : List ℕ → List ℕ → List ℕ
 runOutput script out = unlessRefused (runRefusal script out) (filled out (runOutputOf script)) out
+
+-- ---- the program
+
+-- "The program reads standard input and prints the run's output, ..; for a script too long it prints `(refused 8 0)`."
+unfoldable pub programOutput : List ℕ → List ℕ
+programOutput input = cond (leb (length input) mostScript) (runOutputOf input) (refusedLine 8 0)

@@ -1,22 +1,21 @@
 -- Laws of `noteFits`: the depth before a byte, the test of a byte at its depth, and the whole text from the tests of its bytes.
 -- Assumes nothing.
-use Prim.Native.Nat.{ℕ, suc, _+_, _≤_, _<_}
+use Prim.Native.Nat.{ℕ, suc, _+_, _-_, _≤_, _<_}
 use native.Mathlib.Omega.{arith}
 use native.Mathlib.Numerals.{add-one}
-use mathlib.Core.Path.{_≡_, refl, sym, subst, _∙_}
-use mathlib.Core.Logic.{⊎-elim}
-use mathlib.Core.Bool.{Bool, true, false, cond, _&&_, _||_, and-true, and-false}
+use mathlib.Core.Path.{_≡_, refl, sym, subst, ap, _∙_}
+use mathlib.Core.Bool.{Bool, true, false, cond, _&&_, _||_, and-false}
 use mathlib.Core.List.{List, [], _∷_, _++_}
-use borrow.Author.Tests.{leb-true, eq-eqb, ne-eqb}
+use borrow.Author.Tests.{ltb-true, ltb-false, le-leb, lt-leb, eqb-true, eq-eqb, ne-eqb}
 use lib.Dec.{T, leb, ltb, eqb}
 use lib.ListN.{length, take, getD}
 use lib.Seq.{take-suc, take-all}
 use Rattle.definitions.specs.Bounds.{mostDepth}
 use Rattle.definitions.specs.Threads.{every, between}
-use Rattle.definitions.specs.Script.{occurrences, noteFits}
-use Rattle.theory.proofs.Tests.{T-false, false-T, no-both, not-i, and-both, below?}
+use Rattle.definitions.specs.Script.{occurrences, note, bad, noteFits, noteForm}
+use Rattle.theory.proofs.Tests.{T-false, false-T, no-both, not-i}
 use Rattle.theory.proofs.Quantifiers.{every-at}
-use Rattle.forms.proofs.Text.{leb-same, eqb-same}
+use Rattle.forms.proofs.Text.{eqb-same, differ}
 
 -- ---- tests of every place
 
@@ -26,6 +25,11 @@ every-more f n h e = rw (add-one, h) e
 
 every-fails : (f : ℕ → Bool) (n k : ℕ) → k < n → f k ≡ false → every n f ≡ false
 every-fails f n k l e = T-false (every n f) (not-i (every n f) (λ t. no-both (f k) (every-at f n t k l) (false-T (f k) e)))
+
+-- neither of two
+or-none : (a b : Bool) → (a || b) ≡ false → (a ≡ false) × (b ≡ false)
+or-none false b h = (refl, h)
+or-none true b h = differ (sym h)
 
 -- ---- the depth
 
@@ -38,14 +42,9 @@ occurrences-more : (c : ℕ) (xs : List ℕ) (n : ℕ) → n < length xs
     → occurrences c (take (n + 1) xs) ≡ occurrences c (take n xs) + cond (eqb (getD xs n 0) c) 1 0
 occurrences-more c xs n h = rw (add-one, take-suc xs n 0) (occurrences-behind c (take n xs) (getD xs n 0))
 
--- the depth before byte n, 1 before the first
+-- the depth before byte n, 0 before the first
 abbrev pub Depth : List ℕ → ℕ → ℕ → Type 0
-Depth xs n depth = depth + occurrences 41 (take n xs) ≡ 1 + occurrences 40 (take n xs)
-
-depth-next : (xs : List ℕ) (n depth next : ℕ) → n < length xs → Depth xs n depth
-    → next + cond (eqb (getD xs n 0) 41) 1 0 ≡ depth + cond (eqb (getD xs n 0) 40) 1 0 → Depth xs (n + 1) next
-depth-next xs n depth next l h e =
-    omega (arith, occurrences-more 41 xs n l, occurrences-more 40 xs n l)
+Depth xs n depth = depth + occurrences 41 (take n xs) ≡ occurrences 40 (take n xs)
 
 -- ---- the tests of a byte and of the text
 
@@ -53,29 +52,25 @@ depth-next xs n depth next l h e =
 abbrev pub printable : List ℕ → ℕ → Bool
 printable xs k = between 32 126 (getD xs k 0)
 
--- the depth before it is from 1 to the deepest
+-- the depth before it is from 0 to the deepest
 abbrev pub nested : List ℕ → ℕ → Bool
-nested xs k =
-    leb (occurrences 41 (take k xs)) (occurrences 40 (take k xs))
-    && ltb (occurrences 40 (take k xs)) (occurrences 41 (take k xs) + mostDepth)
+nested xs k = between (occurrences 41 (take k xs)) (occurrences 41 (take k xs) + mostDepth) (occurrences 40 (take k xs))
 
-nested-is : (xs : List ℕ) (n depth : ℕ) → Depth xs n depth → nested xs n ≡ between 1 mostDepth depth
-nested-is xs n depth h =
-    rw (
-      leb-same (occurrences 41 (take n xs)) (occurrences 40 (take n xs)) 1 depth (λ l. omega arith) (λ l. omega arith),
-      leb-same (suc (occurrences 40 (take n xs))) (occurrences 41 (take n xs) + mostDepth) depth mostDepth (λ l. omega arith) (λ l. omega arith),
-    )
+-- a bracket, and one that may stand at a depth
+abbrev pub bracket : List ℕ → ℕ → Bool
+bracket xs k = eqb (getD xs k 0) 40 || eqb (getD xs k 0) 41
+
+abbrev pub stands : List ℕ → ℕ → ℕ → Bool
+stands xs k depth = cond (eqb (getD xs k 0) 40) (ltb depth mostDepth) (ltb 0 depth)
+
+nested-i : (xs : List ℕ) (n depth : ℕ) → Depth xs n depth → depth ≤ mostDepth → nested xs n ≡ true
+nested-i xs n depth h l =
+    rw (le-leb (occurrences 41 (take n xs)) (occurrences 40 (take n xs)) (omega arith), le-leb (occurrences 40 (take n xs)) (occurrences 41 (take n xs) + mostDepth) (omega arith))
 
 -- a byte that no note has
 pub note-bad : (xs : List ℕ) (n : ℕ) → n < length xs → printable xs n ≡ false → noteFits xs ≡ false
 unfolding noteFits
 note-bad xs n l e = rw (every-fails (printable xs) (length xs) n l e)
-
--- a byte at a depth that no note has
-note-deep : (xs : List ℕ) (n depth : ℕ) → n < length xs → Depth xs n depth → between 1 mostDepth depth ≡ false → noteFits xs ≡ false
-unfolding noteFits
-note-deep xs n depth l h e =
-    rw (every-fails (nested xs) (length xs) n l (nested-is xs n depth h ∙ e)) (and-false (every (length xs) (printable xs)))
 
 -- ---- the loop
 
@@ -83,63 +78,108 @@ note-deep xs n depth l h e =
 pub record Behind (xs : List ℕ) (n depth : ℕ) : Type 0 where
   pub within : n ≤ length xs
   pub bytes : every n (printable xs) ≡ true
-  pub depths : every n (nested xs) ≡ true
+  pub depths : every (n + 1) (nested xs) ≡ true
   pub is-depth : Depth xs n depth
+  pub deep : depth ≤ mostDepth
 
--- a note goes on there
-pub record Inside (xs : List ℕ) (n depth : ℕ) : Type 0 where
-  pub behind : Behind xs n depth
-  pub deep : between 1 mostDepth depth ≡ true
-
-pub inside-first : (xs : List ℕ) → Inside xs 0 1
+pub behind-first : (xs : List ℕ) → Behind xs 0 0
 unfolding every occurrences
-inside-first xs = record { behind = record { within = omega arith; bytes = refl; depths = refl; is-depth = refl }; deep = refl }
+behind-first xs = record { within = omega arith; bytes = refl; depths = refl; is-depth = refl; deep = omega arith }
 
-module _ (xs : List ℕ) (n depth : ℕ) (i : Inside xs n depth) where
-  pub depth-fits : (1 ≤ depth) × (depth ≤ mostDepth)
-  depth-fits = let both = and-both (leb 1 depth) (leb depth mostDepth) (i .deep) in (leb-true 1 depth (both .0), leb-true depth mostDepth (both .1))
+module _ (xs : List ℕ) (n depth : ℕ) (b : Behind xs n depth) (l : n < length xs) where
+  opens-more : (x : Bool) → eqb (getD xs n 0) 40 ≡ x → occurrences 40 (take (n + 1) xs) ≡ occurrences 40 (take n xs) + cond x 1 0
+  opens-more x e = occurrences-more 40 xs n l ∙ ap (λ (y : Bool). occurrences 40 (take n xs) + cond y 1 0) e
 
-  module _ (l : n < length xs) (e : printable xs n ≡ true) where
-    pub behind-more : (next : ℕ) → next + cond (eqb (getD xs n 0) 41) 1 0 ≡ depth + cond (eqb (getD xs n 0) 40) 1 0 → Behind xs (n + 1) next
-    behind-more next h =
-        record {
-          within = omega arith;
-          bytes = every-more (printable xs) n (i .behind .bytes) e;
-          depths = every-more (nested xs) n (i .behind .depths) (nested-is xs n depth (i .behind .is-depth) ∙ i .deep);
-          is-depth = depth-next xs n depth next l (i .behind .is-depth) h;
-        }
+  closes-more : (x : Bool) → eqb (getD xs n 0) 41 ≡ x → occurrences 41 (take (n + 1) xs) ≡ occurrences 41 (take n xs) + cond x 1 0
+  closes-more x e = occurrences-more 41 xs n l ∙ ap (λ (y : Bool). occurrences 41 (take n xs) + cond y 1 0) e
 
-    -- no bracket
-    pub inside-more : (eqb (getD xs n 0) 40 || eqb (getD xs n 0) 41) ≡ false → Inside xs (n + 1) depth
-    inside-more h = record { behind = behind-more depth (same (eqb (getD xs n 0) 40) (eqb (getD xs n 0) 41) h); deep = i .deep }
+  -- one byte more
+  more : (next : ℕ) → printable xs n ≡ true → Depth xs (n + 1) next → next ≤ mostDepth → Behind xs (n + 1) next
+  more next e d h =
+      record {
+        within = omega arith;
+        bytes = every-more (printable xs) n (b .bytes) e;
+        depths = every-more (nested xs) (n + 1) (b .depths) (nested-i xs (n + 1) next d h);
+        is-depth = d;
+        deep = h;
+      }
+
+  -- no bracket
+  pub behind-plain : printable xs n ≡ true → bracket xs n ≡ false → Behind xs (n + 1) depth
+  behind-plain e h =
+      let none = or-none (eqb (getD xs n 0) 40) (eqb (getD xs n 0) 41) h in
+      more depth e (omega (arith, opens-more false (none .0), closes-more false (none .1), b .is-depth)) (b .deep)
+
+  module _ (h : bracket xs n ≡ true) where
+    -- it opens, or it closes
+    which : (P : Type 0) → (eqb (getD xs n 0) 40 ≡ true → eqb (getD xs n 0) 41 ≡ false → P) → (eqb (getD xs n 0) 40 ≡ false → eqb (getD xs n 0) 41 ≡ true → P) → P
+    which P f g = go (eqb (getD xs n 0) 40) refl
       where
-        same : (a b : Bool) → (a || b) ≡ false → depth + cond b 1 0 ≡ depth + cond a 1 0
-        same false false h = refl
-        same false true h = absurd (subst T h tt)
-        same true b h = absurd (subst T h tt)
+        go : (x : Bool) → eqb (getD xs n 0) 40 ≡ x → P
+        go true e = f e (let q = eqb-true (getD xs n 0) 40 e in ne-eqb (getD xs n 0) 41 (λ z. omega arith))
+        go false e = g e (sym (ap (λ (y : Bool). y || eqb (getD xs n 0) 41) e) ∙ h)
+
+    -- a bracket that may stand there
+    pub behind-bracket : printable xs n ≡ true → stands xs n depth ≡ true → (next : ℕ)
+        → next + cond (eqb (getD xs n 0) 40) 0 1 ≡ depth + cond (eqb (getD xs n 0) 40) 1 0 → Behind xs (n + 1) next
+    behind-bracket e s next q =
+        which (Behind xs (n + 1) next)
+        (λ o c.
+        let below = ltb-true depth mostDepth (rw o at s) in
+        let steps : next + 0 ≡ depth + 1 = rw o at q in
+        more next e (omega (arith, opens-more true o, closes-more false c, b .is-depth)) (omega arith))
+        (λ o c.
+        let above = ltb-true 0 depth (rw o at s) in
+        let steps : next + 1 ≡ depth + 0 = rw o at q in
+        more next e (omega (arith, opens-more false o, closes-more true c, b .is-depth)) (omega (arith, b .deep)))
+
+    -- one that may not
+    pub note-deep : stands xs n depth ≡ false → noteFits xs ≡ false
+    unfolding noteFits
+    note-deep s =
+        rw (every-fails (nested xs) (suc (length xs)) (n + 1) (omega arith) outside) (and-false (every (length xs) (printable xs)))
+      where
+        outside : nested xs (n + 1) ≡ false
+        outside =
+            which (nested xs (n + 1) ≡ false)
+            (λ o c.
+            let full = ltb-false depth mostDepth (rw o at s) in
+            rw (lt-leb (occurrences 40 (take (n + 1) xs)) (occurrences 41 (take (n + 1) xs) + mostDepth) (omega (arith, opens-more true o, closes-more false c, b .is-depth)))
+            (and-false (leb (occurrences 41 (take (n + 1) xs)) (occurrences 40 (take (n + 1) xs)))))
+            (λ o c.
+            let none = ltb-false 0 depth (rw o at s) in
+            rw (lt-leb (occurrences 41 (take (n + 1) xs)) (occurrences 40 (take (n + 1) xs)) (omega (arith, opens-more false o, closes-more true c, b .is-depth))))
 
 -- the text ends
-note-end : (xs : List ℕ) (n depth : ℕ) → length xs ≤ n → Behind xs n depth → eqb depth 0 ≡ noteFits xs
+pub note-end : (xs : List ℕ) (n depth : ℕ) → Behind xs n depth → length xs ≤ n → eqb depth 0 ≡ noteFits xs
 unfolding noteFits
-note-end xs n depth l b =
-    rw (subst (λ (m : ℕ). every m (printable xs) ≡ true) end (b .bytes), subst (λ (m : ℕ). every m (nested xs) ≡ true) end (b .depths))
+note-end xs n depth b l =
+    rw (subst (λ (m : ℕ). every m (printable xs) ≡ true) end (b .bytes), subst (λ (m : ℕ). every m (nested xs) ≡ true) (add-one n ∙ ap suc end) (b .depths))
     (closes (rw (take-all n xs l) at (b .is-depth)))
   where
     end : n ≡ length xs
     end = omega (arith, b .within)
 
-    closes : depth + occurrences 41 xs ≡ 1 + occurrences 40 xs → eqb depth 0 ≡ eqb (occurrences 41 xs) (occurrences 40 xs + 1)
-    closes e = eqb-same depth 0 (occurrences 41 xs) (occurrences 40 xs + 1) (λ q. omega arith) (λ q. omega arith)
+    closes : depth + occurrences 41 xs ≡ occurrences 40 xs → eqb depth 0 ≡ eqb (occurrences 40 xs) (occurrences 41 xs)
+    closes e = eqb-same depth 0 (occurrences 40 xs) (occurrences 41 xs) (λ q. omega arith) (λ q. omega arith)
 
--- there the note is closed by its last byte, or it doesn't fit
-pub closed-end : (xs : List ℕ) (n depth : ℕ) → Behind xs n depth → length xs ≤ n → (eqb depth 0 && eqb n (length xs)) ≡ noteFits xs
-closed-end xs n depth b l =
-    rw (eq-eqb n (length xs) (omega (arith, b .within)), and-true (eqb depth 0)) (note-end xs n depth l b)
+-- ---- the note's own bracket
 
--- and so where the depth is that of no byte
-pub closed-out : (xs : List ℕ) (n depth : ℕ) → Behind xs n depth → between 1 mostDepth depth ≡ false → (eqb depth 0 && eqb n (length xs)) ≡ noteFits xs
-closed-out xs n depth b e =
-    ⊎-elim
-    (λ l. rw (ne-eqb n (length xs) (λ q. omega arith), and-false (eqb depth 0)) (sym (note-deep xs n depth l (b .is-depth) e)))
-    (λ l. closed-end xs n depth b l)
-    (below? (length xs) n)
+module _ (xs : List ℕ) where
+  pub note-empty : length xs ≡ 0 → bad ≡ noteForm xs
+  unfolding noteForm
+  note-empty e = by xs e
+    where
+      by : (ys : List ℕ) → length ys ≡ 0 → bad ≡ cond (eqb (getD ys (length ys - 1) 0) 41 && noteFits (take (length ys - 1) ys)) note bad
+      by [] e = refl
+      by (y ∷ ys) e = absurd (omega arith)
+
+  -- the last byte is none
+  pub note-unclosed : (getD xs (length xs - 1) 0 ≡ 41 → ⊥) → bad ≡ noteForm xs
+  unfolding noteForm
+  note-unclosed h = rw (ne-eqb (getD xs (length xs - 1) 0) 41 h)
+
+  -- it is, and the text before it fits or not
+  pub note-closed : (x : Bool) → getD xs (length xs - 1) 0 ≡ 41 → noteFits (take (length xs - 1) xs) ≡ x → cond x note bad ≡ noteForm xs
+  unfolding noteForm
+  note-closed x h e = rw (eq-eqb (getD xs (length xs - 1) 0) 41 h, e)

@@ -1,15 +1,17 @@
 -- A line reads as a form exactly if it is the line that spells it: `spelled` and `only-spelled`, against the grammar of specs/Grammar.antt.
 -- Assumes nothing.
-use Prim.Native.Nat.{ℕ, _<_}
+use Prim.Native.Nat.{ℕ, suc, _-_, _<_}
 use native.Mathlib.Omega.{arith}
 use mathlib.Core.Path.{_≡_, refl, sym, ap, _∙_}
 use mathlib.Core.Logic.{_≢_, _⊎_, inl, inr}
 use mathlib.Core.Bool.{Bool, true, false, cond, _&&_}
 use mathlib.Core.List.{List, [], _∷_, _++_}
-use borrow.Author.Tests.{ne-eqb}
-use lib.ListN.{length, take, drop, getD, take-append-drop, List·getD-append}
+use borrow.Author.Tests.{eqb-true, ne-eqb}
+use lib.Dec.{eqb}
+use lib.ListN.{length, take, drop, getD, take-append-drop, length-append, List·getD-append}
+use lib.Seq.{take-all, take-suc, take-at, getD-at}
 use Rattle.definitions.specs.Moves.{setMove, clearMove}
-use Rattle.definitions.specs.Script.{bytes, same, starts, isDigit, decimal, NumberRead, numberRead, noteFits, Form, threads, request, note, bad, threadsForm, targetForm, actForm, moveForm, formOf}
+use Rattle.definitions.specs.Script.{bytes, same, starts, isDigit, decimal, NumberRead, numberRead, noteFits, noteForm, Form, threads, request, note, bad, threadsForm, targetForm, actForm, moveForm, formOf}
 use Rattle.forms.specs.Grammar.{requestLine, Spells, threads-line, go-line, shared-line, exclusive-line, set-line, clear-line, relent-line, note-line}
 use Rattle.theory.proofs.Tests.{and-both}
 use Rattle.theory.proofs.Texts.{same-eq}
@@ -37,6 +39,22 @@ request-line thread xs h e =
     opened (decimal thread ++ xs) (ap isDigit (List·getD-append (decimal thread) xs 0 0 (decimal-some thread)) ∙ front thread)
     ∙ ap moveForm (read-printed thread xs h e)
 
+-- a list but for its last entry, and that entry
+last-off : (xs : List ℕ) (c : ℕ) → getD xs (length xs - 1) 0 ≡ c → (c ≡ 0 → ⊥) → xs ≡ take (length xs - 1) xs ++ (c ∷ [])
+last-off [] c e h = absurd (h (sym e))
+last-off (x ∷ xs) c e h =
+    let k : length (x ∷ xs) - 1 ≡ length xs = omega arith in
+    let at : getD (x ∷ xs) (length xs) 0 ≡ c = ap (λ (m : ℕ). getD (x ∷ xs) m 0) (sym k) ∙ e in
+    sym (take-all (suc (length xs)) (x ∷ xs) (omega arith))
+    ∙ (take-suc (x ∷ xs) (length xs) 0 (omega arith)
+    ∙ (ap (λ (b : ℕ). take (length xs) (x ∷ xs) ++ (b ∷ [])) at ∙ ap (λ (m : ℕ). take m (x ∷ xs) ++ (c ∷ [])) (sym k)))
+
+note-spelled : (text : List ℕ) → noteFits text ≡ true → noteForm (text ++ (41 ∷ [])) ≡ note
+unfolding noteForm
+note-spelled text h =
+    let k : length (text ++ (41 ∷ [])) - 1 ≡ length text = simp length-append (omega arith) in
+    rw (k, getD-at text 41 [] 0 (length text) refl, take-at text (41 ∷ []) (length text) refl, h)
+
 -- ---- what spells a form reads as it
 
 pub spelled : (line : List ℕ) (f : Form) → Spells line f → formOf line ≡ f
@@ -52,7 +70,7 @@ spelled line f (clear-line t k h l e) =
     ap formOf e ∙ request-line t (bytes " (clear " ++ (decimal k ++ bytes "))")) h refl
     ∙ ap (targetForm t clearMove) (read-printed k (bytes "))") l refl)
 spelled line f (relent-line t h e) = ap formOf e ∙ request-line t (bytes " (relent))") h refl
-spelled line f (note-line text h e) = ap formOf e ∙ rw h
+spelled line f (note-line text h e) = ap formOf e ∙ note-spelled text h
 
 -- ---- and nothing else does
 
@@ -105,6 +123,18 @@ module _ (line : List ℕ) where
         (λ t. number-known (drop 8 xs) (bytes "))") (request thread clearMove) (λ k l q. clear-line thread k h l (aimed (bytes " (clear ") t k q)))
         (λ t6. inl refl))))))
 
+  -- a note's text, and its own bracket
+  note-known : (xs : List ℕ) → line ≡ bytes "(note " ++ xs → Known line (noteForm xs)
+  unfolding noteForm bytes
+  note-known xs e =
+      by-cond (Known line) (eqb (getD xs (length xs - 1) 0) 41 && noteFits (take (length xs - 1) xs)) note bad found (λ t. inl refl)
+    where
+      found : (eqb (getD xs (length xs - 1) 0) 41 && noteFits (take (length xs - 1) xs)) ≡ true → Known line note
+      found t =
+          let both = and-both (eqb (getD xs (length xs - 1) 0) 41) (noteFits (take (length xs - 1) xs)) t in
+          inr (note-line (take (length xs - 1) xs) (both .1)
+          (e ∙ ap (λ (l : List ℕ). bytes "(note " ++ l) (last-off xs 41 (eqb-true (getD xs (length xs - 1) 0) 41 (both .0)) (λ z. omega arith))))
+
   -- a line that is no bad form spells the form that it reads as
   pub only-spelled : (formOf line ≡ bad) ⊎ Spells line (formOf line)
   unfolding formOf bytes
@@ -113,7 +143,7 @@ module _ (line : List ℕ) where
       (λ t. number-known (drop 9 line) (bytes ")") threads
       (λ n l q. threads-line n l (starts-split (bytes "(threads ") line t ∙ ap (λ (xs : List ℕ). bytes "(threads " ++ xs) q)))
       (λ t1. by-cond (Known line) (starts (bytes "(note ") line) _ _
-      (λ t. by-cond (Known line) (noteFits (drop 6 line)) note bad (λ f. inr (note-line (drop 6 line) f (starts-split (bytes "(note ") line t))) (λ f. inl refl))
+      (λ t. note-known (drop 6 line) (starts-split (bytes "(note ") line t))
       (λ t2. by-cond (Known line) (starts (bytes "(") line) _ _
       (λ t. by-cond (Known line) (numberRead (drop 1 line) .fits) _ bad
       (λ f. let n = number-split (drop 1 line) f in

@@ -21,4 +21,4 @@ pub data Spells (line : List ℕ) : Form → Type 0 where
   set-line : (t k : ℕ) → t < 1000 → k < 1000 → line ≡ requestLine t (bytes " (set " ++ (decimal k ++ bytes "))")) → Spells line (request t setMove k)
   clear-line : (t k : ℕ) → t < 1000 → k < 1000 → line ≡ requestLine t (bytes " (clear " ++ (decimal k ++ bytes "))")) → Spells line (request t clearMove k)
   relent-line : (t : ℕ) → t < 1000 → line ≡ requestLine t (bytes " (relent))") → Spells line (request t relent 0)
-  note-line : (text : List ℕ) → noteFits text ≡ true → line ≡ bytes "(note " ++ text → Spells line note
+  note-line : (text : List ℕ) → noteFits text ≡ true → line ≡ bytes "(note " ++ (text ++ bytes ")") → Spells line note

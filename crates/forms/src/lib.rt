@@ -1,12 +1,12 @@
 // The reader of a script's forms: one line, handed over alone and without its line feed.
 ghost use mathlib.Core.Path.{_≡_};
-ghost use mathlib.Core.Bool.{cond, not, _&&_, _||_};
+ghost use mathlib.Core.Bool.{true, cond, _||_};
 ghost use Prim.Native.Nat.{_+_, _≤_};
-ghost use lib.Dec.{eqb};
+ghost use lib.Dec.{ltb, eqb};
 ghost use lib.ListN.{getD};
 ghost use Rattle.definitions.specs.Threads.{between};
 ghost use Rattle.definitions.specs.Bounds.{mostDepth};
-ghost use Rattle.definitions.specs.Script.{same, starts, isDigit, noteFits, numberRead, note, bad, threadsForm, targetForm, actForm, moveForm, formOf};
+ghost use Rattle.definitions.specs.Script.{same, starts, isDigit, noteFits, noteForm, numberRead, threadsForm, targetForm, actForm, moveForm, formOf};
 ghost use Rattle.forms.specs.Answers.{formFor, numberFor, closedFor, aimedForm};
 
 // What a line says. What each case means stands in specs/Answers.antt.
@@ -134,39 +134,32 @@ fn is_bracket(c: u8) -> bool
     (c == b'(') | (c == b')')
 }
 
-// The depth behind a byte.
+// A bracket that a text may have at a depth: one that opens below the deepest, or one that closes what is open.
+fn may_stand(depth: u8, c: u8) -> bool
+    ensures { λ r. ⌜ r ≡ cond (eqb c 40) (ltb depth mostDepth) (ltb 0 depth) ⌝ }
+{
+    if c == b'(' {
+        return depth < MOST_DEPTH;
+    }
+    0 < depth
+}
+
+// The depth behind a bracket.
 fn depth_after(depth: u8, c: u8) -> u8
-    requires { ⌜ (1 ≤ depth) × (depth ≤ mostDepth) ⌝ }
-    ensures { λ r. ⌜ r + cond (eqb c 41) 1 0 ≡ depth + cond (eqb c 40) 1 0 ⌝ }
+    requires { ⌜ (depth ≤ mostDepth) × (cond (eqb c 40) (ltb depth mostDepth) (ltb 0 depth) ≡ true) ⌝ }
+    ensures { λ r. ⌜ r + cond (eqb c 40) 0 1 ≡ depth + cond (eqb c 40) 1 0 ⌝ }
 {
     if c == b'(' {
         return depth + 1;
     }
-    if c == b')' {
-        return depth - 1;
-    }
-    depth
+    depth - 1
 }
 
-// The depth is that of no byte of a note.
-fn is_outside(depth: u8) -> bool
-    ensures { λ r. ⌜ r ≡ not (between 1 mostDepth depth) ⌝ }
-{
-    !((1 <= depth) & (depth <= MOST_DEPTH))
-}
-
-// The note's own bracket is closed, and by its last byte.
-fn is_closed(depth: u8, at: usize, end: usize) -> bool
-    ensures { λ r. ⌜ r ≡ (eqb depth 0 && eqb at end) ⌝ }
-{
-    (depth == 0) & (at == end)
-}
-
-// The text of a note, with the note's own closing bracket as its last byte. The depth is tested where it changes.
+// The text of a note, without the note's own brackets. The depth is tested where it changes.
 fn note_fits(text: &[u8]) -> bool
     ensures { λ r. ⌜ r ≡ noteFits (now (text .entry)) ⌝ }
 {
-    let mut depth: u8 = 1;
+    let mut depth: u8 = 0;
     let mut i: usize = 0;
     while i < text.len() {
         let c = text[i];
@@ -175,13 +168,13 @@ fn note_fits(text: &[u8]) -> bool
             return false;
         }
         if is_bracket(c) {
-            depth = depth_after(depth, c);
-            if is_outside(depth) {
-                return is_closed(depth, i, text.len());
+            if !may_stand(depth, c) {
+                return false;
             }
+            depth = depth_after(depth, c);
         }
     }
-    is_closed(depth, i, text.len())
+    depth == 0
 }
 
 // A number that a text follows, and nothing else.
@@ -276,14 +269,22 @@ fn read_request(part: &[u8]) -> Form
     read_act(number.value, &part[digits..])
 }
 
-// What follows `(note `.
-fn read_note(text: &[u8]) -> Form
-    ensures { λ r. ⌜ formFor r ≡ cond (noteFits (now (text .entry))) note bad ⌝ }
+// What follows `(note `: a text, and the note's own closing bracket as the last byte.
+fn read_note(part: &[u8]) -> Form
+    ensures { λ r. ⌜ formFor r ≡ noteForm (now (part .entry)) ⌝ }
 {
-    if note_fits(text) {
-        return Form::Note;
+    let size = part.len();
+    if size == 0 {
+        return Form::Bad;
     }
-    Form::Bad
+    let end = size - 1;
+    if part[end] != b')' {
+        return Form::Bad;
+    }
+    if !note_fits(&part[..end]) {
+        return Form::Bad;
+    }
+    Form::Note
 }
 
 // The form of a line. proofs/Spelled.antt shows which lines spell which form.

@@ -1,16 +1,18 @@
-// Runs the script on standard input and prints its output.
-use definitions::Answer;
+// Runs the script on standard input and prints its output: what the crate printout writes for what was read.
 use libc::STDERR_FILENO;
 use libc::STDIN_FILENO;
 use libc::STDOUT_FILENO;
+use printout::ENOUGH_OUTPUT;
+use printout::print_input;
+ghost use mathlib.Core.Path.{_≡_};
+ghost use Prim.Native.Nat.{_<_};
 ghost use lib.ListN.{length};
+ghost use Rattle.definitions.specs.Bounds.{mostScript};
+ghost use Rattle.definitions.specs.Script.{programOutput};
 ghost use Rattle.program.specs.Input.{WithinRoom};
 
-// The longest script, and one byte more to see that a script is longer.
+// The longest script, and one byte more to see that a script is longer: no byte behind it has a say in the output.
 const MOST_INPUT: usize = 30_001;
-
-// The run's output never needs more.
-const ENOUGH_OUTPUT: usize = 65_536;
 
 // How many bytes were read, or that a read failed.
 enum Input {
@@ -18,8 +20,9 @@ enum Input {
     Failed,
 }
 
-// Reads until the buffer is full or the input ends. A read may bring fewer bytes than there is room for.
+// Reads until the buffer, which holds more than the longest script, is full or the input ends. A read may bring fewer bytes than there is room for.
 fn read_input(buffer: &mut [u8]) -> Input
+    requires { ⌜ mostScript < length (now buffer) ⌝ }
     ensures { λ r. ⌜ WithinRoom r (length (now (buffer .exit))) ⌝ }
 {
     let mut done: usize = 0;
@@ -37,38 +40,25 @@ fn read_input(buffer: &mut [u8]) -> Input
     Input::Bytes(done)
 }
 
-fn say_failed(what: &[u8]) {
-    io::write_all(STDERR_FILENO, what);
-}
-
-// The output of a script too long.
-fn say_too_long() {
-    let written = io::write_all(STDOUT_FILENO, b"(refused 8 0)\n");
-    if !written {
-        say_failed(b"the output could not be written\n");
-    }
-}
-
-// Runs a script and prints its output, for which the buffer always suffices.
-fn print_output(script: &[u8]) {
-    let mut output = [0u8; ENOUGH_OUTPUT];
-    let answer = script::run(script, &mut output);
-    let Answer::Done(length) = answer else {
-        say_too_long();
-        return;
-    };
-    let written = io::write_all(STDOUT_FILENO, &output[..length]);
-    if !written {
-        say_failed(b"the output could not be written\n");
-    }
+// Hands the program's output for an input to the kit's write: those bytes and no others. Whether all were taken is answered.
+fn hand_on(input: &[u8], output: &[u8]) -> bool
+    requires { ⌜ now output ≡ programOutput (now input) ⌝ }
+    ensures { λ _. ⌜ now (output .entry) ≡ programOutput (now (input .entry)) ⌝ }
+{
+    io::write_all(STDOUT_FILENO, output)
 }
 
 fn main() {
     let mut input = [0u8; MOST_INPUT];
     let read = read_input(&mut input);
     let Input::Bytes(length) = read else {
-        say_failed(b"the script could not be read\n");
+        io::write_all(STDERR_FILENO, b"the script could not be read\n");
         return;
     };
-    print_output(&input[..length]);
+    let mut output = [0u8; ENOUGH_OUTPUT];
+    let count = print_input(&input[..length], &mut output);
+    let written = hand_on(&input[..length], &output[..count]);
+    if !written {
+        io::write_all(STDERR_FILENO, b"the output could not be written\n");
+    }
 }

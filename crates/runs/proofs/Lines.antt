@@ -1,15 +1,15 @@
 -- Lines: their bytes add up to the script's, a line that states a request has the bytes of its form, and what a line does to the run.
 -- Assumes nothing.
-use Prim.Native.Nat.{ℕ, suc, _+_, _≤_}
+use Prim.Native.Nat.{ℕ, suc, _+_, _-_, _≤_}
 use native.Mathlib.Omega.{arith}
 use mathlib.Core.Path.{_≡_, refl, ap, _∙_}
 use mathlib.Core.Bool.{Bool, true, false, cond, _&&_, _||_}
 use mathlib.Core.List.{List, [], _∷_}
 use lib.Dec.{T, eqb}
-use lib.ListN.{length, drop, length-drop}
+use lib.ListN.{length, getD, take, drop, length-drop}
 use Rattle.definitions.specs.Answers.{Test, firstRefusal}
 use Rattle.definitions.specs.Moves.{Request, go, callShared, callExclusive, setMove, clearMove, relent, moveRefusal, accepts}
-use Rattle.definitions.specs.Script.{bytes, same, starts, lineFeed, Line, inFront, linesOf, decimal, NumberRead, numberRead, Form, threads, request, note, bad, noteFits, threadsForm, targetForm, actForm, moveForm, formOf, lineForm, Turn, stops, passes, makes, turnOf}
+use Rattle.definitions.specs.Script.{bytes, same, starts, lineFeed, Line, inFront, linesOf, decimal, NumberRead, numberRead, Form, threads, request, note, bad, noteFits, noteForm, threadsForm, targetForm, actForm, moveForm, formOf, lineForm, Turn, stops, passes, makes, turnOf}
 use Rattle.theory.proofs.Tests.{T-true, cond-either}
 use Rattle.theory.proofs.Texts.{same-eq, starts-length}
 use Rattle.runs.proofs.Numbers.{printed-digits, digits-split}
@@ -104,12 +104,16 @@ move-long size xs fits =
 count-long : (size : ℕ) (r : NumberRead) → Long size (threadsForm r)
 count-long size r = cond-either (Long size) (r .fits && same (r .rest) (bytes ")")) (threads (r .value)) bad (λ u. tt) (λ u. tt)
 
+note-long : (size : ℕ) (xs : List ℕ) → Long size (noteForm xs)
+unfolding noteForm
+note-long size xs = cond-either (Long size) (eqb (getD xs (length xs - 1) 0) 41 && noteFits (take (length xs - 1) xs)) note bad (λ u. tt) (λ u. tt)
+
 form-long : (line : List ℕ) → Long (length line + 1) (formOf line)
 unfolding formOf bytes
 form-long line =
     let P : Form → Type 0 = Long (length line + 1) in
     cond-either P (starts (bytes "(threads ") line) _ _ (λ t. count-long (length line + 1) (numberRead (drop 9 line)))
-    (λ t1. cond-either P (starts (bytes "(note ") line) _ _ (λ t. cond-either P (noteFits (drop 6 line)) note bad (λ u. tt) (λ u. tt))
+    (λ t1. cond-either P (starts (bytes "(note ") line) _ _ (λ t. note-long (length line + 1) (drop 6 line))
     (λ t2. cond-either P (starts (bytes "(") line) _ _ (λ t. move-long (length line + 1) (drop 1 line) (omega (arith, starts-split (bytes "(") line t)))
     (λ t3. tt)))
 

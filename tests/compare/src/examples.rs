@@ -95,8 +95,8 @@ pub fn others(c: &mut Comparison) {
         b"(refused 8 1)\n",
     );
     for (depth, printed) in [(16, &b"(steps 0)\n7777"[..]), (17, b"(refused 8 2)\n")] {
-        // The note's own bracket is the first.
-        let note = [b"(".repeat(depth - 1), b")".repeat(depth)].concat();
+        // The note's own bracket is not counted.
+        let note = [b"(".repeat(depth), b")".repeat(depth + 1)].concat();
         let script = [&b"(threads 1)\n(note "[..], &note, b"\n"].concat();
         let size = printed.iter().position(|&byte| byte == b'\n').unwrap() as u64 + 1;
         let call = Call::run(script, vec![b'7'; 14]);

@@ -517,7 +517,7 @@ fn threads_line(line: &[u8]) -> Option<usize> {
 /// Reads a line that is a move or a note.
 fn form(line: &[u8]) -> Option<Form> {
     if let Some(text) = line.strip_prefix(b"(note ") {
-        return note_ends(text).then_some(Form::Note);
+        return note_fits(text.strip_suffix(b")")?).then_some(Form::Note);
     }
     let (thread, rest) = number(line.strip_prefix(b"(")?)?;
     let words = rest.strip_prefix(b" (")?.strip_suffix(b"))")?;
@@ -545,18 +545,17 @@ fn with_target(words: &[u8]) -> Option<(u16, usize)> {
     rest.is_empty().then_some((mov, target))
 }
 
-/// Whether a note's text, with the bracket that closes the note, is in order.
-fn note_ends(text: &[u8]) -> bool {
-    let mut depth = 1;
+/// Whether a note's text, without the note's own brackets, is in order.
+fn note_fits(text: &[u8]) -> bool {
+    let mut depth = 0;
     for &byte in text {
-        if depth == 0 || !(32..=126).contains(&byte) {
-            return false;
-        }
         match byte {
             b'(' if depth == MAX_DEPTH => return false,
             b'(' => depth += 1,
+            b')' if depth == 0 => return false,
             b')' => depth -= 1,
-            _ => (),
+            32..=126 => (),
+            _ => return false,
         }
     }
     depth == 0

@@ -25,7 +25,7 @@ fn push_move(script: &mut Vec<u8>, thread: usize, mov: usize, target: usize) {
 fn push_note(r: &mut Random, script: &mut Vec<u8>, deep: bool) {
     script.extend(b"(note ");
     if deep {
-        let depth = 13 + r.below(4);
+        let depth = 14 + r.below(4);
         script.extend(b"(".repeat(depth));
         script.extend(b")".repeat(depth));
     }

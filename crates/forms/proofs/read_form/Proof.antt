@@ -1,9 +1,9 @@
 -- `forms::read_form` meets its contract: the word that the line begins with, and the reader of what follows. Assumes nothing.
 use Prim.Native.Nat.{ℕ}
 use mathlib.Core.Path.{_≡_, sym, ap, _∙_}
-use mathlib.Core.Bool.{true, false, cond}
+use mathlib.Core.Bool.{true, false}
 use mathlib.Core.List.{List}
-use Rattle.definitions.specs.Script.{bytes, starts, numberRead, threadsForm, noteFits, note, bad, moveForm, formOf}
+use Rattle.definitions.specs.Script.{bytes, starts, numberRead, threadsForm, noteForm, moveForm, formOf}
 use Rattle.theory.proofs.Texts.{starts-length}
 use Rattle.theory.proofs.Lists.{from-on}
 use borrow.Author.Needs.{needs}
@@ -84,7 +84,7 @@ returns-2 : tie.Need-returns-2
 unfolding formOf
 returns-2 c =
     rw (not-threads (c .before .before .before .before .before), is-note (c .before .before))
-    (c .read-note .ensures ∙ ap (λ (l : List ℕ). cond (noteFits l) note bad) (from-on (c .before .before .before .before .before .before .before .before .before .args .line .now) 6))
+    (c .read-note .ensures ∙ ap noteForm (from-on (c .before .before .before .before .before .before .before .before .before .args .line .now) 6))
 
 slice-aggregate-starts-with-3 : tie.Need-slice-aggregate-starts-with-3
 slice-aggregate-starts-with-3 c = search needs

@@ -1,10 +1,14 @@
--- `program::main` meets its contract. Assumes nothing.
+-- `program::main` meets its contract: what was read is within the input's buffer, and what is handed on is the front of the output's, the program's output for what was read.
 use Prim.Native.Nat.{ℕ, _≤_}
 use native.Mathlib.Omega.{arith}
-use mathlib.Core.Path.{_≡_, sym, subst}
-use lib.ListN.{length-replicate}
-use lib.Seq.{length-take-le}
+use mathlib.Core.Path.{_≡_, sym, subst, ap, _∙_}
+use mathlib.Core.List.{List, _++_}
 use borrow.Author.Needs.{needs}
+use lib.ListN.{length, take, drop, length-replicate}
+use lib.Seq.{length-take-le, take-at}
+use Rattle.definitions.specs.Script.{programOutput}
+use Rattle.printout.specs.Printed.{Printed}
+use Rattle.printout.proofs.Output.{output-fits}
 use Rattle.program.specs.declared.Input.{Input}
 use Rattle.program.specs.declared.Input.the-variants.{Bytes}
 use Rattle.program.specs.Input.{WithinRoom}
@@ -15,11 +19,30 @@ use Rattle.program.proofs.main.Tie as tie
 read-within : (r : Input) (n room : ℕ) → r ≡ Bytes n → WithinRoom r room → n ≤ room
 read-within r n room e h = subst (λ (x : Input). WithinRoom x room) e h
 
+-- the front of the output's buffer
+printed-front : (input before after : List ℕ) (n : ℕ) → Printed input before after n → take n after ≡ programOutput input
+printed-front input before after n p =
+    ap (take n) (p .output) ∙ take-at (programOutput input) (drop (length (programOutput input)) before) n (sym (p .count))
+
+printed-within : (input before after : List ℕ) (n : ℕ) → Printed input before after n → n ≤ 65_536
+printed-within input before after n p = omega (arith, p .count, output-fits input)
+
+-- what was read is within the input's buffer, as it is then
+was-read : (c : tie.After-known-told) → c .before .read .given .0 .0 ≤ length (c .before .before .before .before .read-input .last .0)
+was-read c =
+    let call = c .before .before .before .before .read-input in
+    omega (arith, read-within _ _ _ (c .before .read .given .1) (call .ensures), call .kept, length-replicate {A = ℕ} 30_001 0)
+
+-- what was printed is within the output's
+was-printed : (c : tie.After-print-input) → c .print-input .result ≤ length (c .print-input .last .1 .0)
+was-printed c =
+    omega (arith, printed-within _ _ _ _ (c .print-input .ensures), c .print-input .kept, length-replicate {A = ℕ} 65_536 0)
+
 slice-aggregate-read-input : tie.Need-slice-aggregate-read-input
 slice-aggregate-read-input c = search needs
 
 read-input-requires : tie.Need-read-input-requires
-read-input-requires c κs = search needs
+read-input-requires c κs = omega (arith, length-replicate {A = ℕ} 30_001 0)
 
 enum-known-read : tie.Need-enum-known-read
 enum-known-read c = search needs
@@ -27,30 +50,53 @@ enum-known-read c = search needs
 enum-told : tie.Need-enum-told
 enum-told c = search needs
 
-slice-aggregate-say-failed : tie.Need-slice-aggregate-say-failed
-slice-aggregate-say-failed c = search needs
+slice-aggregate-write-all : tie.Need-slice-aggregate-write-all
+slice-aggregate-write-all c = search needs
 
-say-failed-requires : tie.Need-say-failed-requires
-say-failed-requires c κs = search needs
+write-all-requires : tie.Need-write-all-requires
+write-all-requires c κs = search needs
 
 returns : tie.Need-returns
 returns c = search needs
 
 array-share-prefix-input : tie.Need-array-share-prefix-input
-array-share-prefix-input c =
-    let call = c .before .before .before .before .read-input in
-    omega (arith, read-within _ _ _ (c .before .read .given .1) (call .ensures), call .kept, length-replicate {A = ℕ} 30_001 0)
+array-share-prefix-input c = was-read c
 
-slice-aggregate-print-output : tie.Need-slice-aggregate-print-output
-slice-aggregate-print-output c =
-    let call = c .before .before .before .before .before .read-input in
-    sym (length-take-le _ _ (omega (arith, read-within _ _ _ (c .before .before .read .given .1) (call .ensures), call .kept, length-replicate {A = ℕ} 30_001 0)))
+slice-aggregate-print-input : tie.Need-slice-aggregate-print-input
+slice-aggregate-print-input c = sym (length-take-le _ _ (was-read (c .before)))
 
-print-output-requires : tie.Need-print-output-requires
-print-output-requires c κs = search needs
+slice-aggregate-print-input-2 : tie.Need-slice-aggregate-print-input-2
+slice-aggregate-print-input-2 c = search needs
+
+print-input-requires : tie.Need-print-input-requires
+print-input-requires c κs = omega (arith, length-replicate {A = ℕ} 65_536 0)
+
+array-share-prefix-input-2 : tie.Need-array-share-prefix-input-2
+array-share-prefix-input-2 c = was-read (c .before .before .before .before)
+
+slice-aggregate-hand-on : tie.Need-slice-aggregate-hand-on
+slice-aggregate-hand-on c = sym (length-take-le _ _ (was-read (c .before .before .before .before .before)))
+
+array-share-prefix-output : tie.Need-array-share-prefix-output
+array-share-prefix-output c = was-printed (c .before .before)
+
+slice-aggregate-hand-on-2 : tie.Need-slice-aggregate-hand-on-2
+slice-aggregate-hand-on-2 c = sym (length-take-le _ _ (was-printed (c .before .before .before)))
+
+hand-on-requires : tie.Need-hand-on-requires
+hand-on-requires c κs = printed-front _ _ _ _ (c .before .before .before .print-input .ensures)
+
+slice-aggregate-write-all-2 : tie.Need-slice-aggregate-write-all-2
+slice-aggregate-write-all-2 c = search needs
+
+write-all-requires-2 : tie.Need-write-all-requires-2
+write-all-requires-2 c κs = search needs
 
 returns-2 : tie.Need-returns-2
 returns-2 c = search needs
+
+returns-3 : tie.Need-returns-3
+returns-3 c = search needs
 
 pub main-spec : {M : Type 1} → statement M
 main-spec =
@@ -60,10 +106,19 @@ main-spec =
     read-input-requires
     enum-known-read
     enum-told
-    slice-aggregate-say-failed
-    say-failed-requires
+    slice-aggregate-write-all
+    write-all-requires
     returns
     array-share-prefix-input
-    slice-aggregate-print-output
-    print-output-requires
-    returns-2)
+    slice-aggregate-print-input
+    slice-aggregate-print-input-2
+    print-input-requires
+    array-share-prefix-input-2
+    slice-aggregate-hand-on
+    array-share-prefix-output
+    slice-aggregate-hand-on-2
+    hand-on-requires
+    slice-aggregate-write-all-2
+    write-all-requires-2
+    returns-2
+    returns-3)

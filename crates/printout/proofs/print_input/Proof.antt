@@ -1,0 +1,42 @@
+-- `printout::print_input` meets its contract: in a buffer that suffices the output is written, and no refusal is answered.
+use borrow.Author.Needs.{needs}
+use Rattle.printout.proofs.Output.{printed, never-refused}
+use Rattle.printout.proofs.print_input.Statement.{statement}
+use Rattle.printout.proofs.print_input.Tie as tie
+
+write-output-requires : tie.Need-write-output-requires
+write-output-requires c κs = search needs
+
+enum-known-answer : tie.Need-enum-known-answer
+enum-known-answer c = search needs
+
+enum-told : tie.Need-enum-told
+enum-told c = search needs
+
+same-length : tie.Need-same-length
+same-length c = search needs
+
+returns : tie.Need-returns
+returns c =
+    let ran = c .before .before .before .before in
+    absurd (never-refused _ _ _ _ (ran .before .before .before .before .pre) (ran .write-output .ensures) _ _ (c .enum-told .given .1))
+
+same-length-2 : tie.Need-same-length-2
+same-length-2 c = search needs
+
+returns-2 : tie.Need-returns-2
+returns-2 c =
+    let ran = c .before .before .before .before .before in
+    printed _ _ _ _ (ran .before .before .before .before .pre) (ran .write-output .ensures) _ (c .before .answer .given .1)
+
+pub print-input-spec : {M : Type 1} → statement M
+print-input-spec =
+    tie.close
+    (tie.spec
+    write-output-requires
+    enum-known-answer
+    enum-told
+    same-length
+    returns
+    same-length-2
+    returns-2)
