@@ -1,6 +1,11 @@
 /*
  * wospinzo.h - the busy-forbidden lock: its table, its moves, histories and
- * scripts. C99 or later, or C++. Link with libwospinzo.a.
+ * scripts. C99 or later, or C++11 or later.
+ *
+ *   cc  -std=c99   -Iinclude -o executive executive.c   target/staticlib/libwospinzo.a
+ *   c++ -std=c++11 -Iinclude -o executive executive.cpp target/staticlib/libwospinzo.a
+ *
+ * The archive is for x86-64; `rt staticlib wospinzo` builds it.
  *
  * A readers-writer lock for N threads (tasks of an executive) kept in one
  * table of bytes that the caller owns. Every step of a thread through the lock
@@ -19,12 +24,12 @@
  * may be 0. The slices of one call must not overlap, and nothing else may read
  * or write them during the call.
  *
- * Answers: every function answers a number of 64 bits, which the functions
- * below take apart. Its low byte is 0 where the request was accepted, else the
- * number of the refusal, the first that fits in the order of their numbers.
- * The rest is the value: of an accepted request what the function says it
- * answers; of a refusal its place, which is the index of the first bad pair
- * for refusals 9, 10 and 11, else 0.
+ * Answers: every function but wospinzo_version answers a number of 64 bits,
+ * which the functions below take apart. Its low byte is 0 where the request
+ * was accepted, else the number of the refusal, the first that fits in the
+ * order of their numbers. The rest is the value: of an accepted request what
+ * the function says it answers; of a refusal its place, which is the index of
+ * the first bad pair for refusals 9, 10 and 11, else 0.
  *
  * A refused request leaves every lent byte as it was. An accepted one fills
  * exactly its output from the front and leaves the bytes after it.
@@ -39,15 +44,32 @@
 extern "C" {
 #endif
 
+/* The version of this header; wospinzo_version answers that of the archive.
+ * docs/CHANGELOG.md says what a version promises. */
+#define WOSPINZO_VERSION_MAJOR 1
+#define WOSPINZO_VERSION_MINOR 0
+#define WOSPINZO_VERSION_PATCH 0
+#define WOSPINZO_VERSION \
+    (65536 * WOSPINZO_VERSION_MAJOR + 256 * WOSPINZO_VERSION_MINOR + WOSPINZO_VERSION_PATCH)
+
+/* A compiler that can warns where an answer is not used. */
+#if defined(__GNUC__) || defined(__clang__)
+#define WOSPINZO_USE_ANSWER __attribute__((warn_unused_result))
+#elif defined(__cplusplus) && __cplusplus >= 201703L
+#define WOSPINZO_USE_ANSWER [[nodiscard]]
+#else
+#define WOSPINZO_USE_ANSWER
+#endif
+
 /* The largest number of threads. */
 #define WOSPINZO_MAX_THREADS 200
 /* The target byte of a table that has no target. */
 #define WOSPINZO_NO_TARGET 255
 /* The bytes of a table for n threads, and of the largest table. */
-#define WOSPINZO_TABLE_SIZE(n) (3 + 3 * (size_t)(n))
+#define WOSPINZO_TABLE_SIZE(n) (3u + 3u * (n))
 #define WOSPINZO_MAX_TABLE_SIZE 603
 /* The most bytes that wospinzo_open_moves writes for n threads. */
-#define WOSPINZO_OPEN_MOVES_ROOM(n) (4 * (size_t)(n))
+#define WOSPINZO_OPEN_MOVES_ROOM(n) (4u * (n))
 /* The longest history and the longest script, in bytes. */
 #define WOSPINZO_MAX_HISTORY 60000
 #define WOSPINZO_MAX_SCRIPT 30000
@@ -80,6 +102,28 @@ enum wospinzo_event {
     WOSPINZO_ENTER_EXCLUSIVE_RETURN = 6,
     WOSPINZO_LEAVE_EXCLUSIVE_CALL = 7,
     WOSPINZO_LEAVE_EXCLUSIVE_RETURN = 8
+};
+
+/* The phases, each named for what the thread does next there. */
+enum wospinzo_phase_number {
+    WOSPINZO_PHASE_FREE = 0,             /* nothing: it is outside the lock */
+    WOSPINZO_PHASE_RAISE_BUSY = 1,       /* a reader raises its busy flag */
+    WOSPINZO_PHASE_READ_FORBIDDEN = 2,   /* it reads its forbidden flag */
+    WOSPINZO_PHASE_BACK_OFF = 3,         /* it found 1: it lowers busy */
+    WOSPINZO_PHASE_TRY_AGAIN = 4,        /* and starts again */
+    WOSPINZO_PHASE_ENTER_SHARED = 5,     /* it found 0: its return is shown */
+    WOSPINZO_PHASE_IN_SHARED = 6,        /* it reads the settings, then leaves */
+    WOSPINZO_PHASE_LOWER_BUSY = 7,       /* it lowers busy */
+    WOSPINZO_PHASE_LEAVE_SHARED = 8,     /* its return is shown */
+    WOSPINZO_PHASE_TAKE_MUTEX = 9,       /* a writer takes the mutex */
+    WOSPINZO_PHASE_SET_FLAG = 10,        /* it sets a forbidden flag (set t) */
+    WOSPINZO_PHASE_READ_BUSY = 11,       /* it reads that thread's busy flag */
+    WOSPINZO_PHASE_TAKE_BACK = 12,       /* it found 1: it clears the flag */
+    WOSPINZO_PHASE_ENTER_EXCLUSIVE = 13, /* every flag is set: its return is shown */
+    WOSPINZO_PHASE_IN_EXCLUSIVE = 14,    /* it writes the settings, then leaves */
+    WOSPINZO_PHASE_CLEAR_FLAGS = 15,     /* it clears the flags (clear t) */
+    WOSPINZO_PHASE_LET_MUTEX_GO = 16,    /* it lets the mutex go */
+    WOSPINZO_PHASE_LEAVE_EXCLUSIVE = 17  /* its return is shown */
 };
 
 /* The nodes, each with its phases. */
@@ -133,10 +177,54 @@ static inline uint64_t wospinzo_value(uint64_t answer)
 }
 
 /*
+ * What stands in a table, of which nothing is tested: `table` is one that
+ * wospinzo_fresh made, and `thread` is below its N.
+ */
+static inline unsigned wospinzo_threads(const uint8_t *table)
+{
+    return table[0];
+}
+
+static inline unsigned wospinzo_mutex(const uint8_t *table)
+{
+    return table[1];
+}
+
+static inline unsigned wospinzo_target(const uint8_t *table)
+{
+    return table[2];
+}
+
+/* An enumerator of wospinzo_phase_number. */
+static inline unsigned wospinzo_phase(const uint8_t *table, uint16_t thread)
+{
+    return table[3u + 3u * thread];
+}
+
+static inline unsigned wospinzo_busy(const uint8_t *table, uint16_t thread)
+{
+    return table[4u + 3u * thread];
+}
+
+static inline unsigned wospinzo_forbidden(const uint8_t *table, uint16_t thread)
+{
+    return table[5u + 3u * thread];
+}
+
+/* Of this header: the largest table, and that an answer's parts fit. */
+typedef char wospinzo_assert_table[WOSPINZO_TABLE_SIZE(WOSPINZO_MAX_THREADS) == WOSPINZO_MAX_TABLE_SIZE ? 1 : -1];
+typedef char wospinzo_assert_byte[WOSPINZO_MAX_THREADS < WOSPINZO_NO_TARGET && WOSPINZO_NO_TARGET <= UINT8_MAX ? 1 : -1];
+
+/* The version of the archive, as WOSPINZO_VERSION. */
+WOSPINZO_USE_ANSWER
+uint32_t wospinzo_version(void);
+
+/*
  * Writes the fresh table for `threads` threads: all Free, mutex 0, no target.
  * Answers the number of bytes written, 3 + 3 * threads.
  * Refusals: 1, 12.
  */
+WOSPINZO_USE_ANSWER
 uint64_t wospinzo_fresh(uint16_t threads, uint8_t *out, size_t out_len);
 
 /*
@@ -158,6 +246,7 @@ uint64_t wospinzo_fresh(uint16_t threads, uint8_t *out, size_t out_len);
  *   clear t         phase 15: clears t's forbidden flag; the last one leads on
  *   relent          phase 11 to 12, without looking at the target
  */
+WOSPINZO_USE_ANSWER
 uint64_t wospinzo_move(uint8_t *table, size_t table_len, uint16_t thread, uint16_t move,
                        uint16_t target);
 
@@ -166,6 +255,7 @@ uint64_t wospinzo_move(uint8_t *table, size_t table_len, uint16_t thread, uint16
  * Answers the number of bytes written, N. The table is only read.
  * Refusals: 1, 2, 12.
  */
+WOSPINZO_USE_ANSWER
 uint64_t wospinzo_nodes(const uint8_t *table, size_t table_len, uint8_t *out, size_t out_len);
 
 /*
@@ -175,6 +265,7 @@ uint64_t wospinzo_nodes(const uint8_t *table, size_t table_len, uint8_t *out, si
  * and 0 for a thread in phase 9 while the mutex is 1. The table is only read.
  * Refusals: 1, 2, 3, 12.
  */
+WOSPINZO_USE_ANSWER
 uint64_t wospinzo_open_moves(const uint8_t *table, size_t table_len, uint16_t thread,
                              uint8_t *out, size_t out_len);
 
@@ -186,6 +277,7 @@ uint64_t wospinzo_open_moves(const uint8_t *table, size_t table_len, uint16_t th
  * Refusals: 1, 8, and for the first bad pair 9, 10 or 11 with its index as
  * place.
  */
+WOSPINZO_USE_ANSWER
 uint64_t wospinzo_check(uint16_t threads, const uint8_t *history, size_t history_len);
 
 /*
@@ -196,6 +288,7 @@ uint64_t wospinzo_check(uint16_t threads, const uint8_t *history, size_t history
  * Answers the number of moves; three times as many bytes are written.
  * Refusals: those of wospinzo_check, then 12.
  */
+WOSPINZO_USE_ANSWER
 uint64_t wospinzo_plan(uint16_t threads, const uint8_t *history, size_t history_len,
                        uint8_t *out, size_t out_len);
 
@@ -206,6 +299,7 @@ uint64_t wospinzo_plan(uint16_t threads, const uint8_t *history, size_t history_
  * Answers the number of bytes written; WOSPINZO_RUN_ROOM always suffices.
  * Refusals: 8 for a script above WOSPINZO_MAX_SCRIPT bytes, 12.
  */
+WOSPINZO_USE_ANSWER
 uint64_t wospinzo_run(const uint8_t *script, size_t script_len, uint8_t *out, size_t out_len);
 
 #ifdef __cplusplus

@@ -37,10 +37,10 @@ static int is_panel(uint16_t task)
 }
 
 /* The first task whose forbidden flag has this value. */
-static uint16_t first_with(uint8_t forbidden)
+static uint16_t first_with(unsigned forbidden)
 {
     uint16_t task = 0;
-    while (task < TASKS - 1 && table[5 + 3 * task] != forbidden)
+    while (task < TASKS - 1 && wospinzo_forbidden(table, task) != forbidden)
         task++;
     return task;
 }
@@ -49,15 +49,15 @@ static uint16_t first_with(uint8_t forbidden)
 static struct request next_move(uint16_t task)
 {
     struct request request = {WOSPINZO_GO, 0};
-    switch (table[3 + 3 * task]) {
-    case 0:
+    switch (wospinzo_phase(table, task)) {
+    case WOSPINZO_PHASE_FREE:
         request.move = is_panel(task) ? WOSPINZO_CALL_EXCLUSIVE : WOSPINZO_CALL_SHARED;
         break;
-    case 10:
+    case WOSPINZO_PHASE_SET_FLAG:
         request.move = WOSPINZO_SET;
         request.target = first_with(0);
         break;
-    case 15:
+    case WOSPINZO_PHASE_CLEAR_FLAGS:
         request.move = WOSPINZO_CLEAR;
         request.target = first_with(1);
         break;

@@ -10,10 +10,14 @@ fn main() {
         Ok(dir) => here.join(dir),
         Err(_) => here.join("../../target/staticlib"),
     };
-    println!(
-        "cargo:rerun-if-changed={}",
-        dir.join("libwospinzo.a").display()
-    );
+    let archive = dir.join("libwospinzo.a");
+    println!("cargo:rerun-if-changed={}", archive.display());
+    if !archive.is_file() {
+        eprintln!("there is no {}", archive.display());
+        eprintln!("`rt staticlib wospinzo` in the repository builds it;");
+        eprintln!("WOSPINZO_LIB_DIR names another folder that has it");
+        std::process::exit(1);
+    }
     println!("cargo:rustc-link-search=native={}", dir.display());
     println!("cargo:rustc-link-lib=static=wospinzo");
 }

@@ -1,1 +1,2 @@
+-- The marked examples of the scope paper.
 pub mod Marked

@@ -1,5 +1,4 @@
--- The bounds of the scope paper, each named once: threads, phases, moves, "no target", events, and the longest history.
--- Assumes nothing.
+-- The bounds of the scope paper, each named once: threads, phases, moves, "no target", events, histories, scripts and their output, and the depth of a note.
 use Prim.Native.Nat.{ℕ}
 
 -- "N threads, 1 to 200"

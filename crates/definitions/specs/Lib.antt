@@ -1,8 +1,10 @@
 -- The definitions of the scope paper, in its order. Each file opens with what it states.
 pub mod Bounds
+pub mod Codes
 pub mod Threads
 pub mod Answers
 pub mod Table
+pub mod Phases
 pub mod Sound
 pub mod Nodes
 pub mod Moves
@@ -10,4 +12,6 @@ pub mod OpenMoves
 pub mod PlainLock
 pub mod Plan
 pub mod Chains
-pub mod Script
+pub mod Texts
+pub mod Forms
+pub mod Run

@@ -1,53 +1,36 @@
--- The moves: a request, what each move writes and shows by phase, the refusals 1 to 7 in their order, and what the move entry answers and leaves.
--- A line of `goWrites` is a phase, as the paper lists them; `moveReply` and `moveTable` are what the entry's promise cites.
--- Assumes nothing.
+-- The moves: a request, what each move writes and shows by phase, the refusals in their order, and the step of a table that a request makes, by itself and through a storage.
+-- A line of `goEffect` is a phase, as the paper lists them. `stepReply` and `step` are the step on the record;
+-- `moveReply` and `moveTable` are the same on the byte table, sized first, and are what the move entry's promise cites.
 use Prim.Native.Nat.{ℕ}
 use mathlib.Core.Bool.{Bool, cond, not, _&&_, _||_}
 use mathlib.Core.List.{List, [], _∷_}
 use lib.Dec.{leb, ltb, eqb}
 use lib.ListN.{getD}
+use Rattle.definitions.specs.Answers.{Reply, Seen, shown, quiet, isAccepted, leaves, Test, test, answered}
 use Rattle.definitions.specs.Bounds.{lastMove, noTarget}
-use Rattle.definitions.specs.Answers.{Reply, refused, Test, firstRefusal, unlessRefused}
-use Rattle.definitions.specs.Threads.{every, among}
-use Rattle.definitions.specs.Table.{Table, tableOf, sized, Write, mutex≔, target≔, phase≔, busy≔, forbidden≔, stored}
+use Rattle.definitions.specs.Codes.{go, setMove, clearMove}
+use Rattle.definitions.specs.Phases.{hasMove}
 use Rattle.definitions.specs.Sound.{sound}
-use Rattle.definitions.specs.Nodes.{replyFor}
+use Rattle.definitions.specs.Table.{Table, Write, mutex≔, target≔, phase≔, busy≔, forbidden≔, applied, Storage, byteTable}
+use Rattle.definitions.specs.Threads.{every}
+use Rattle.definitions.specs.declared.Request.{Request}
 
--- "A request is thread, move and target"
-pub record Request : Type 0 where
-  pub thread : ℕ
-  pub move : ℕ
-  pub target : ℕ
+-- "A request is thread, move and target": a request by its three numbers
+abbrev pub ask : ℕ → ℕ → ℕ → Request
+ask thread mv target = record { thread = thread; mv = mv; target = target }
 
--- "Moves: 0 go, 1 call shared, 2 call exclusive, 3 set, 4 clear, 5 relent."
-abbrev pub go : ℕ
-go = 0
+-- ---- what each move writes and shows
 
-abbrev pub callShared : ℕ
-callShared = 1
-
-abbrev pub callExclusive : ℕ
-callExclusive = 2
-
-abbrev pub setMove : ℕ
-setMove = 3
-
-abbrev pub clearMove : ℕ
-clearMove = 4
-
-abbrev pub relent : ℕ
-relent = 5
-
--- what a move writes, and the code of the event that it shows, 0 for quiet
+-- what a move writes, and what is seen of it
 pub record Effect : Type 0 where
   pub writes : List Write
-  pub shows : ℕ
+  pub shows : Seen
 
 abbrev pub quietly : List Write → Effect
-quietly ws = record { writes = ws; shows = 0 }
+quietly ws = record { writes = ws; shows = quiet }
 
 abbrev pub showing : ℕ → List Write → Effect
-showing event ws = record { writes = ws; shows = event }
+showing event ws = record { writes = ws; shows = shown event }
 
 -- "every forbidden is 1"
 abbrev pub allForbidden : Table → Bool
@@ -129,65 +112,64 @@ effect s r =
     -- "Relent: 11 to 12."
     ∷ quietly (phase≔ (r .thread) 12 ∷ [])
     ∷ [])
-    (r .move)
+    (r .mv)
     (quietly [])
 
--- the phases in which each move exists, in the order of the moves' numbers
-unfoldable pub phasesOf : ℕ → List ℕ
-phasesOf move =
-    getD
-    ((1 ∷ 2 ∷ 3 ∷ 4 ∷ 5 ∷ 6 ∷ 7 ∷ 8 ∷ 9 ∷ 11 ∷ 12 ∷ 13 ∷ 14 ∷ 16 ∷ 17 ∷ [])
-    ∷ (0 ∷ [])
-    ∷ (0 ∷ [])
-    ∷ (10 ∷ 15 ∷ [])
-    ∷ (15 ∷ [])
-    ∷ (11 ∷ [])
-    ∷ [])
-    move
-    []
+-- ---- the refusals
+
+-- set and clear name a thread as their target
+abbrev pub namesThread : ℕ → Bool
+namesThread mv = eqb mv setMove || eqb mv clearMove
 
 -- refusal 5: "The target of set or clear isn't below N, or that of another move isn't 0."
 abbrev pub targetFits : ℕ → ℕ → ℕ → Bool
-targetFits n move t = cond (eqb move setMove || eqb move clearMove) (ltb t n) (eqb t 0)
-
--- refusal 6: "The thread's phase has no such move."
-abbrev pub hasMove : ℕ → ℕ → Bool
-hasMove move phase = among phase (phasesOf move)
+targetFits n mv t = cond (namesThread mv) (ltb t n) (eqb t 0)
 
 -- refusal 7: "Go in phase 9 while the mutex is 1."
-abbrev pub mutexFits : Table → Request → Bool
-mutexFits s r = not (eqb (r .move) go && (eqb (s .phase (r .thread)) 9 && eqb (s .mutex) 1))
+abbrev pub mustWait : ℕ → ℕ → ℕ → Bool
+mustWait phase mutex mv = eqb mv go && (eqb phase 9 && eqb mutex 1)
 
--- the refusals 3 to 7 of a request to a table, in their order
+-- the refusals 3 to 7 of a request, in their order
 abbrev pub requestTests : Table → Request → List Test
 requestTests s r =
-    record { number = 3; passed = ltb (r .thread) (s .threads) }
-    ∷ record { number = 4; passed = leb (r .move) lastMove }
-    ∷ record { number = 5; passed = targetFits (s .threads) (r .move) (r .target) }
-    ∷ record { number = 6; passed = hasMove (r .move) (s .phase (r .thread)) }
-    ∷ record { number = 7; passed = mutexFits s r }
+    test 3 (ltb (r .thread) (s .threads))
+    ∷ test 4 (leb (r .mv) lastMove)
+    ∷ test 5 (targetFits (s .threads) (r .mv) (r .target))
+    ∷ test 6 (hasMove (r .mv) (s .phase (r .thread)))
+    ∷ test 7 (not (mustWait (s .phase (r .thread)) (s .mutex) (r .mv)))
     ∷ []
 
--- the first of the refusals 1 to 7 that fits, or 0
-unfoldable pub moveRefusal : List ℕ → Request → ℕ
-moveRefusal bytes r =
-    firstRefusal
-    (record { number = 1; passed = sized bytes }
-    ∷ record { number = 2; passed = sound (tableOf bytes) }
-    ∷ requestTests (tableOf bytes) r)
+-- with refusal 2 before them
+abbrev pub moveTests : Table → Request → List Test
+moveTests s r = test 2 (sound s) ∷ requestTests s r
 
--- "Accepted means answered with a shown event or quiet."
-abbrev pub accepts : List ℕ → Request → Bool
-accepts bytes r = eqb (moveRefusal bytes r) 0
+-- ---- the step
 
 -- "A move answers a shown event, or quiet, or a refusal."
-unfoldable pub moveReply : List ℕ → Request → Reply
-moveReply bytes r =
-    unlessRefused (moveRefusal bytes r)
-    (replyFor (effect (tableOf bytes) r .shows))
-    (refused (moveRefusal bytes r) 0)
+unfoldable pub stepReply : Table → Request → Reply Seen
+stepReply s r = answered (moveTests s r) (effect s r .shows)
 
--- the table's bytes after it; "Every lent byte stays" where it is refused
-unfoldable pub moveTable : List ℕ → Request → List ℕ
-moveTable bytes r =
-    unlessRefused (moveRefusal bytes r) (stored bytes (effect (tableOf bytes) r .writes)) bytes
+-- the table after it
+unfoldable pub step : Table → Request → Table
+step s r = leaves (stepReply s r) (applied s (effect s r .writes)) s
+
+abbrev pub accepts : Table → Request → Bool
+accepts s r = isAccepted (stepReply s r)
+
+-- through a storage: refusal 1 first, then the step
+module _ {B : Type 0} (storage : Storage B) where
+  unfoldable pub replyIn : B → Request → Reply Seen
+  replyIn b r = answered (test 1 (storage .fits b) ∷ moveTests (storage .table b) r) (effect (storage .table b) r .shows)
+
+  unfoldable pub stepIn : B → Request → B
+  stepIn b r = leaves (replyIn b r) (storage .store b (effect (storage .table b) r .writes)) b
+
+  abbrev pub acceptsIn : B → Request → Bool
+  acceptsIn b r = isAccepted (replyIn b r)
+
+-- on the byte table
+abbrev pub moveReply : List ℕ → Request → Reply Seen
+moveReply = replyIn byteTable
+
+abbrev pub moveTable : List ℕ → Request → List ℕ
+moveTable = stepIn byteTable

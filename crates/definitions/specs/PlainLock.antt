@@ -1,15 +1,14 @@
 -- The plain readers-writer lock: a history, each thread's place in its round, what each event needs, permitted histories, and what the check answers.
 -- A thread's place is its last event's code, 0 before the first and after a 4 or 8. A pair is judged by the pairs before it alone.
--- Assumes nothing.
 use Prim.Native.Nat.{ℕ, _+_, _%_}
 use mathlib.Core.Bool.{Bool, true, cond, not, _&&_, _||_}
 use mathlib.Core.List.{List, [], _∷_}
 use lib.Dec.{leb, ltb, eqb}
 use lib.ListN.{length, getD, take}
+use Rattle.definitions.specs.Answers.{Reply, Test, test, testAt, passesAll, answered}
 use Rattle.definitions.specs.Bounds.{firstEvent, lastEvent, mostHistory}
-use Rattle.definitions.specs.Answers.{Reply, done, refused, firstRefusal, unlessRefused}
-use Rattle.definitions.specs.Threads.{every, some, first, between}
 use Rattle.definitions.specs.Table.{countFits}
+use Rattle.definitions.specs.Threads.{every, some, gather, between}
 
 -- "A history is a list of byte pairs, thread then event."
 pub record Pair : Type 0 where
@@ -58,44 +57,31 @@ needMet n places event =
     (not (anyInExclusive n places))
     (cond (eqb event 6) (not (anyInShared n places) && not (anyInExclusive n places)) true)
 
--- the refusals 9 to 11 of a pair after those before it, in their order: "A history's event is outside 1 to 8, or its thread isn't below N." "The event isn't the thread's next." "The event's need of an empty section isn't met."
-unfoldable pub pairRefusal : ℕ → Places → Pair → ℕ
-pairRefusal n places x =
-    firstRefusal
-    (record { number = 9; passed = between firstEvent lastEvent (x .event) && ltb (x .thread) n }
-    ∷ record { number = 10; passed = isNext (places (x .thread)) (x .event) }
-    ∷ record { number = 11; passed = needMet n places (x .event) }
-    ∷ [])
+-- the refusals of a pair of index k, given the places before it, in their order:
+-- "A history's event is outside 1 to 8, or its thread isn't below N." "The event isn't the thread's next." "The event's need of an empty section isn't met."
+abbrev pub pairTests : ℕ → Places → ℕ → Pair → List Test
+pairTests n places k x =
+    testAt k 9 (between firstEvent lastEvent (x .event) && ltb (x .thread) n)
+    ∷ testAt k 10 (isNext (places (x .thread)) (x .event))
+    ∷ testAt k 11 (needMet n places (x .event))
+    ∷ []
 
--- the number that the pair at index k gets, "after the pairs before it"; 0 where it is permitted
-unfoldable pub refusalAt : ℕ → List Pair → ℕ → ℕ
-refusalAt n history k =
-    pairRefusal n (placesAfter atStart (take k history)) (getD history k (record { thread = 0; event = 0 }))
+-- those of a history's pair of index k, "after the pairs before it"
+unfoldable pub testsOf : ℕ → List Pair → ℕ → List Test
+testsOf n history k =
+    pairTests n (placesAfter atStart (take k history)) k (getD history k (record { thread = 0; event = 0 }))
 
 -- "A history, of any length, is permitted for N exactly when each pair has a thread below N and an event that is that thread's next and whose need, if it has one, is met after the pairs before it."
 unfoldable pub permitted : ℕ → List Pair → Bool
-permitted n history = every (length history) (λ k. eqb (refusalAt n history k) 0)
+permitted n history = every (length history) (λ k. passesAll (testsOf n history k))
 
--- "the index of the first bad pair", or the number of pairs
-unfoldable pub firstBad : ℕ → List Pair → ℕ
-firstBad n history = first (length history) (λ k. not (eqb (refusalAt n history k) 0))
+-- the refusals of the check: 1; 8, "The history has an odd length or exceeds 60,000 bytes"; then "each pair tried for all three before the next"
+abbrev pub checkTests : ℕ → List ℕ → List Test
+checkTests n bytes =
+    test 1 (countFits n)
+    ∷ test 8 (eqb (length bytes % 2) 0 && leb (length bytes) mostHistory)
+    ∷ gather (length (pairsOf bytes)) (testsOf n (pairsOf bytes))
 
--- refusals 1 and 8 of the check: "The history has an odd length or exceeds 60,000 bytes"
-unfoldable pub historyRefusal : ℕ → List ℕ → ℕ
-historyRefusal n bytes =
-    firstRefusal
-    (record { number = 1; passed = countFits n }
-    ∷ record { number = 8; passed = eqb (length bytes % 2) 0 && leb (length bytes) mostHistory }
-    ∷ [])
-
--- "An accepted history answers its number of events"; a refused one the first bad pair's first number and its index
-unfoldable pub historyReply : ℕ → List Pair → Reply
-historyReply n history =
-    cond (permitted n history)
-    (done (length history))
-    (refused (refusalAt n history (firstBad n history)) (firstBad n history))
-
--- what the check answers
-unfoldable pub checkReply : ℕ → List ℕ → Reply
-checkReply n bytes =
-    unlessRefused (historyRefusal n bytes) (historyReply n (pairsOf bytes)) (refused (historyRefusal n bytes) 0)
+-- "An accepted history answers its number of events"
+unfoldable pub checkReply : ℕ → List ℕ → Reply ℕ
+checkReply n bytes = answered (checkTests n bytes) (length (pairsOf bytes))

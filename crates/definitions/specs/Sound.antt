@@ -1,25 +1,19 @@
 -- "A table is sound when": the rules one by one, then all of them.
--- They speak of the threads below N. The holder is the thread in phases 10 to 16, if there is one; each of the last rules asks whether the holder is in certain phases.
--- A mutex byte above 1 fails the mutex rule. Assumes nothing.
+-- They speak of the threads below N. The holder is the thread that holds the mutex by its phase, if there is one; each of the last rules asks whether the holder is in certain phases.
+-- A mutex byte above 1 fails the mutex rule.
 use Prim.Native.Nat.{ℕ}
 use mathlib.Core.Bool.{Bool, cond, not, _&&_, _||_}
-use mathlib.Core.List.{[], _∷_}
+use mathlib.Core.List.{List, [], _∷_}
 use lib.Dec.{leb, ltb, eqb}
+use Rattle.definitions.specs.Answers.{Test, test}
 use Rattle.definitions.specs.Bounds.{lastPhase, noTarget}
-use Rattle.definitions.specs.Threads.{every, some, howMany, among, between, allOf, implies}
-use Rattle.definitions.specs.Table.{Table}
+use Rattle.definitions.specs.Phases.{busyIn, holds, reading}
+use Rattle.definitions.specs.Table.{Table, tableOf, sized}
+use Rattle.definitions.specs.Threads.{every, some, howMany, between, allOf, implies}
 
--- "at most one thread, the holder, is in 10 to 16"
-abbrev pub holds : ℕ → Bool
-holds phase = between 10 16 phase
-
--- "busy is 1 exactly in phases 2, 3, 5, 6, 7"
-abbrev pub busyIn : ℕ → Bool
-busyIn phase = among phase (2 ∷ 3 ∷ 5 ∷ 6 ∷ 7 ∷ [])
-
--- phases 5 to 7: the reader has passed its look at forbidden, and busy isn't lowered yet
-abbrev pub reading : ℕ → Bool
-reading phase = between 5 7 phase
+-- there is a holder
+abbrev pub anyHolder : Table → Bool
+anyHolder s = some (s .threads) (λ i. holds (s .phase i))
 
 -- the holder is in phases a to b
 abbrev pub holderIn : ℕ → ℕ → Table → Bool
@@ -35,7 +29,7 @@ flagRule s = every (s .threads) (λ i. leb (s .busy i) 1 && leb (s .forbidden i)
 
 -- "busy is 1 exactly in phases 2, 3, 5, 6, 7"
 unfoldable pub busyRule : Table → Bool
-busyRule s = every (s .threads) (λ i. eqb (s .busy i) (cond (busyIn (s .phase i)) 1 0))
+busyRule s = every (s .threads) (λ i. eqb (s .busy i) (busyIn (s .phase i)))
 
 -- "at most one thread, the holder, is in 10 to 16"
 unfoldable pub holderRule : Table → Bool
@@ -43,7 +37,7 @@ holderRule s = leb (howMany (s .threads) (λ i. holds (s .phase i))) 1
 
 -- "the mutex is 1 exactly if there is one"
 unfoldable pub mutexRule : Table → Bool
-mutexRule s = eqb (s .mutex) (cond (holderIn 10 16 s) 1 0)
+mutexRule s = eqb (s .mutex) (cond (anyHolder s) 1 0)
 
 -- "the target is a thread with forbidden 1 if the holder is in 11 or 12, else 255"
 unfoldable pub targetRule : Table → Bool
@@ -53,7 +47,7 @@ targetRule s =
 -- "none, or 16: every forbidden is 0."
 unfoldable pub openRule : Table → Bool
 openRule s =
-    implies (not (holderIn 10 16 s) || holderIn 16 16 s) (every (s .threads) (λ i. eqb (s .forbidden i) 0))
+    implies (not (anyHolder s) || holderIn 16 16 s) (every (s .threads) (λ i. eqb (s .forbidden i) 0))
 
 -- "10: some forbidden is 0; no thread with forbidden 1 is in 5 to 7."
 unfoldable pub rule10 : Table → Bool
@@ -78,7 +72,7 @@ rule13 s =
 unfoldable pub rule15 : Table → Bool
 rule15 s = implies (holderIn 15 15 s) (some (s .threads) (λ i. eqb (s .forbidden i) 1))
 
--- refusal 2 is given where one of them fails
+-- all of them
 unfoldable pub sound : Table → Bool
 sound s =
     allOf
@@ -94,3 +88,7 @@ sound s =
     ∷ rule13 s
     ∷ rule15 s
     ∷ [])
+
+-- the refusals of a table's bytes: 1, its size, and 2, "The table isn't sound."
+abbrev pub tableTests : List ℕ → List Test
+tableTests bytes = test 1 (sized bytes) ∷ test 2 (sound (tableOf bytes)) ∷ []

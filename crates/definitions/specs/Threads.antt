@@ -1,5 +1,5 @@
--- Words on the threads 0 to n - 1, and on short lists: every, some, how many; one entry for each; the first for which a test holds; membership; a list of rules.
--- What the papers say of threads is said by these. Assumes nothing.
+-- Words on the threads 0 to n - 1, and on short lists: every, some, how many; one entry for each; membership; a list of rules.
+-- What the papers say of threads is said by these.
 use Prim.Native.Nat.{ℕ, zero, suc, _+_}
 use mathlib.Core.Bool.{Bool, true, false, cond, _&&_, _||_}
 use mathlib.Core.List.{List, [], _∷_, _++_}
@@ -19,11 +19,6 @@ some (suc n) f = some n f || f n
 unfoldable pub howMany : ℕ → (ℕ → Bool) → ℕ
 howMany zero f = 0
 howMany (suc n) f = howMany n f + cond (f n) 1 0
-
--- the first number below n for which f holds, or n where there is none
-unfoldable pub first : ℕ → (ℕ → Bool) → ℕ
-first zero f = 0
-first (suc n) f = cond (some n f) (first n f) (cond (f n) n (suc n))
 
 -- f 0, f 1, .. up to n - 1
 unfoldable pub listOf {ℓ} : {A : Type ℓ} → ℕ → (ℕ → A) → List A

@@ -1,7 +1,58 @@
-// The types that the part's entries answer with. What each case means in the scope paper's numbers stands in specs/Answers.antt;
-// the rest of specs/ holds the definitions that every promise of the part cites.
+// The numbers of the scope paper, each once, and the types that the part's entries are asked and answer with. What each case
+// of an enum means in the paper's numbers stands in specs/Answers.antt; the rest of specs/ holds the definitions that every
+// promise of the part cites.
 ghost use mathlib.Core.Path.{_≡_};
 ghost use Rattle.definitions.specs.Answers.{codeOf, eventOf, numberOf};
+
+// "N threads, 1 to 200"
+pub const MOST_THREADS: u8 = 200;
+
+// "phases are at most 17"
+pub const LAST_PHASE: u8 = 17;
+
+// How many phases there are.
+pub const PHASE_COUNT: usize = LAST_PHASE as usize + 1;
+
+// "the target (a thread number, or 255 for none)"
+pub const NO_TARGET: u8 = 255;
+
+// "Moves: 0 go, 1 call shared, 2 call exclusive, 3 set, 4 clear, 5 relent."
+pub const GO: u8 = 0;
+
+pub const CALL_SHARED: u8 = 1;
+
+pub const CALL_EXCLUSIVE: u8 = 2;
+
+pub const SET: u8 = 3;
+
+pub const CLEAR: u8 = 4;
+
+pub const RELENT: u8 = 5;
+
+// "The move is above 5."
+pub const LAST_MOVE: u8 = RELENT;
+
+// How many moves there are.
+pub const MOVE_COUNT: usize = LAST_MOVE as usize + 1;
+
+// "The history has an odd length or exceeds 60,000 bytes"
+pub const MOST_HISTORY: usize = 60_000;
+
+// "the script breaks its form or exceeds 30,000 bytes"
+pub const MOST_SCRIPT: usize = 30_000;
+
+// "the run's output, for which 65,536 bytes always suffice"
+pub const ENOUGH_OUTPUT: usize = 65_536;
+
+// "to depth 16 with the outermost as 1"
+pub const MOST_DEPTH: u8 = 16;
+
+// "A request is thread, move and target, 16 bits each"
+pub struct Request {
+    pub thread: u16,
+    pub mv: u16,
+    pub target: u16,
+}
 
 // The eight events, in the order of their codes 1 to 8.
 pub enum Event {

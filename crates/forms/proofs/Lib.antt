@@ -1,6 +1,3 @@
--- Laws of texts, digits and notes, which the functions' proofs cite; then the theorems on numbers and on the grammar.
-pub mod Text
-pub mod Digits
-pub mod Notes
-pub mod Numbers
+-- Laws of the readers' answers; then the theorems on the grammar.
+pub mod Closings
 pub mod Spelled

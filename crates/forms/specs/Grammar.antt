@@ -1,24 +1,45 @@
--- The grammar of a line as the scope paper lists it, form by form, each with the line that spells it.
--- It is stated apart from the reader's definition, `formOf`; proofs/Spelled.antt shows that the two agree.
--- Assumes nothing.
-use Prim.Native.Nat.{ℕ, _<_}
-use mathlib.Core.Path.{_≡_}
+-- The words of the theorems on spelling: which requests can be spelled, and which lines spell a form.
+-- The lines themselves are `threadsLine` and `spelled` of the definitions; proofs/Spelled.antt shows that reading is their inverse.
+use Prim.Native.Nat.{ℕ, _≤_, _<_}
 use mathlib.Core.Bool.{true}
 use mathlib.Core.List.{List, _++_}
-use Rattle.definitions.specs.Moves.{go, callShared, callExclusive, setMove, clearMove, relent}
-use Rattle.definitions.specs.Script.{bytes, decimal, noteFits, Form, threads, request, note}
+use mathlib.Core.Path.{_≡_}
+use lib.Dec.{T}
+use Rattle.definitions.specs.Bounds.{lastMove}
+use Rattle.definitions.specs.Forms.{Form, threads, request, note, bad, noteFits, threadsLine, spelled}
+use Rattle.definitions.specs.Moves.{targetFits}
+use Rattle.definitions.specs.Texts.{bytes}
+use Rattle.definitions.specs.declared.Request.{Request}
 
--- `(T`, a space and the act: "numbers of one to three digits without leading zeros"
-abbrev pub requestLine : ℕ → List ℕ → List ℕ
-requestLine thread act = bytes "(" ++ (decimal thread ++ act)
+-- "numbers of one to three digits": those below this
+abbrev pub numberBound : ℕ
+numberBound = 1_000
 
--- a line spells a form
-pub data Spells (line : List ℕ) : Form → Type 0 where
-  threads-line : (n : ℕ) → n < 1000 → line ≡ bytes "(threads " ++ (decimal n ++ bytes ")") → Spells line (threads n)
-  go-line : (t : ℕ) → t < 1000 → line ≡ requestLine t (bytes " (go))") → Spells line (request t go 0)
-  shared-line : (t : ℕ) → t < 1000 → line ≡ requestLine t (bytes " (call shared))") → Spells line (request t callShared 0)
-  exclusive-line : (t : ℕ) → t < 1000 → line ≡ requestLine t (bytes " (call exclusive))") → Spells line (request t callExclusive 0)
-  set-line : (t k : ℕ) → t < 1000 → k < 1000 → line ≡ requestLine t (bytes " (set " ++ (decimal k ++ bytes "))")) → Spells line (request t setMove k)
-  clear-line : (t k : ℕ) → t < 1000 → k < 1000 → line ≡ requestLine t (bytes " (clear " ++ (decimal k ++ bytes "))")) → Spells line (request t clearMove k)
-  relent-line : (t : ℕ) → t < 1000 → line ≡ requestLine t (bytes " (relent))") → Spells line (request t relent 0)
-  note-line : (text : List ℕ) → noteFits text ≡ true → line ≡ bytes "(note " ++ (text ++ bytes ")") → Spells line note
+-- a request that a line can say: there is such a move, its numbers have one to three digits, and its target is 0 unless the move names a thread
+pub record Spellable (r : Request) : Type 0 where
+  pub thread-fits : r .thread < numberBound
+  pub move-fits : r .mv ≤ lastMove
+  pub target-fits : T (targetFits numberBound (r .mv) (r .target))
+
+-- a line that says N
+pub record ThreadsLine (line : List ℕ) (n : ℕ) : Type 0 where
+  pub count-fits : n < numberBound
+  pub is-spelled : line ≡ threadsLine n
+
+-- a line that says a request
+pub record RequestLine (line : List ℕ) (r : Request) : Type 0 where
+  pub can-be : Spellable r
+  pub is-spelled : line ≡ spelled r
+
+-- a line that is a note: "after the word, a space and any number of bytes", and its own bracket
+pub record NoteLine (line : List ℕ) : Type 0 where
+  pub text : List ℕ
+  pub text-fits : noteFits text ≡ true
+  pub is-spelled : line ≡ bytes "(note " ++ (text ++ bytes ")")
+
+-- what a line is, by the form that it reads as
+abbrev pub Spells : List ℕ → Form → Type 0
+Spells line (threads n) = ThreadsLine line n
+Spells line (request r) = RequestLine line r
+Spells line note = NoteLine line
+Spells line bad = Unit {0}

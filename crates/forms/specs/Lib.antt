@@ -1,3 +1,3 @@
--- The definitions that the promises of this crate cite, besides those of the scope paper.
-pub mod Answers
+-- What the promises of this crate cite besides the definitions of the scope paper, and the words of its theorems.
+pub mod Readings
 pub mod Grammar

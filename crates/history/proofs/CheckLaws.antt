@@ -1,122 +1,33 @@
--- What the check's loop keeps between two pairs, and that a turn of the loop is a step of the plain lock's reply.
--- Assumes nothing.
-use Prim.Native.Nat.{ℕ, zero, suc, _+_, _-_, _*_, _/_, _%_, _^_, _≤_, _<_}
-use mathlib.Core.Path.{_≡_, refl, sym, ap, _∙_, subst, fun-ext}
-use mathlib.Core.Bool.{Bool, true, false, cond, not, _&&_, _||_}
-use mathlib.Core.List.{List}
-use native.Mathlib.Numerals.{add-one}
+-- What the check's loop keeps between two pairs (`Passed`), and that a turn of the loop judges its pair as the plain lock does; then the check's own tests for 1 and 8.
+use Prim.Native.Nat.{ℕ, zero, suc, _+_, _*_, _/_, _%_, _≤_, _<_}
 use native.Mathlib.Omega.{arith}
-use borrow.Author.Tests.{eqb-true, eqb-false, ltb-true, le-leb, lt-leb}
-use lib.Dec.{leb, ltb, eqb, eqb·suc-zero}
-use lib.ListN.{length, getD, set, drop, replicate, length-set, length-replicate}
+use mathlib.Core.Bool.{Bool, true, false, _&&_}
+use mathlib.Core.List.{List, [], _∷_}
+use mathlib.Core.Logic.{_⊎_, inl, inr}
+use mathlib.Core.Path.{_≡_, refl, sym, subst, ap, _∙_, fun-ext}
+use lib.Dec.{T, leb, ltb, eqb, leb→le, le→leb, ltb→lt, eqb→eq}
+use lib.ListN.{length, getD, set, take, replicate, length-set, length-replicate}
 use lib.Seq.{getD-set-same, getD-set-other}
-use Rattle.definitions.specs.declared.Refusal.{Refusal}
-use Rattle.definitions.specs.Answers.{done, refused, numberOf, firstRefusal, unlessRefused}
-use Rattle.definitions.specs.Threads.{between}
-use Rattle.definitions.specs.Bounds.{mostHistory}
+use Rattle.definitions.specs.Answers.{numberOf, accepted, refused, Test, test, testAt, answered, passesAll}
+use Rattle.definitions.specs.Bounds.{mostThreads, firstEvent, lastEvent, mostHistory}
+use Rattle.definitions.specs.PlainLock.{Pair, pairsOf, Places, atStart, placeAfter, advanced, placesAfter, isNext, pairTests, testsOf, checkTests, checkReply}
 use Rattle.definitions.specs.Table.{countFits}
-use Rattle.definitions.specs.PlainLock.{Pair, Places, isNext, anyInShared, anyInExclusive, needMet, pairsOf, atStart, placeAfter, advanced, pairRefusal, historyRefusal, historyReply, checkReply}
-use Rattle.theory.proofs.Tests.{and-both}
-use Rattle.theory.proofs.Pairs.{pairAt, pairs-next, pairs-end}
-use Rattle.theory.proofs.Refusals.{not-zero}
-use Rattle.theory.proofs.Quantifiers.{none-howMany, howMany-none, howMany-most, howMany-at}
-use Rattle.history.specs.declared.Row.{Row}
+use Rattle.definitions.specs.Threads.{gather, between}
+use Rattle.definitions.specs.declared.Refusal.{Refusal}
+use Rattle.history.specs.Counts.{howManyAt, standingOf, countsMeet, countTests, standingAfter, Counted, verdictReply}
+use Rattle.history.specs.Pairs.{pairsReply}
+use Rattle.history.specs.declared.Standing.{Standing}
 use Rattle.history.specs.declared.Verdict.{Verdict}
 use Rattle.history.specs.declared.Verdict.the-variants.{Fits, Bad}
-use Rattle.history.specs.Judged.{writer, weight, any, mostFor, placeBefore, rowOf, numberBy, numberIn}
-use Rattle.history.proofs.PlainLaws.{totalAt, total-advanced, replyFrom, reply-is}
-use Rattle.history.proofs.RowLaws.{follows}
-
--- ---- a pair by its thread's place and the total
-
--- the total of places
-abbrev pub totalOf : ℕ → Places → ℕ
-totalOf n p = totalAt n p 2 + writer * totalAt n p 6
-
-most-readers : (s e : ℕ) → s < writer → leb (s + writer * e) 65_535 ≡ eqb e 0
-most-readers s zero l = le-leb (s + writer * 0) 65_535 (omega arith)
-most-readers s (suc e) l = lt-leb (s + writer * suc e) 65_535 (omega arith) ∙ sym (eqb·suc-zero e)
-
-most-none : (s e : ℕ) → leb (s + writer * e) 0 ≡ eqb s 0 && eqb e 0
-most-none zero zero = refl
-most-none zero (suc e) = lt-leb (0 + writer * suc e) 0 (omega arith) ∙ sym (eqb·suc-zero e)
-most-none (suc s) e = lt-leb (suc s + writer * e) 0 (omega arith) ∙ ap (λ (b : Bool). b && eqb e 0) (sym (eqb·suc-zero s))
-
--- the total meets an event's need
-met-is : (n : ℕ) (p : Places) (event : ℕ) → n < writer → leb (totalOf n p) (mostFor event) ≡ needMet n p event
-met-is n p event l = by (eqb event 2) (eqb event 6)
-  where
-    few : totalAt n p 2 < writer
-    few = omega (arith, howMany-most (λ t. eqb (p t) 2) n)
-
-    by : (a b : Bool) → leb (totalOf n p) (cond a 65_535 (cond b 0 any))
-        ≡ cond a (not (anyInExclusive n p)) (cond b (not (anyInShared n p) && not (anyInExclusive n p)) true)
-    by true b = most-readers (totalAt n p 2) (totalAt n p 6) few ∙ sym (none-howMany (λ t. eqb (p t) 6) n)
-    by false true =
-        most-none (totalAt n p 2) (totalAt n p 6)
-        ∙ rw (none-howMany (λ t. eqb (p t) 2) n, none-howMany (λ t. eqb (p t) 6) n)
-    by false false = le-leb (totalOf n p) any (omega (arith, few, howMany-most (λ t. eqb (p t) 6) n))
-
-number-is : (n : ℕ) (p : Places) (inside : ℕ) (x : Pair) → n < writer → inside ≡ totalOf n p
-    → numberBy n (p (x .thread)) inside x ≡ pairRefusal n p x
-unfolding numberBy pairRefusal
-number-is n p inside x l e = rw (e, met-is n p (x .event) l)
-
--- what a pair that fits shows: a thread below N, an event, and the place that it follows
-record Fitting (n place : ℕ) (x : Pair) : Type 0 where
-  below : x .thread < n
-  known : between 1 8 (x .event) ≡ true
-  next : isNext place (x .event) ≡ true
-
-fits-shows : (n place inside : ℕ) (x : Pair) → numberBy n place inside x ≡ 0 → Fitting n place x
-unfolding numberBy firstRefusal
-fits-shows n place inside x e =
-    let rest : ℕ = cond (leb inside (mostFor (x .event))) 0 11 in
-    let pair : Bool = between 1 8 (x .event) && ltb (x .thread) n in
-    let both = and-both (between 1 8 (x .event)) (ltb (x .thread) n) (first pair (isNext place (x .event)) rest e) in
-    record { below = ltb-true (x .thread) n (both .1); known = both .0; next = second pair (isNext place (x .event)) rest e }
-  where
-    first : (a b : Bool) (r : ℕ) → cond a (cond b r 10) 9 ≡ 0 → a ≡ true
-    first true b r q = refl
-    first false b r q = absurd (omega arith)
-
-    second : (a b : Bool) (r : ℕ) → cond a (cond b r 10) 9 ≡ 0 → b ≡ true
-    second true true r q = refl
-    second true false r q = absurd (omega arith)
-    second false b r q = absurd (omega arith)
-
--- the total while a thread moves
-module _ (n : ℕ) (p : Places) (x : Pair) (few : n < writer) (fine : p (x .thread) ≡ 4 → ⊥) (f : Fitting n (p (x .thread)) x) where
-  takes-is : weight (placeBefore (x .event)) ≡ weight (p (x .thread))
-  takes-is =
-      ap weight
-      (sym (eqb-true (p (x .thread)) (placeBefore (x .event)) (follows (p (x .thread)) fine (x .event) (f .known) ∙ f .next)))
-
-  total-room : totalOf n p + weight (placeAfter (x .event)) < 2 ^ 64
-  total-room =
-      omega (
-        arith,
-        total-advanced n p x 2 (f .below),
-        total-advanced n p x 6 (f .below),
-        howMany-most (λ t. eqb (p t) 2) n,
-        howMany-most (λ t. eqb (p t) 6) n,
-        howMany-most (λ t. eqb (advanced p x t) 2) n,
-        howMany-most (λ t. eqb (advanced p x t) 6) n,
-        howMany-at (λ t. eqb (p t) 2) n (x .thread) (f .below),
-        howMany-at (λ t. eqb (p t) 6) n (x .thread) (f .below),
-      )
-
-  total-counts : weight (placeBefore (x .event)) ≤ totalOf n p
-  total-counts =
-      omega (
-        arith,
-        takes-is,
-        howMany-at (λ t. eqb (p t) 2) n (x .thread) (f .below),
-        howMany-at (λ t. eqb (p t) 6) n (x .thread) (f .below),
-      )
-
-  total-step : totalOf n p + weight (placeAfter (x .event)) - weight (placeBefore (x .event)) ≡ totalOf n (advanced p x)
-  total-step = omega (arith, takes-is, total-advanced n p x 2 (f .below), total-advanced n p x 6 (f .below))
+use Rattle.theory.proofs.Lengths.{pairs-length}
+use Rattle.theory.proofs.Pairs.{pairAt}
+use Rattle.theory.proofs.Quantifiers.{howMany-none}
+use Rattle.theory.proofs.Replies.{all-passed, passed, failed, peel, pass}
+use Rattle.theory.proofs.TestLists.{accepted-e, one-more, first-failed}
+use Rattle.theory.proofs.Tests.{and-l, and-r, and-i, true-T, false-T, eq-T, same?}
+use Rattle.theory.proofs.Writes.{update-same, update-other}
+use Rattle.history.proofs.PlainLaws.{noPair, places-more, in-round}
+use Rattle.history.proofs.StandingLaws.{tests-same, is-counted, same-standing, standing-after}
 
 -- ---- the places that an array holds
 
@@ -128,147 +39,198 @@ zeros zero t = refl
 zeros (suc m) zero = refl
 zeros (suc m) (suc t) = zeros m t
 
-placesIn-zeros : (m : ℕ) → placesIn (replicate m 0) ≡ atStart
-placesIn-zeros m = fun-ext (zeros m)
-
-placesIn-set : (a : List ℕ) (x : Pair) → x .thread < length a
-    → placesIn (set a (x .thread) (placeAfter (x .event))) ≡ advanced (placesIn a) x
-placesIn-set a x l = fun-ext (λ t. at t (eqb t (x .thread)) refl)
+placesIn-set : (a : List ℕ) (x : Pair) → x .thread < length a → placesIn (set a (x .thread) (placeAfter (x .event))) ≡ advanced (placesIn a) x
+placesIn-set a x l = fun-ext (λ t. at t (same? t (x .thread)))
   where
-    at : (t : ℕ) (b : Bool) → eqb t (x .thread) ≡ b
-        → getD (set a (x .thread) (placeAfter (x .event))) t 0 ≡ cond (eqb t (x .thread)) (placeAfter (x .event)) (getD a t 0)
-    at t true e =
-        ap (λ (j : ℕ). getD (set a (x .thread) (placeAfter (x .event))) j 0) (eqb-true t (x .thread) e)
-        ∙ getD-set-same a (x .thread) (placeAfter (x .event)) 0 l
-        ∙ ap (λ (b : Bool). cond b (placeAfter (x .event)) (getD a t 0)) (sym e)
-    at t false e =
-        getD-set-other a (x .thread) t (placeAfter (x .event)) 0 (eqb-false t (x .thread) e)
-        ∙ ap (λ (b : Bool). cond b (placeAfter (x .event)) (getD a t 0)) (sym e)
+    place : ℕ
+    place = placeAfter (x .event)
+
+    at : (t : ℕ) → (t ≡ x .thread) ⊎ (t ≡ x .thread → ⊥) → getD (set a (x .thread) (placeAfter (x .event))) t 0 ≡ advanced (placesIn a) x t
+    at t (inl e) =
+        ap (λ (j : ℕ). getD (set a (x .thread) place) j 0) e
+        ∙ (getD-set-same a (x .thread) place 0 l ∙ sym (update-same (placesIn a) (x .thread) place t e))
+    at t (inr d) = getD-set-other a (x .thread) t place 0 d ∙ sym (update-other (placesIn a) (x .thread) place t d)
+
+-- ---- the pairs of the bytes
+
+pair-at : (bytes : List ℕ) (k : ℕ) → k < length bytes / 2 → getD (pairsOf bytes) k noPair ≡ pairAt bytes k
+unfolding pairsOf
+pair-at [] k l = absurd (omega arith)
+pair-at (t ∷ []) k l = absurd (omega arith)
+pair-at (t ∷ e ∷ rest) zero l = refl
+pair-at (t ∷ e ∷ rest) (suc k) l = pair-at rest k (omega arith) ∙ rw (event, thread)
+  where
+    thread : 2 * suc k ≡ suc (suc (2 * k))
+    thread = omega arith
+
+    event : 2 * suc k + 1 ≡ suc (suc (2 * k + 1))
+    event = omega arith
 
 -- ---- the loop
 
--- k pairs fit: the places and the total after them, and the reply that is left
-pub record Passed (n : ℕ) (bytes a : List ℕ) (inside k : ℕ) : Type 0 where
+-- k pairs are passed: their tests are, and the places and the counts are those after them
+pub record Passed (n : ℕ) (bytes a : List ℕ) (shared exclusive k : ℕ) : Type 0 where
   pub within : k ≤ length bytes / 2
   pub size : length a ≡ 256
-  pub fine : (t : ℕ) → eqb (placesIn a t) 4 ≡ false
-  pub total : inside ≡ totalOf n (placesIn a)
-  pub reply : historyReply n (pairsOf bytes) ≡ replyFrom n (placesIn a) k (pairsOf (drop (2 * k) bytes))
+  pub places : placesIn a ≡ placesAfter atStart (take k (pairsOf bytes))
+  pub in-shared : shared ≡ howManyAt n (placesIn a) 2
+  pub in-exclusive : exclusive ≡ howManyAt n (placesIn a) 6
+  pub tested : T (passesAll (gather k (testsOf n (pairsOf bytes))))
 
--- pair k fits: its row can be added and taken, and k + 1 pairs fit
-pub record Turned (n : ℕ) (bytes a : List ℕ) (inside k : ℕ) (row : Row) : Type 0 where
-  pub adds-fit : inside + row .adds < 2 ^ 64
-  pub takes-fit : row .takes ≤ inside + row .adds
-  pub goes-on : getD bytes (2 * k) 0 < 256 → Passed n bytes (set a (getD bytes (2 * k) 0) (row .after)) (inside + row .adds - row .takes) (k + 1)
-
--- a thread's place is never 4
-after-fine : (event : ℕ) → eqb (placeAfter event) 4 ≡ false
-after-fine event = by (eqb event 4) (eqb event 8) refl
-  where
-    by : (a b : Bool) → eqb event 4 ≡ a → eqb (cond (a || b) 0 event) 4 ≡ false
-    by true b q = refl
-    by false true q = refl
-    by false false q = q
-
-advanced-fine : (p : Places) (x : Pair) → ((t : ℕ) → eqb (p t) 4 ≡ false) → (t : ℕ) → eqb (advanced p x t) 4 ≡ false
-advanced-fine p x f t = by (eqb t (x .thread))
-  where
-    by : (b : Bool) → eqb (cond b (placeAfter (x .event)) (p t)) 4 ≡ false
-    by true = after-fine (x .event)
-    by false = f t
-
-pub start : (n : ℕ) (bytes : List ℕ) → Passed n bytes (replicate 256 0) 0 0
-start n bytes =
+pub passed-none : (n : ℕ) (bytes : List ℕ) → Passed n bytes (replicate 256 0) 0 0 0
+unfolding placesAfter gather passesAll
+passed-none n bytes =
     record {
       within = omega arith;
       size = length-replicate {A = ℕ} 256 0;
-      fine = λ t. ap (λ (p : ℕ). eqb p 4) (zeros 256 t);
-      total = subst (λ (p : Places). 0 ≡ totalOf n p) (sym (placesIn-zeros 256)) (omega (arith, howMany-none (λ t. false) n (λ t l. tt)));
-      reply = rw (placesIn-zeros 256) (reply-is n (pairsOf bytes));
+      places = fun-ext (zeros 256);
+      in-shared = sym (howMany-none (λ t. eqb (placesIn (replicate 256 0) t) 2) n (λ t l. rw (zeros 256 t) tt));
+      in-exclusive = sym (howMany-none (λ t. eqb (placesIn (replicate 256 0) t) 6) n (λ t l. rw (zeros 256 t) tt));
+      tested = tt;
     }
 
--- the pair at k, as the loop's turn judges it
-module _ (n : ℕ) (few : n < writer) (bytes a : List ℕ) (inside k : ℕ) (s : Passed n bytes a inside k) (l : k < length bytes / 2) where
+-- past the last pair
+pub passed-all : (n : ℕ) (bytes a : List ℕ) (shared exclusive k : ℕ) → Passed n bytes a shared exclusive k → length bytes / 2 ≤ k → accepted (length bytes / 2) ≡ pairsReply n bytes
+passed-all n bytes a shared exclusive k s l =
+    let e : k ≡ length (pairsOf bytes) = omega (arith, s .within, pairs-length bytes) in
+    ap accepted (sym (pairs-length bytes))
+    ∙ sym (all-passed (length (pairsOf bytes)) (gather (length (pairsOf bytes)) (testsOf n (pairsOf bytes))) (subst (λ (m : ℕ). T (passesAll (gather m (testsOf n (pairsOf bytes))))) e (s .tested)))
+
+-- pair k, as a turn of the loop judges it
+module _ (n : ℕ) (bytes a : List ℕ) (shared exclusive k : ℕ) (s : Passed n bytes a shared exclusive k) (l : k < length bytes / 2) where
   abbrev x : Pair
   x = pairAt bytes k
 
-  abbrev number : ℕ
-  number = numberBy n (getD a (x .thread) 0) inside x
+  abbrev standing : Standing
+  standing = record { place = placesIn a (x .thread); shared = shared; exclusive = exclusive }
 
-  reply-here : historyReply n (pairsOf bytes)
-      ≡ cond (eqb number 0)
-      (replyFrom n (advanced (placesIn a) x) (suc k) (pairsOf (drop (2 * (k + 1)) bytes)))
-      (refused number k)
-  unfolding replyFrom
-  reply-here =
-      s .reply
-      ∙ ap (replyFrom n (placesIn a) k) (pairs-next bytes k l)
-      ∙ rw (number-is n (placesIn a) inside x few (s .total))
+  standing-is : standing ≡ standingOf n (placesIn a) (x .thread)
+  standing-is = same-standing refl (s .in-shared) (s .in-exclusive)
+
+  pub counted-here : n ≤ mostThreads → Counted n (x .thread) standing
+  counted-here few =
+      subst (Counted n (x .thread)) (sym standing-is)
+      (is-counted n (placesIn a) (x .thread) few
+      (λ e. in-round atStart (take k (pairsOf bytes)) (λ t z. omega arith) (x .thread) (sym (ap (λ (p : Places). p (x .thread)) (s .places)) ∙ e)))
+
+  tests-here : testsOf n (pairsOf bytes) k ≡ countTests n standing k x
+  unfolding testsOf
+  tests-here =
+      ap (λ (p : Places). pairTests n p k (getD (pairsOf bytes) k noPair)) (sym (s .places))
+      ∙ (ap (pairTests n (placesIn a) k) (pair-at bytes k l)
+      ∙ (sym (tests-same n (placesIn a) k x) ∙ ap (λ (z : Standing). countTests n z k x) (sym standing-is)))
+
+  -- what `judge` promises of its verdict
+  abbrev pub VerdictOf : Verdict → Type 0
+  VerdictOf v = (j : ℕ) → verdictReply j v ≡ answered (countTests n standing j x) (standingAfter standing (x .event))
 
   -- a bad pair is the answer
-  pub bad-here : (v : Verdict) (r : Refusal) → v ≡ Bad r → numberIn v ≡ number
-      → refused (numberOf r) k ≡ historyReply n (pairsOf bytes)
-  bad-here v r w e =
-      let f : numberOf r ≡ number = rw w at e in
-      sym (reply-here ∙ rw (← f, not-zero r))
+  pub bad-here : (v : Verdict) (r : Refusal) → v ≡ Bad r → VerdictOf v → refused (numberOf r) k ≡ pairsReply n bytes
+  bad-here v r w judged =
+      let e : refused (numberOf r) k ≡ answered (countTests n standing k x) (standingAfter standing (x .event)) = rw w at (judged k) in
+      sym (first-failed (testsOf n (pairsOf bytes)) (length (pairsOf bytes)) (standingAfter standing (x .event)) k (length (pairsOf bytes)) (numberOf r) k
+      (omega (arith, pairs-length bytes)) (s .tested) (ap (λ (ts : List Test). answered ts (standingAfter standing (x .event))) tests-here ∙ sym e))
 
-  -- one that fits leads on, and its row can be added and taken
-  module _ (v : Verdict) (w : v ≡ Fits) (q : numberIn v ≡ number) (row : Row) (same : row ≡ rowOf (x .event)) where
-    zero-here : 0 ≡ number
-    zero-here = rw w at q
+  -- one that fits leads on
+  module _ (v : Verdict) (z : Standing) (w : v ≡ Fits z) (judged : VerdictOf v) where
+    fits-here : T (passesAll (countTests n standing k x)) × (standingAfter standing (x .event) ≡ z)
+    fits-here = accepted-e (countTests n standing k x) (standingAfter standing (x .event)) z (sym (rw w at (judged k)))
 
-    fitting : Fitting n (getD a (x .thread) 0) x
-    fitting = fits-shows n (getD a (x .thread) 0) inside x (sym zero-here)
+    passes-here : T (passesAll (countTests n standing k x))
+    passes-here = fits-here .0
 
-    fine-here : placesIn a (x .thread) ≡ 4 → ⊥
-    fine-here = eqb-false (placesIn a (x .thread)) 4 (s .fine (x .thread))
+    after-here : z ≡ standingAfter standing (x .event)
+    after-here = sym (fits-here .1)
 
-    adds-here : inside + row .adds < 2 ^ 64
-    unfolding rowOf
-    adds-here = rw (same, s .total) (total-room n (placesIn a) x few fine-here fitting)
+    abbrev outside : Test
+    outside = testAt k 9 (between firstEvent lastEvent (x .event) && ltb (x .thread) n)
 
-    takes-here : row .takes ≤ inside + row .adds
-    unfolding rowOf
-    takes-here =
-        let m : weight (placeBefore (x .event)) ≤ totalOf n (placesIn a) = total-counts n (placesIn a) x few fine-here fitting in
-        rw same (omega (arith, s .total))
+    abbrev out-of-turn : Test
+    out-of-turn = testAt k 10 (isNext (placesIn a (x .thread)) (x .event))
 
-    passed-next : getD bytes (2 * k) 0 < 256 → Passed n bytes (set a (x .thread) (row .after)) (inside + row .adds - row .takes) (k + 1)
-    unfolding rowOf
-    passed-next b =
-        let moved : placesIn (set a (x .thread) (row .after)) ≡ advanced (placesIn a) x = rw same (placesIn-set a x (omega (arith, s .size))) in
-        let step : inside + row .adds - row .takes ≡ totalOf n (advanced (placesIn a) x) = rw (same, s .total) (total-step n (placesIn a) x few fine-here fitting) in
+    abbrev occupied : Test
+    occupied = testAt k 11 (countsMeet standing (x .event))
+
+    below-here : x .thread < n
+    below-here =
+        ltb→lt (x .thread) n
+        (and-r (between firstEvent lastEvent (x .event)) (ltb (x .thread) n) (peel outside (out-of-turn ∷ occupied ∷ []) passes-here .0))
+
+    next-here : T (isNext (placesIn a (x .thread)) (x .event))
+    next-here = peel out-of-turn (occupied ∷ []) (peel outside (out-of-turn ∷ occupied ∷ []) passes-here .1) .0
+
+    moved-here : z ≡ standingOf n (advanced (placesIn a) x) (x .thread)
+    moved-here =
+        after-here
+        ∙ (ap (λ (y : Standing). standingAfter y (x .event)) standing-is ∙ standing-after n (placesIn a) x below-here next-here)
+
+    pub goes-on : x .thread < 256 → Passed n bytes (set a (x .thread) (z .place)) (z .shared) (z .exclusive) (k + 1)
+    goes-on byte =
+        let h = pairsOf bytes in
+        let m : placesIn (set a (x .thread) (z .place)) ≡ advanced (placesIn a) x = rw after-here (placesIn-set a x (omega (arith, s .size))) in
         record {
           within = omega arith;
-          size = length-set a (x .thread) (row .after) ∙ s .size;
-          fine = λ t. ap (λ (p : Places). eqb (p t) 4) moved ∙ advanced-fine (placesIn a) x (s .fine) t;
-          total = step ∙ ap (totalOf n) (sym moved);
-          reply = reply-here ∙ rw (← zero-here, moved, add-one k);
+          size = length-set a (x .thread) (z .place) ∙ s .size;
+          places = m
+              ∙ (ap (λ (p : Places). advanced p x) (s .places)
+              ∙ (ap (advanced (placesAfter atStart (take k h))) (sym (pair-at bytes k l)) ∙ sym (places-more h k (omega (arith, pairs-length bytes)))));
+          in-shared = ap (λ (y : Standing). y .shared) moved-here ∙ ap (λ (p : Places). howManyAt n p 2) (sym m);
+          in-exclusive = ap (λ (y : Standing). y .exclusive) moved-here ∙ ap (λ (p : Places). howManyAt n p 6) (sym m);
+          tested = one-more (testsOf n h) k (s .tested) (subst (λ (ts : List Test). T (passesAll ts)) (sym tests-here) passes-here);
         }
 
-    pub turned : Turned n bytes a inside k row
-    turned = record { adds-fit = adds-here; takes-fit = takes-here; goes-on = passed-next }
+-- ---- the tests for 1 and 8
 
--- past the last pair
-pub passed-all : (n : ℕ) (bytes a : List ℕ) (inside k : ℕ) → Passed n bytes a inside k → length bytes / 2 ≤ k
-    → done (length bytes / 2) ≡ historyReply n (pairsOf bytes)
-unfolding replyFrom
-passed-all n bytes a inside k s l =
-    let e : length bytes / 2 ≡ k = omega (arith, s .within) in
-    sym (s .reply ∙ ap (replyFrom n (placesIn a) k) (pairs-end bytes k l) ∙ ap done (sym e))
+-- what a history that passes all tests of the check shows
+pub record Formed (n : ℕ) (bytes : List ℕ) : Type 0 where
+  pub least : 1 ≤ n
+  pub most : n ≤ mostThreads
+  pub even : length bytes % 2 ≡ 0
+  pub short : length bytes ≤ mostHistory
 
--- ---- the check's own refusals
+module _ (n : ℕ) (bytes : List ℕ) where
+  abbrev pub formed : Bool
+  formed = eqb (length bytes % 2) 0 && leb (length bytes) mostHistory
 
--- the reply by the tests for 1 and 8
-pub check-by-tests : (n : ℕ) (bytes : List ℕ) (counted formed : Bool) → countFits n ≡ counted
-    → eqb (length bytes % 2) 0 && leb (length bytes) mostHistory ≡ formed
-    → checkReply n bytes ≡ cond counted (cond formed (historyReply n (pairsOf bytes)) (refused 8 0)) (refused 1 0)
-unfolding checkReply historyRefusal firstRefusal
-check-by-tests n bytes a b p q = rw (p, q) (by a b)
-  where
-    by : (a b : Bool)
-        → unlessRefused (cond a (cond b 0 8) 1) (historyReply n (pairsOf bytes)) (refused (cond a (cond b 0 8) 1) 0)
-        ≡ cond a (cond b (historyReply n (pairsOf bytes)) (refused 8 0)) (refused 1 0)
-    by true true = refl
-    by true false = refl
-    by false b = refl
+  abbrev events : ℕ
+  events = length (pairsOf bytes)
+
+  abbrev pairs : List Test
+  pairs = gather events (testsOf n (pairsOf bytes))
+
+  abbrev size : Test
+  size = test 1 (countFits n)
+
+  abbrev form : Test
+  form = test 8 formed
+
+  pub bad-size : countFits n ≡ false → refused 1 0 ≡ checkReply n bytes
+  unfolding checkReply
+  bad-size e = sym (failed size (form ∷ pairs) events (false-T (countFits n) e))
+
+  pub bad-form : countFits n ≡ true → formed ≡ false → refused 8 0 ≡ checkReply n bytes
+  unfolding checkReply
+  bad-form e f = sym (passed size (form ∷ pairs) events (true-T (countFits n) e) ∙ failed form pairs events (false-T formed f))
+
+  pub by-pairs : countFits n ≡ true → formed ≡ true → pairsReply n bytes ≡ checkReply n bytes
+  unfolding checkReply
+  by-pairs e f = sym (passed size (form ∷ pairs) events (true-T (countFits n) e) ∙ passed form pairs events (true-T formed f))
+
+  -- all tests, as numbers and the pairs' tests
+  pub tests-e : T (passesAll (checkTests n bytes)) → Formed n bytes × T (passesAll (gather (length (pairsOf bytes)) (testsOf n (pairsOf bytes))))
+  tests-e t =
+      let a = peel size (form ∷ pairs) t in
+      let b = peel form pairs (a .1) in (
+        record {
+          least = leb→le 1 n (and-l (leb 1 n) (leb n mostThreads) (a .0));
+          most = leb→le n mostThreads (and-r (leb 1 n) (leb n mostThreads) (a .0));
+          even = eqb→eq (length bytes % 2) 0 (and-l (eqb (length bytes % 2) 0) (leb (length bytes) mostHistory) (b .0));
+          short = leb→le (length bytes) mostHistory (and-r (eqb (length bytes % 2) 0) (leb (length bytes) mostHistory) (b .0));
+        },
+        b .1,
+      )
+
+  pub tests-i : Formed n bytes → T (passesAll (gather (length (pairsOf bytes)) (testsOf n (pairsOf bytes)))) → T (passesAll (checkTests n bytes))
+  tests-i f t =
+      pass size (form ∷ pairs) (and-i (leb 1 n) (leb n mostThreads) (le→leb 1 n (f .least)) (le→leb n mostThreads (f .most)))
+      (pass form pairs (and-i (eqb (length bytes % 2) 0) (leb (length bytes) mostHistory) (eq-T (length bytes % 2) 0 (f .even)) (le→leb (length bytes) mostHistory (f .short))) t)

@@ -1,4 +1,5 @@
-pub mod EventLaws
-pub mod RowLaws
+-- Laws first, then the loop's invariant; each file says what it shows.
 pub mod PlainLaws
+pub mod StandingLaws
+pub mod RowLaws
 pub mod CheckLaws

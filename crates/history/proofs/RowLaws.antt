@@ -1,82 +1,112 @@
--- Which place an event follows, and what holds of a code that is no event.
--- Assumes nothing.
-use Prim.Native.Nat.{ℕ, zero, suc, _+_}
-use mathlib.Core.Path.{_≡_, refl, sym, ap, _∙_}
-use mathlib.Core.Bool.{Bool, true, false, cond, _||_}
+-- What the row of a code says: which place an event follows, that a total meets its need, and what it does to a standing.
+use Prim.Native.Nat.{ℕ, zero, suc, _+_, _-_, _*_, _%_, _^_, _≤_, _<_}
 use native.Mathlib.Omega.{arith}
-use borrow.Author.Tests.{eqb-true, eqb-false, ne-eqb}
-use lib.Dec.{eqb}
-use Rattle.definitions.specs.Threads.{between}
+use mathlib.Core.Bool.{Bool, true, false, cond, not, _&&_, _||_}
+use mathlib.Core.Logic.{_⊎_, inl, inr}
+use mathlib.Core.Path.{_≡_, refl, sym, subst, ap, _∙_}
+use borrow.Author.Tests.{eq-eqb, ne-eqb, le-leb, lt-leb}
+use lib.Dec.{T, leb, eqb, eqb→eq, eqb·suc-zero, leb→le}
 use Rattle.definitions.specs.PlainLock.{isNext}
-use Rattle.history.specs.Judged.{any, placeBefore, rowOf}
-use Rattle.history.proofs.EventLaws.{past-last, unknown-code, no-event}
+use Rattle.definitions.specs.Threads.{between}
+use Rattle.history.specs.Counts.{countsMeet, standingAfter, Counted}
+use Rattle.history.specs.Rows.{writer, readers, any, less, mostFor, placeBefore, change, knownRow, unknownRow, eventRow}
+use Rattle.history.specs.declared.EventRow.{EventRow}
+use Rattle.history.specs.declared.Standing.{Standing}
+use Rattle.theory.proofs.Tests.{and-l, or-l, same-test, no-both, eq-T, decided, cond-yes, cond-no, same?}
+use Rattle.history.proofs.PlainLaws.{Next, calls-shared, calls-exclusive, goes-on, next-e, leaves-by}
+use Rattle.history.proofs.StandingLaws.{same-standing}
 
-differ : {A : Type 0} → false ≡ true → A
-differ q = absurd (let z : _≡_ {A = ℕ} 0 1 = cc in omega arith)
+row-known : (code : ℕ) → T (between 1 8 code) → eventRow code ≡ knownRow code
+unfolding eventRow
+row-known code t = cond-yes (between 1 8 code) (knownRow code) unknownRow t
 
--- the eight codes
-by-code : (P : ℕ → Type 0) → P 1 → P 2 → P 3 → P 4 → P 5 → P 6 → P 7 → P 8 → (code : ℕ) → between 1 8 code ≡ true → P code
-by-code P a b c d e f g h zero q = differ q
-by-code P a b c d e f g h (suc zero) q = a
-by-code P a b c d e f g h (suc (suc zero)) q = b
-by-code P a b c d e f g h (suc (suc (suc zero))) q = c
-by-code P a b c d e f g h (suc (suc (suc (suc zero)))) q = d
-by-code P a b c d e f g h (suc (suc (suc (suc (suc zero))))) q = e
-by-code P a b c d e f g h (suc (suc (suc (suc (suc (suc zero)))))) q = f
-by-code P a b c d e f g h (suc (suc (suc (suc (suc (suc (suc zero))))))) q = g
-by-code P a b c d e f g h (suc (suc (suc (suc (suc (suc (suc (suc zero)))))))) q = h
-by-code P a b c d e f g h (suc (suc (suc (suc (suc (suc (suc (suc (suc n))))))))) q = differ (sym (past-last n) ∙ q)
+pub row-unknown : (code : ℕ) → T (not (between 1 8 code)) → eventRow code ≡ unknownRow
+unfolding eventRow
+row-unknown code t = cond-no (between 1 8 code) (knownRow code) unknownRow t
 
--- no event, no place before it
-pub none-before : (code : ℕ) → between 1 8 code ≡ false → placeBefore code ≡ 256
-unfolding placeBefore
-none-before zero q = refl
-none-before (suc zero) q = differ (sym q)
-none-before (suc (suc zero)) q = differ (sym q)
-none-before (suc (suc (suc zero))) q = differ (sym q)
-none-before (suc (suc (suc (suc zero)))) q = differ (sym q)
-none-before (suc (suc (suc (suc (suc zero))))) q = differ (sym q)
-none-before (suc (suc (suc (suc (suc (suc zero)))))) q = differ (sym q)
-none-before (suc (suc (suc (suc (suc (suc (suc zero))))))) q = differ (sym q)
-none-before (suc (suc (suc (suc (suc (suc (suc (suc zero)))))))) q = differ (sym q)
-none-before (suc (suc (suc (suc (suc (suc (suc (suc (suc n))))))))) q = refl
+-- ---- the place before
 
--- the row of any other number
-pub no-row : (code : ℕ) → (code ≡ 1 → ⊥) → (code ≡ 2 → ⊥) → (code ≡ 3 → ⊥) → (code ≡ 4 → ⊥) → (code ≡ 5 → ⊥) → (code ≡ 6 → ⊥)
-    → (code ≡ 7 → ⊥) → (code ≡ 8 → ⊥) → record { before = 256; most = any; after = code; adds = 0; takes = 0 } ≡ rowOf code
-unfolding rowOf
-no-row code a b c d e f g h =
-    simp (
-      none-before code (unknown-code code (no-event code a b c d e f g h)),
-      ne-eqb code 2 b,
-      ne-eqb code 4 d,
-      ne-eqb code 6 f,
-      ne-eqb code 8 h,
-    )
+-- an event follows its place; no thread is ever at place 4, which 5 would follow by its number
+follows : (place event : ℕ) → T (between 1 8 event) → (place ≡ 4 → ⊥) → eqb place (placeBefore event) ≡ isNext place event
+follows place event known fine =
+    same-test (eqb place (placeBefore event)) (isNext place event)
+    (λ t. to (eqb→eq place (placeBefore event) t) (decided (eqb event 1 || eqb event 5)))
+    (λ t. eq-T place (placeBefore event) (from (next-e place event t) (same? event 1) (same? event 5)))
+  where
+    least : 1 ≤ event
+    least = leb→le 1 event (and-l (leb 1 event) (leb event 8) known)
 
--- the event at code k follows the place b; no thread is ever at place 4
-module _ (place : ℕ) (fine : place ≡ 4 → ⊥) where
-  next-by : (b k : ℕ) → isNext b k ≡ true → (eqb 0 b ≡ false → (eqb k 1 || eqb k 5) ≡ false)
-      → (k ≡ place + 1 → (place ≡ b → ⊥) → ⊥) → eqb place b ≡ isNext place k
-  next-by b k here start other = by (eqb place b) refl
-    where
-      elsewhere : (z : Bool) → eqb place 0 ≡ z → (place ≡ b → ⊥) → false ≡ cond z (eqb k 1 || eqb k 5) (eqb k (place + 1))
-      elsewhere true e d = sym (start (ne-eqb 0 b (λ q. d (eqb-true place 0 e ∙ q))))
-      elsewhere false e d = sym (ne-eqb k (place + 1) (λ q. other q d))
+    to : place ≡ placeBefore event → T (eqb event 1 || eqb event 5) ⊎ T (not (eqb event 1 || eqb event 5)) → T (isNext place event)
+    to e (inl c) = subst (λ (p : ℕ). T (isNext p event)) (sym (e ∙ cond-yes (eqb event 1 || eqb event 5) 0 (event - 1) c)) c
+    to e (inr c) =
+        let l = least in
+        let b : placeBefore event ≡ event - 1 = cond-no (eqb event 1 || eqb event 5) 0 (event - 1) c in
+        let no-call : event ≡ 1 → ⊥ = λ d. no-both (eqb event 1 || eqb event 5) (or-l (eqb event 1) (eqb event 5) (eq-T event 1 d)) c in
+        rw (ne-eqb place 0 (λ z. no-call (omega arith))) (eq-T event (place + 1) (omega arith))
 
-      by : (t : Bool) → eqb place b ≡ t → t ≡ isNext place k
-      by true e = sym (ap (λ (p : ℕ). isNext p k) (eqb-true place b e) ∙ here)
-      by false e = elsewhere (eqb place 0) refl (eqb-false place b e)
+    from : Next place event → (event ≡ 1) ⊎ (event ≡ 1 → ⊥) → (event ≡ 5) ⊎ (event ≡ 5 → ⊥) → place ≡ placeBefore event
+    from (calls-shared z c) a b = z ∙ ap placeBefore (sym c)
+    from (calls-exclusive z c) a b = z ∙ ap placeBefore (sym c)
+    from (goes-on c) (inl a) b = rw a (omega arith)
+    from (goes-on c) (inr a) (inl b) = absurd (fine (omega arith))
+    from (goes-on c) (inr a) (inr b) = rw (ne-eqb event 1 a, ne-eqb event 5 b) (omega arith)
 
-  pub follows : (code : ℕ) → between 1 8 code ≡ true → eqb place (placeBefore code) ≡ isNext place code
-  unfolding placeBefore
-  follows =
-      by-code (λ k. eqb place (placeBefore k) ≡ isNext place k)
-      (next-by 0 1 refl (λ e. cc) (λ q d. d (omega arith)))
-      (next-by 1 2 refl (λ e. refl) (λ q d. d (omega arith)))
-      (next-by 2 3 refl (λ e. refl) (λ q d. d (omega arith)))
-      (next-by 3 4 refl (λ e. refl) (λ q d. d (omega arith)))
-      (next-by 0 5 refl (λ e. cc) (λ q d. fine (omega arith)))
-      (next-by 5 6 refl (λ e. refl) (λ q d. d (omega arith)))
-      (next-by 6 7 refl (λ e. refl) (λ q d. d (omega arith)))
-      (next-by 7 8 refl (λ e. refl) (λ q d. d (omega arith)))
+-- ---- the total
+
+most-readers : (s e : ℕ) → s < writer → leb (s + writer * e) readers ≡ eqb e 0
+most-readers s zero l = le-leb (s + writer * 0) readers (omega arith)
+most-readers s (suc e) l = lt-leb (s + writer * suc e) readers (omega arith) ∙ sym (eqb·suc-zero e)
+
+most-none : (s e : ℕ) → leb (s + writer * e) 0 ≡ eqb s 0 && eqb e 0
+most-none zero zero = refl
+most-none zero (suc e) = lt-leb (0 + writer * suc e) 0 (omega arith) ∙ sym (eqb·suc-zero e)
+most-none (suc s) e = lt-leb (suc s + writer * e) 0 (omega arith) ∙ ap (λ (b : Bool). b && eqb e 0) (sym (eqb·suc-zero s))
+
+meets : (s : Standing) (event : ℕ) → s .shared < writer → s .exclusive < writer → leb (s .shared + writer * s .exclusive) (mostFor event) ≡ countsMeet s event
+meets s event few-shared few-exclusive = by (eqb event 2) (eqb event 6)
+  where
+    by : (a b : Bool) → leb (s .shared + writer * s .exclusive) (cond a readers (cond b 0 any)) ≡ cond a (eqb (s .exclusive) 0) (cond b (eqb (s .shared) 0 && eqb (s .exclusive) 0) true)
+    by true b = most-readers (s .shared) (s .exclusive) few-shared
+    by false true = most-none (s .shared) (s .exclusive)
+    by false false = le-leb (s .shared + writer * s .exclusive) any (omega arith)
+
+-- ---- what is added to a count
+
+added : (count place event : ℕ) → count < less → (event ≡ place + 1 → 1 ≤ count)
+    → (count + change place event) % 2 ^ 16 ≡ count + cond (eqb event place) 1 0 - cond (eqb event (place + 1)) 1 0
+added count place event few some = by (same? event place) (same? event (place + 1))
+  where
+    by : (event ≡ place) ⊎ (event ≡ place → ⊥) → (event ≡ place + 1) ⊎ (event ≡ place + 1 → ⊥)
+        → (count + change place event) % 2 ^ 16 ≡ count + cond (eqb event place) 1 0 - cond (eqb event (place + 1)) 1 0
+    by (inl e) w = rw (eq-eqb event place e, ne-eqb event (place + 1) (λ d. omega arith)) (omega arith)
+    by (inr d) (inl e) = let l = some e in rw (ne-eqb event place d, eq-eqb event (place + 1) e) (omega arith)
+    by (inr d) (inr e) = rw (ne-eqb event place d, ne-eqb event (place + 1) e) (omega arith)
+
+-- ---- a code's row at a standing
+
+module _ (n thread : ℕ) (s : Standing) (code : ℕ) (c : Counted n thread s) where
+  -- of an event
+  module _ (known : T (between 1 8 code)) where
+    pub next-known : eqb (s .place) (eventRow code .before) ≡ isNext (s .place) code
+    next-known = ap (λ (r : EventRow). eqb (s .place) (r .before)) (row-known code known) ∙ follows (s .place) code known (c .in-round)
+
+    pub met-known : leb (s .shared + writer * s .exclusive) (eventRow code .most) ≡ countsMeet s code
+    met-known =
+        ap (λ (r : EventRow). leb (s .shared + writer * s .exclusive) (r .most)) (row-known code known)
+        ∙ meets s code (omega (arith, c .few, c .shared-most)) (omega (arith, c .few, c .exclusive-most))
+
+    pub moved-known : thread < n → T (isNext (s .place) code)
+        → record { place = eventRow code .after; shared = (s .shared + eventRow code .shared) % 2 ^ 16; exclusive = (s .exclusive + eventRow code .exclusive) % 2 ^ 16 } ≡ standingAfter s code
+    moved-known l next =
+        rw (row-known code known)
+        (same-standing refl
+        (added (s .shared) 2 code (omega (arith, c .few, c .shared-most)) (λ e. c .in-shared l (left 2 (omega arith) (λ d. omega arith) e)))
+        (added (s .exclusive) 6 code (omega (arith, c .few, c .exclusive-most)) (λ e. c .in-exclusive l (left 6 (omega arith) (λ d. omega arith) e))))
+      where
+        left : (at : ℕ) → 1 ≤ at → (at ≡ 4 → ⊥) → code ≡ at + 1 → s .place ≡ at
+        left at some no-4 e = eqb→eq (s .place) at (subst T (sym (leaves-by (s .place) code at some no-4 next)) (eq-T code (at + 1) e))
+
+  -- of a code that is no event
+  pub next-unknown : s .place < 256 → T (not (between 1 8 code)) → eqb (s .place) (eventRow code .before) ≡ false
+  next-unknown byte unknown =
+      ap (λ (r : EventRow). eqb (s .place) (r .before)) (row-unknown code unknown) ∙ ne-eqb (s .place) 256 (λ e. omega arith)

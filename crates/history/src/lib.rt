@@ -1,109 +1,135 @@
-// The check of a history: one pass over its pairs, which keeps each thread's place in its round and how many threads are in shared and in exclusive.
-ghost use mathlib.Core.Path.{_≡_};
-ghost use mathlib.Core.Bool.{false, cond};
-ghost use lib.Dec.{eqb};
-ghost use Rattle.definitions.specs.Answers.{numberOf, replyOfAnswer};
-ghost use Rattle.definitions.specs.Bounds.{firstEvent, lastEvent};
-ghost use Rattle.definitions.specs.Threads.{between};
-ghost use Rattle.definitions.specs.PlainLock.{pairsOf, historyReply, checkReply};
-ghost use Rattle.history.specs.Judged.{rowOf, numberBy, numberIn};
+// The check of a history, pair by pair. One pass keeps each thread's place in its round and how many threads are in shared
+// and in exclusive; `judge` decides an event from these plain counts alone, and answers what they are after it.
 use definitions::Answer;
 use definitions::Event;
-use definitions::MaybeEvent;
+use definitions::MOST_HISTORY;
+use definitions::MOST_THREADS;
 use definitions::Refusal;
+ghost use Prim.Native.Nat.{ℕ, _+_, _%_, _^_, _≤_};
+ghost use mathlib.Core.Bool.{cond};
+ghost use mathlib.Core.Path.{_≡_};
+ghost use Rattle.definitions.specs.Answers.{numberOf, answered, answerReply};
+ghost use Rattle.definitions.specs.Bounds.{mostThreads};
+ghost use Rattle.definitions.specs.PlainLock.{checkReply};
+ghost use Rattle.history.specs.Counts.{Counted, countTests, standingAfter, verdictReply};
+ghost use Rattle.history.specs.Pairs.{pairsReply};
+ghost use Rattle.history.specs.Rows.{eventRow};
 
-pub const MOST_THREADS: u16 = 200;
-
-// The longest history, in bytes.
-pub const MOST_HISTORY: usize = 60_000;
-
-// The total of those inside: a thread in shared adds 1 to it, one in exclusive this.
-const WRITER: usize = 65_536;
-
-// The largest total with nobody in exclusive, and the largest of all.
-const READERS: usize = 65_535;
-
-const ANY: usize = 18_446_744_073_709_551_615;
-
-// What an event asks and does: the place that it follows, 256 for a code that is no event; the largest total that it can meet; the thread's place after it, and what it adds to the total and takes from it.
-pub struct Row {
-    pub before: u16,
-    pub most: usize,
-    pub after: u8,
-    pub adds: usize,
-    pub takes: usize,
+// Where a thread stands: its place in its round, and how many threads are in shared and in exclusive.
+pub struct Standing {
+    pub place: u8,
+    pub shared: u16,
+    pub exclusive: u16,
 }
 
-// What a pair gets after those before it.
+// What an event gets: where it leaves its thread, or why it is turned down.
 pub enum Verdict {
-    Fits,
+    Fits(Standing),
     Bad(Refusal),
 }
 
-fn values(before: u16, most: usize, after: u8, adds: usize, takes: usize) -> Row
-    ensures { λ r. ⌜ r ≡ record { before = before; most = most; after = after; adds = adds; takes = takes } ⌝ }
+// What an event asks and does: the place that it follows, which is no byte for a code that is no event; the largest total of
+// those inside that it can meet; the thread's place after it; and what it adds to each count, modulo 2^16.
+struct EventRow {
+    before: u16,
+    most: u32,
+    after: u8,
+    shared: u16,
+    exclusive: u16,
+}
+
+// In a total of those inside, a thread in shared is 1 and one in exclusive this.
+const WRITER: u32 = 65_536;
+
+// The largest total with nobody in exclusive, and the largest of all.
+const READERS: u32 = 65_535;
+
+const ANY: u32 = 4_294_967_295;
+
+// One less, modulo 2^16.
+const LESS: u16 = 65_535;
+
+const NO_PLACE: u16 = 256;
+
+fn values(before: u16, most: u32, after: u8, shared: u16, exclusive: u16) -> EventRow
+    ensures { λ r. ⌜ r ≡ record { before = before; most = most; after = after; shared = shared; exclusive = exclusive } ⌝ }
 {
-    Row {
+    EventRow {
         before,
         most,
         after,
-        adds,
-        takes,
+        shared,
+        exclusive,
     }
 }
 
 // Rows of constants: they are compiled to tables, where comparisons are compiled to branches that are often mispredicted.
-fn row_of(code: u8) -> Row
-    ensures { λ r. ⌜ r ≡ rowOf code ⌝ }
+fn event_row(code: u16) -> EventRow
+    ensures { λ r. ⌜ r ≡ eventRow code ⌝ }
 {
     match code {
         1 => values(0, ANY, 1, 0, 0),
         2 => values(1, READERS, 2, 1, 0),
-        3 => values(2, ANY, 3, 0, 1),
+        3 => values(2, ANY, 3, LESS, 0),
         4 => values(3, ANY, 0, 0, 0),
         5 => values(0, ANY, 5, 0, 0),
-        6 => values(5, 0, 6, WRITER, 0),
-        7 => values(6, ANY, 7, 0, WRITER),
+        6 => values(5, 0, 6, 0, 1),
+        7 => values(6, ANY, 7, 0, LESS),
         8 => values(7, ANY, 0, 0, 0),
-        _ => values(256, ANY, code, 0, 0),
+        _ => values(NO_PLACE, ANY, 0, 0, 0),
     }
 }
 
-// The refusal of a code that doesn't follow its thread's place.
-fn not_next(code: u8) -> Refusal
-    ensures { λ r. ⌜ numberOf r ≡ cond (between firstEvent lastEvent code) 10 9 ⌝ }
+// What an event does to where its thread stands.
+fn moved(before: Standing, row: EventRow) -> Standing
+    ensures { λ r. ⌜ r ≡ record { place = row .after; shared = (before .shared + row .shared) % 2 ^ 16; exclusive = (before .exclusive + row .exclusive) % 2 ^ 16 } ⌝ }
 {
-    let found = Event::from_code(code);
-    if let MaybeEvent::Unknown = found {
+    Standing {
+        place: row.after,
+        shared: std::num::wrapping_add_u16(before.shared, row.shared),
+        exclusive: std::num::wrapping_add_u16(before.exclusive, row.exclusive),
+    }
+}
+
+// Why an event that doesn't fit is turned down.
+fn reason(known: bool, next: bool) -> Refusal
+    ensures { λ r. ⌜ numberOf r ≡ cond known (cond next 11 10) 9 ⌝ }
+{
+    if !known {
         return Refusal::UnknownPair;
     }
-    Refusal::NotNext
+    if !next {
+        return Refusal::NotNext;
+    }
+    Refusal::Occupied
 }
 
-// Judges a pair by its event's row, its thread's place and the total of those inside.
-fn judge(threads: u16, thread: u8, code: u8, row: Row, place: u8, inside: usize) -> Verdict
-    requires { ⌜ row ≡ rowOf code ⌝ }
-    requires { ⌜ eqb place 4 ≡ false ⌝ }
-    ensures { λ r. ⌜ numberIn r ≡ numberBy threads place inside (record { thread = thread; event = code }) ⌝ }
+// The refusals 9, 10 and 11 of one event, from where its thread stands; no other function knows the rules of events.
+pub fn judge(threads: u16, thread: u16, code: u16, before: Standing) -> Verdict
+    requires { ⌜ Counted threads thread before ⌝ }
+    ensures { λ r. ⌜ ((k : ℕ) → verdictReply k r ≡ answered (countTests threads before k (record { thread = thread; event = code })) (standingAfter before code)) ⌝ }
 {
-    if threads <= thread as u16 {
-        return Verdict::Bad(Refusal::UnknownPair);
+    let row = event_row(code);
+    let below = thread < threads;
+    let next = before.place as u16 == row.before;
+    let total = before.shared as u32 + WRITER * (before.exclusive as u32);
+    let met = total <= row.most;
+    if below & (next & met) {
+        return Verdict::Fits(moved(before, row));
     }
-    if place as u16 != row.before {
-        return Verdict::Bad(not_next(code));
-    }
-    if row.most < inside {
-        return Verdict::Bad(Refusal::Occupied);
-    }
-    Verdict::Fits
+    let known = ((Event::FIRST as u16 <= code) & (code <= Event::LAST as u16)) & below;
+    Verdict::Bad(reason(known, next))
 }
 
-// One pass. Any byte is an index of the 256 places, so a thread is looked up before it is judged; those below N are the only ones written.
+// One pass. Any byte is an index of the 256 places, so a thread's place is looked up before the thread is judged; those below
+// N are the only ones written.
 fn check_pairs(threads: u16, history: &[u8]) -> Answer
-    ensures { λ r. ⌜ replyOfAnswer r ≡ historyReply threads (pairsOf (now (history .entry))) ⌝ }
+    requires { ⌜ threads ≤ mostThreads ⌝ }
+    ensures { λ r. ⌜ answerReply r ≡ pairsReply threads (now (history .entry)) ⌝ }
 {
     let mut places = [0u8; 256];
-    let mut inside: usize = 0;
+    let mut shared: u16 = 0;
+    let mut exclusive: u16 = 0;
     let events = history.len() / 2;
     let mut k: usize = 0;
     while k < events {
@@ -111,24 +137,32 @@ fn check_pairs(threads: u16, history: &[u8]) -> Answer
         let thread = history[at];
         let code = history[at + 1];
         let t = thread as usize;
-        let before = places[t];
-        let row = row_of(code);
-        let verdict = judge(threads, thread, code, row, before, inside);
-        if let Verdict::Bad(refusal) = verdict {
-            return Answer::Refused(refusal, k);
+        let place = places[t];
+        let before = Standing {
+            place,
+            shared,
+            exclusive,
+        };
+        let verdict = judge(threads, thread as u16, code as u16, before);
+        match verdict {
+            Verdict::Fits(after) => {
+                places[t] = after.place;
+                shared = after.shared;
+                exclusive = after.exclusive;
+            }
+            Verdict::Bad(refusal) => return Answer::Refused(refusal, k),
         }
-        places[t] = row.after;
-        inside = inside + row.adds - row.takes;
         k += 1;
     }
     Answer::Done(events)
 }
 
-// Refusals 1 and 8; then pair by pair 9, 10, 11, with the index of the first bad pair. An accepted history answers its number of events.
+// Refusals 1 and 8; then pair by pair 9, 10, 11, with the index of the first bad pair. An accepted history answers its number
+// of events.
 pub fn check(threads: u16, history: &[u8]) -> Answer
-    ensures { λ r. ⌜ replyOfAnswer r ≡ checkReply threads (now (history .entry)) ⌝ }
+    ensures { λ r. ⌜ answerReply r ≡ checkReply threads (now (history .entry)) ⌝ }
 {
-    let counted = (1 <= threads) & (threads <= MOST_THREADS);
+    let counted = (1 <= threads) & (threads <= MOST_THREADS as u16);
     if !counted {
         return Answer::Refused(Refusal::BadSize, 0);
     }

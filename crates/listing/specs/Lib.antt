@@ -1,2 +1,2 @@
 -- The definitions that the contracts of the open moves cite besides those of the crates below.
-pub mod Listing
+pub mod Pairs

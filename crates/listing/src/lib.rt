@@ -1,87 +1,99 @@
 // The open moves of a thread, listed as byte pairs: counted first, then written.
 use definitions::Answer;
+use definitions::LAST_MOVE;
 use definitions::Refusal;
 use table::Examined;
+use table::MUTEX_AT;
 use table::phase_at;
+ghost use Prim.Native.Nat.{_≤_};
+ghost use mathlib.Core.List.{[]};
 ghost use mathlib.Core.Path.{_≡_};
-ghost use Prim.Native.Nat.{_*_, _<_, _≤_};
 ghost use lib.ListN.{length};
-ghost use Rattle.definitions.specs.Bounds.{mostThreads};
-ghost use Rattle.definitions.specs.Table.{filled};
-ghost use Rattle.theory.specs.Put.{Delivered};
-ghost use Rattle.rules.specs.Tested.{MovesIn};
-ghost use Rattle.listing.specs.Listing.{pairs, isOpen, openTargets, openPairs, InTable, OpenListed};
+ghost use Rattle.definitions.specs.Answers.{answerReply, counted};
+ghost use Rattle.definitions.specs.Bounds.{mostThreads, lastMove};
+ghost use Rattle.definitions.specs.OpenMoves.{openEntry};
+ghost use Rattle.theory.specs.Outputs.{RoomAt, PutAt, Delivered};
+ghost use Rattle.listing.specs.Pairs.{Stands, isOpen, openTargets, pairs, openPairs};
 
-// Whether a thread in a phase has a move open, given the moves of the phase.
-fn is_open(moves: u8, phase: usize, mutex: u8, mv: usize) -> bool
-    requires { ⌜ MovesIn phase moves × (mv < 6) ⌝ }
-    ensures { λ r. ⌜ r ≡ isOpen phase mutex mv ⌝ }
+// Where a thread stands: N, its phase, the moves that the phase has, a bit each, and the mutex.
+struct Standing {
+    threads: usize,
+    phase: u8,
+    moves: u8,
+    mutex: u8,
+}
+
+// Whether a move is open.
+fn is_open(at: Standing, mv: u8) -> bool
+    requires { ⌜ Stands at × (mv ≤ lastMove) ⌝ }
+    ensures { λ r. ⌜ r ≡ isOpen at mv ⌝ }
 {
-    rules::is_among(moves, mv) & !rules::must_wait(phase, mutex, mv)
+    requests::has_bit(at.moves, mv) & !requests::must_wait(at.phase, at.mutex, mv)
 }
 
 // With how many targets, from 0 on.
-fn open_targets(threads: usize, moves: u8, phase: usize, mutex: u8, mv: usize) -> usize
-    requires { ⌜ MovesIn phase moves × (mv < 6) ⌝ }
-    ensures { λ r. ⌜ r ≡ openTargets threads phase mutex mv ⌝ }
+fn open_targets(at: Standing, mv: u8) -> usize
+    requires { ⌜ Stands at × (mv ≤ lastMove) ⌝ }
+    ensures { λ r. ⌜ r ≡ openTargets at mv ⌝ }
 {
-    if !is_open(moves, phase, mutex, mv) {
+    if !is_open(at, mv) {
         return 0;
     }
-    rules::targets_of(threads, mv)
+    requests::targets_of(at.threads, mv)
 }
 
-fn count_open(threads: usize, moves: u8, phase: usize, mutex: u8) -> usize
-    requires { ⌜ (threads ≤ mostThreads) × MovesIn phase moves ⌝ }
-    ensures { λ r. ⌜ r ≡ length (openPairs threads phase mutex 6) ⌝ }
+fn count_open(at: Standing) -> usize
+    requires { ⌜ Stands at ⌝ }
+    ensures { λ r. ⌜ r ≡ length (openPairs at) ⌝ }
 {
     let mut bytes: usize = 0;
-    for mv in 0..6 {
-        bytes = bytes + 2 * open_targets(threads, moves, phase, mutex, mv);
+    for mv in 0..=LAST_MOVE {
+        bytes = bytes + 2 * open_targets(at, mv);
     }
     bytes
 }
 
-// The pairs of one move, from the front.
-fn fill_pairs(out: &mut [u8], mv: usize, count: usize)
-    requires { ⌜ (mv < 6) × ((count ≤ 200) × (2 * count ≤ length (now out))) ⌝ }
-    ensures { λ r. ⌜ now (out .exit) ≡ filled (now (out .entry)) (pairs mv count) ⌝ }
+// The pairs of one move, from a position on. The position behind them is answered.
+fn put_pairs(out: &mut [u8], start: usize, mv: u8, targets: usize) -> usize
+    requires { ⌜ RoomAt (now out) start (pairs mv targets) × (targets ≤ mostThreads) ⌝ }
+    ensures { λ r. ⌜ PutAt (now (out .entry)) start (pairs mv targets) (now (out .exit)) r ⌝ }
 {
-    for t in 0..count {
-        let at = 2 * t;
-        out[at] = mv as u8;
-        out[at + 1] = t as u8;
+    let mut at = start;
+    for target in 0..targets {
+        out[at] = mv;
+        out[at + 1] = target as u8;
+        at += 2;
     }
+    at
 }
 
 // The pairs of all moves.
-fn fill_open(out: &mut [u8], threads: usize, moves: u8, phase: usize, mutex: u8)
-    requires { ⌜ ((threads ≤ mostThreads) × MovesIn phase moves) × (length (openPairs threads phase mutex 6) ≤ length (now out)) ⌝ }
-    ensures { λ r. ⌜ now (out .exit) ≡ filled (now (out .entry)) (openPairs threads phase mutex 6) ⌝ }
+fn put_open(out: &mut [u8], at: Standing) -> usize
+    requires { ⌜ Stands at × RoomAt (now out) 0 (openPairs at) ⌝ }
+    ensures { λ r. ⌜ PutAt (now (out .entry)) 0 (openPairs at) (now (out .exit)) r ⌝ }
 {
-    let mut at: usize = 0;
-    for mv in 0..6 {
-        let count = open_targets(threads, moves, phase, mutex, mv);
-        fill_pairs(&mut out[at..], mv, count);
-        at = at + 2 * count;
+    let mut next: usize = 0;
+    for mv in 0..=LAST_MOVE {
+        let targets = open_targets(at, mv);
+        next = put_pairs(out, next, mv, targets);
     }
+    next
 }
 
-fn list_open(out: &mut [u8], threads: usize, phase: usize, mutex: u8) -> Answer
-    requires { ⌜ InTable threads phase ⌝ }
-    ensures { λ r. ⌜ Delivered (openPairs threads phase mutex 6) (now (out .entry)) (now (out .exit)) r ⌝ }
+fn list_open(out: &mut [u8], at: Standing) -> Answer
+    requires { ⌜ Stands at ⌝ }
+    ensures { λ r. ⌜ Delivered (counted [] (openPairs at)) (now (out .entry)) (now (out .exit)) (answerReply r) ⌝ }
 {
-    let moves = rules::moves_in(phase);
-    let bytes = count_open(threads, moves, phase, mutex);
+    let bytes = count_open(at);
     if out.len() < bytes {
         return Answer::Refused(Refusal::NoRoom, 0);
     }
-    fill_open(out, threads, moves, phase, mutex);
+    put_open(out, at);
     Answer::Done(bytes)
 }
 
 pub fn open_moves(table: &[u8], thread: u16, out: &mut [u8]) -> Answer
-    ensures { λ r. ⌜ OpenListed (now (table .entry)) thread (now (out .entry)) (now (out .exit)) r ⌝ }
+    ensures { λ r. ⌜ Delivered (openEntry (now (table .entry)) thread) (now (out .entry)) (now (out .exit)) (answerReply r) ⌝ }
 {
     let examined = table::examine(table);
     match examined {
@@ -91,10 +103,16 @@ pub fn open_moves(table: &[u8], thread: u16, out: &mut [u8]) -> Answer
             if threads <= i {
                 return Answer::Refused(Refusal::NoThread, 0);
             }
-            let mutex = table[1];
-            let at = table[phase_at(i)];
-            let phase = at as usize;
-            list_open(out, threads, phase, mutex)
+            let mutex = table[MUTEX_AT];
+            let phase = table[phase_at(i)];
+            let moves = requests::moves_in(phase);
+            let at = Standing {
+                threads,
+                phase,
+                moves,
+                mutex,
+            };
+            list_open(out, at)
         }
     }
 }

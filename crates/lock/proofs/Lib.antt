@@ -1,5 +1,2 @@
-pub mod Counts
-pub mod Bytes
-pub mod Facts
-pub mod Moved
-pub mod Answered
+-- What the move answers, by its tests.
+pub mod MoveReplies

@@ -1,10 +1,7 @@
-// The move over the byte table.
-mod carry;
+// The move over the byte table: the table is tested once, then the request, then the request is applied.
 mod moves;
 mod request;
 
-pub use carry::Made;
-pub use carry::carry_out;
+pub use apply::Made;
 pub use moves::make_move;
 pub use moves::try_move;
-pub use request::test_request;

@@ -1,173 +1,135 @@
--- Lists of requests to the record `Table`: what they show, whether all are accepted, and the table that they leave; the same as those to the bytes.
--- `Leads` is a list of requests that is accepted throughout. Assumes nothing.
+-- Lists of requests to the record `Table` that are accepted throughout (`Leads`), one behind the other; lists from the fresh table's bytes as lists from its record;
+-- and the 16 bits of accepted requests.
 use Prim.Native.Nat.{ℕ, _≤_, _<_, _^_}
 use native.Mathlib.Omega.{arith}
-use mathlib.Core.Path.{_≡_, refl, sym, subst, ap, _∙_}
-use mathlib.Core.Bool.{Bool, true, false, cond, not, _&&_, _||_}
+use mathlib.Core.Bool.{Bool, true, false, cond}
 use mathlib.Core.List.{List, [], _∷_, _++_, append-assoc, append-nil}
+use mathlib.Core.Path.{_≡_, refl, sym, subst, ap, _∙_}
 use lib.Dec.{T, ltb, eqb, ltb→lt, eqb→eq}
+use Rattle.definitions.specs.Answers.{accepted, Seen}
 use Rattle.definitions.specs.Bounds.{mostThreads}
-use Rattle.definitions.specs.Answers.{refused}
-use Rattle.definitions.specs.Table.{Table, tableOf, sized, fresh}
-use Rattle.definitions.specs.Sound.{sound}
-use Rattle.definitions.specs.Nodes.{replyFor}
-use Rattle.definitions.specs.Moves.{Request, effect, moveTable, setMove, clearMove, targetFits}
+use Rattle.definitions.specs.Chains.{pairFor, historyIn, afterIn, acceptsAllIn, history, acceptsAll, Fits16, AllFit16}
+use Rattle.definitions.specs.Moves.{effect, stepReply, accepts, replyIn, stepIn, acceptsIn, namesThread, targetFits}
 use Rattle.definitions.specs.PlainLock.{Pair}
-use Rattle.definitions.specs.Chains.{pairFor, history, acceptsAll, Fits16, AllFit16}
-use Rattle.theory.proofs.Tests.{and-l, and-r, and-i, eq-T, cond-yes, cond-no}
-use Rattle.theory.proofs.Views.{applied, applied-keeps, refusalOn, replyOn, stepOn, refusal-same, reply-same, freshTable, fresh-table, fresh-sized}
-use Rattle.theory.proofs.Ways.{Accepted, accepted-e, accepted-i}
-use Rattle.theory.proofs.Steps.{sized-step, table-step}
+use Rattle.definitions.specs.Sound.{sound}
+use Rattle.definitions.specs.Table.{Table, freshTable, applied, itself, byteTable, fresh}
+use Rattle.definitions.specs.declared.Request.{Request}
+use Rattle.theory.proofs.Bytes.{byte-keeps, fresh-table, fresh-sized}
 use Rattle.theory.proofs.Kept.{kept-sound}
+use Rattle.theory.proofs.Replies.{accepted-is, all-passed}
+use Rattle.theory.proofs.Storages.{reply-same, accepts-e, accepts-i, accepted-stores, history-same, accepts-all-same}
+use Rattle.theory.proofs.Tests.{and-l, and-r, and-i}
+use Rattle.theory.proofs.Ways.{Accepted, accepted-e, accepted-i}
+use Rattle.theory.proofs.Writes.{applied-keeps}
 
--- ---- chains of the record
+-- ---- from the fresh table
 
--- what a list of requests shows
-unfoldable pub showsOn : Table → List Request → List Pair
-showsOn s [] = []
-showsOn s (r ∷ rs) = pairFor (r .thread) (replyOn s r) ++ showsOn (stepOn s r) rs
-
--- every request of the list is accepted
-unfoldable pub acceptsOn : Table → List Request → Bool
-acceptsOn s [] = true
-acceptsOn s (r ∷ rs) = eqb (refusalOn s r) 0 && acceptsOn (stepOn s r) rs
-
-pub history-same : (bytes : List ℕ) (rs : List Request) → T (sized bytes) → history bytes rs ≡ showsOn (tableOf bytes) rs
-unfolding history showsOn
-history-same bytes [] t = refl
-history-same bytes (r ∷ rs) t =
-    rw (reply-same bytes r t, history-same (moveTable bytes r) rs (sized-step bytes r t), table-step bytes r t)
-
-pub accepts-same : (bytes : List ℕ) (rs : List Request) → T (sized bytes) → acceptsAll bytes rs ≡ acceptsOn (tableOf bytes) rs
-unfolding acceptsAll acceptsOn
-accepts-same bytes [] t = refl
-accepts-same bytes (r ∷ rs) t =
-    rw (refusal-same bytes r t, accepts-same (moveTable bytes r) rs (sized-step bytes r t), table-step bytes r t)
-
--- both from the fresh table
 module _ (n : ℕ) (least : 1 ≤ n) (most : n ≤ mostThreads) (rs : List Request) where
-  pub history-fresh : history (fresh n) rs ≡ showsOn (freshTable n) rs
-  history-fresh = history-same (fresh n) rs (fresh-sized n least most) ∙ ap (λ (s : Table). showsOn s rs) (fresh-table n)
+  pub history-fresh : history (fresh n) rs ≡ historyIn itself (freshTable n) rs
+  history-fresh = history-same byteTable byte-keeps (fresh n) rs (fresh-sized n least most) ∙ ap (λ (s : Table). historyIn itself s rs) (fresh-table n)
 
-  pub accepts-fresh : acceptsAll (fresh n) rs ≡ acceptsOn (freshTable n) rs
-  accepts-fresh = accepts-same (fresh n) rs (fresh-sized n least most) ∙ ap (λ (s : Table). acceptsOn s rs) (fresh-table n)
+  pub accepts-fresh : acceptsAll (fresh n) rs ≡ acceptsAllIn itself (freshTable n) rs
+  accepts-fresh = accepts-all-same byteTable byte-keeps (fresh n) rs (fresh-sized n least most) ∙ ap (λ (s : Table). acceptsAllIn itself s rs) (fresh-table n)
 
 -- ---- one request
 
--- the pair that an effect shows, if it shows one
-abbrev pub pairsFor : ℕ → ℕ → List Pair
-pairsFor thread event = pairFor thread (replyFor event)
+-- the pair that is seen of an accepted request, if there is one
+abbrev pub pairSeen : ℕ → Seen → List Pair
+pairSeen thread seen = pairFor thread (accepted seen)
 
 -- an accepted request: its effect is what it shows and what it writes
-module _ (s : Table) (r : Request) where
-  pub step-is : refusalOn s r ≡ 0 → stepOn s r ≡ applied s (effect s r .writes)
-  unfolding stepOn
-  step-is e = cond-yes (eqb (refusalOn s r) 0) _ s (eq-T (refusalOn s r) 0 e)
+module _ (s : Table) (r : Request) (t : T (accepts s r)) where
+  pub own-reply : replyIn itself s r ≡ accepted (effect s r .shows)
+  unfolding stepReply
+  own-reply = reply-same itself s r tt ∙ all-passed (effect s r .shows) _ (subst T (accepted-is (effect s r .shows) _) t)
 
-  pub reply-is : refusalOn s r ≡ 0 → replyOn s r ≡ replyFor (effect s r .shows)
-  unfolding replyOn
-  reply-is e = cond-yes (eqb (refusalOn s r) 0) _ _ (eq-T (refusalOn s r) 0 e)
-
-  -- a refused one shows nothing and leaves the table
-  pub step-not : T (not (eqb (refusalOn s r) 0)) → stepOn s r ≡ s
-  unfolding stepOn
-  step-not t = cond-no (eqb (refusalOn s r) 0) _ s t
-
-  pub reply-not : T (not (eqb (refusalOn s r) 0)) → replyOn s r ≡ refused (refusalOn s r) 0
-  unfolding replyOn
-  reply-not t = cond-no (eqb (refusalOn s r) 0) _ _ t
+  pub own-step : stepIn itself s r ≡ applied s (effect s r .writes)
+  own-step = accepted-stores itself s r (accepts-i itself s r tt t)
 
 -- ---- chains that are accepted throughout
 
--- the table that a list of requests leaves
-unfoldable pub afterOn : Table → List Request → Table
-afterOn s [] = s
-afterOn s (r ∷ rs) = afterOn (stepOn s r) rs
-
 -- from table s the requests rs are all accepted, show h and leave table t, which is sound
 pub record Leads (s : Table) (rs : List Request) (h : List Pair) (t : Table) : Type 0 where
-  pub accepted : T (acceptsOn s rs)
-  pub shows : showsOn s rs ≡ h
-  pub ends : afterOn s rs ≡ t
+  pub all-accepted : T (acceptsAllIn itself s rs)
+  pub shows : historyIn itself s rs ≡ h
+  pub ends : afterIn itself s rs ≡ t
   pub sound-after : T (sound t)
 
 pub stays : (s : Table) → T (sound s) → Leads s [] [] s
-unfolding acceptsOn showsOn afterOn
-stays s g = record { accepted = tt; shows = refl; ends = refl; sound-after = g }
+unfolding acceptsAllIn historyIn afterIn
+stays s g = record { all-accepted = tt; shows = refl; ends = refl; sound-after = g }
 
 -- one accepted request
-pub one : (s : Table) (r : Request) → Accepted s r → Leads s (r ∷ []) (pairsFor (r .thread) (effect s r .shows)) (applied s (effect s r .writes))
-unfolding acceptsOn showsOn afterOn
+pub one : (s : Table) (r : Request) → Accepted s r → Leads s (r ∷ []) (pairSeen (r .thread) (effect s r .shows)) (applied s (effect s r .writes))
+unfolding acceptsAllIn historyIn afterIn
 one s r a =
-    let e = accepted-i s r a in
+    let t = accepted-i s r a in
     record {
-      accepted = and-i (eqb (refusalOn s r) 0) true (eq-T (refusalOn s r) 0 e) tt;
-      shows = append-nil (pairFor (r .thread) (replyOn s r)) ∙ ap (pairFor (r .thread)) (reply-is s r e);
-      ends = step-is s r e;
-      sound-after = kept-sound s r e;
+      all-accepted = and-i (acceptsIn itself s r) true (accepts-i itself s r tt t) tt;
+      shows = append-nil (pairFor (r .thread) (replyIn itself s r)) ∙ ap (pairFor (r .thread)) (own-reply s r t);
+      ends = own-step s r t;
+      sound-after = kept-sound s r t;
     }
 
-accepts-append : (s : Table) (rs qs : List Request) → T (acceptsOn s rs) → T (acceptsOn (afterOn s rs) qs) → T (acceptsOn s (rs ++ qs))
-unfolding acceptsOn afterOn
+accepts-append : (s : Table) (rs qs : List Request) → T (acceptsAllIn itself s rs) → T (acceptsAllIn itself (afterIn itself s rs) qs) → T (acceptsAllIn itself s (rs ++ qs))
+unfolding acceptsAllIn afterIn
 accepts-append s [] qs a b = b
 accepts-append s (r ∷ rs) qs a b =
-    let here = eqb (refusalOn s r) 0 in
-    and-i here (acceptsOn (stepOn s r) (rs ++ qs)) (and-l here (acceptsOn (stepOn s r) rs) a)
-    (accepts-append (stepOn s r) rs qs (and-r here (acceptsOn (stepOn s r) rs) a) b)
+    let here = acceptsIn itself s r in
+    let next = stepIn itself s r in
+    and-i here (acceptsAllIn itself next (rs ++ qs)) (and-l here (acceptsAllIn itself next rs) a)
+    (accepts-append next rs qs (and-r here (acceptsAllIn itself next rs) a) b)
 
-shows-append : (s : Table) (rs qs : List Request) → showsOn s (rs ++ qs) ≡ showsOn s rs ++ showsOn (afterOn s rs) qs
-unfolding showsOn afterOn
+shows-append : (s : Table) (rs qs : List Request) → historyIn itself s (rs ++ qs) ≡ historyIn itself s rs ++ historyIn itself (afterIn itself s rs) qs
+unfolding historyIn afterIn
 shows-append s [] qs = refl
 shows-append s (r ∷ rs) qs =
-    ap (λ (l : List Pair). pairFor (r .thread) (replyOn s r) ++ l) (shows-append (stepOn s r) rs qs)
-    ∙ sym (append-assoc (pairFor (r .thread) (replyOn s r)) (showsOn (stepOn s r) rs) (showsOn (afterOn (stepOn s r) rs) qs))
+    let here = pairFor (r .thread) (replyIn itself s r) in
+    let next = stepIn itself s r in
+    ap (λ (l : List Pair). here ++ l) (shows-append next rs qs)
+    ∙ sym (append-assoc here (historyIn itself next rs) (historyIn itself (afterIn itself next rs) qs))
 
-after-append : (s : Table) (rs qs : List Request) → afterOn s (rs ++ qs) ≡ afterOn (afterOn s rs) qs
-unfolding afterOn
+after-append : (s : Table) (rs qs : List Request) → afterIn itself s (rs ++ qs) ≡ afterIn itself (afterIn itself s rs) qs
+unfolding afterIn
 after-append s [] qs = refl
-after-append s (r ∷ rs) qs = after-append (stepOn s r) rs qs
+after-append s (r ∷ rs) qs = after-append (stepIn itself s r) rs qs
 
 -- one list of requests behind another
 pub both : {s t u : Table} {rs qs : List Request} {h k : List Pair} → Leads s rs h t → Leads t qs k u → Leads s (rs ++ qs) (h ++ k) u
 both {s} {t} {u} {rs} {qs} {h} {k} a b =
     record {
-      accepted = accepts-append s rs qs (a .accepted) (subst (λ (x : Table). T (acceptsOn x qs)) (sym (a .ends)) (b .accepted));
+      all-accepted = accepts-append s rs qs (a .all-accepted) (subst (λ (x : Table). T (acceptsAllIn itself x qs)) (sym (a .ends)) (b .all-accepted));
       shows = shows-append s rs qs
-          ∙ (ap (λ (l : List Pair). l ++ showsOn (afterOn s rs) qs) (a .shows)
-          ∙ ap (λ (l : List Pair). h ++ l) (ap (λ (x : Table). showsOn x qs) (a .ends) ∙ b .shows));
-      ends = after-append s rs qs ∙ (ap (λ (x : Table). afterOn x qs) (a .ends) ∙ b .ends);
+          ∙ (ap (λ (l : List Pair). l ++ historyIn itself (afterIn itself s rs) qs) (a .shows)
+          ∙ ap (λ (l : List Pair). h ++ l) (ap (λ (x : Table). historyIn itself x qs) (a .ends) ∙ b .shows));
+      ends = after-append s rs qs ∙ (ap (λ (x : Table). afterIn itself x qs) (a .ends) ∙ b .ends);
       sound-after = b .sound-after;
     }
 
 -- ---- 16 bits
 
-below-16 : (n k : ℕ) → n ≤ mostThreads → k < n → k < 2 ^ 16
-below-16 n k m l = lt-trans-le k n (omega arith) l
-  where
-    lt-trans-le : (k n : ℕ) → n ≤ 2 ^ 16 → k < n → k < 2 ^ 16
-    lt-trans-le k n a b = omega arith
-
-target-16 : (n m t : ℕ) → n ≤ mostThreads → T (targetFits n m t) → t < 2 ^ 16
-target-16 n m t most f = choose (eqb m setMove || eqb m clearMove) f
+target-16 : (n mv t : ℕ) → n ≤ mostThreads → T (targetFits n mv t) → t < 2 ^ 16
+target-16 n mv t most f = choose (namesThread mv) f
   where
     choose : (b : Bool) → T (cond b (ltb t n) (eqb t 0)) → t < 2 ^ 16
-    choose true u = below-16 n t most (ltb→lt t n u)
-    choose false u = let e : t ≡ 0 = eqb→eq t 0 u in omega arith
+    choose true u = let l = ltb→lt t n u in omega arith
+    choose false u = let e = eqb→eq t 0 u in omega arith
 
--- every accepted request has three 16-bit numbers
-pub accepted-fits : (s : Table) (r : Request) → s .threads ≤ mostThreads → Accepted s r → Fits16 r
-accepted-fits s r most a =
+accepted-16 : (s : Table) (r : Request) → s .threads ≤ mostThreads → Accepted s r → Fits16 r
+accepted-16 s r most a =
     record {
-      thread = below-16 (s .threads) (r .thread) most (a .thread-fits);
-      move = let l = a .move-fits in omega arith;
-      target = target-16 (s .threads) (r .move) (r .target) most (a .target-fits);
+      thread = let l = a .thread-fits in omega arith;
+      mv = let l = a .move-fits in omega arith;
+      target = target-16 (s .threads) (r .mv) (r .target) most (a .target-fits);
     }
 
-pub all-fit : (s : Table) (rs : List Request) → s .threads ≤ mostThreads → T (acceptsOn s rs) → AllFit16 rs
-unfolding acceptsOn
-all-fit s [] most a = tt
-all-fit s (r ∷ rs) most a =
-    let e = eqb→eq (refusalOn s r) 0 (and-l (eqb (refusalOn s r) 0) (acceptsOn (stepOn s r) rs) a) in (
-      accepted-fits s r most (accepted-e s r e),
-      all-fit (stepOn s r) rs (subst (λ (n : ℕ). n ≤ mostThreads) (sym (ap (λ (t : Table). t .threads) (step-is s r e) ∙ applied-keeps s (effect s r .writes))) most) (and-r (eqb (refusalOn s r) 0) (acceptsOn (stepOn s r) rs) a),
+-- every accepted request has three 16-bit numbers
+pub all-16 : (s : Table) (rs : List Request) → s .threads ≤ mostThreads → T (acceptsAllIn itself s rs) → AllFit16 rs
+unfolding acceptsAllIn
+all-16 s [] most a = tt
+all-16 s (r ∷ rs) most a =
+    let t = accepts-e itself s r (and-l (acceptsIn itself s r) (acceptsAllIn itself (stepIn itself s r) rs) a) .1 in
+    let n : stepIn itself s r .threads ≡ s .threads = ap (λ (x : Table). x .threads) (own-step s r t) ∙ applied-keeps s (effect s r .writes) in (
+      accepted-16 s r most (accepted-e s r t),
+      all-16 (stepIn itself s r) rs (subst (λ (m : ℕ). m ≤ mostThreads) (sym n) most) (and-r (acceptsIn itself s r) (acceptsAllIn itself (stepIn itself s r) rs) a),
     )

@@ -1,9 +1,10 @@
--- A column is a number for every thread; `update` changes one entry. How `update` goes with a function of the entries, with itself, and with the tests of all threads. Assumes nothing.
+-- A column is a number for every thread; `update` changes one entry. How `update` goes with a function of the entries, with itself, and with the tests of all threads.
 use Prim.Native.Nat.{ℕ}
-use mathlib.Core.Path.{_≡_, refl, sym, ap, _∙_, fun-ext}
 use mathlib.Core.Logic.{_⊎_, inl, inr}
+use mathlib.Core.Path.{_≡_, refl, sym, ap, _∙_, fun-ext}
+use Rattle.definitions.specs.Table.{update}
 use Rattle.theory.proofs.Tests.{same?}
-use Rattle.theory.proofs.Views.{update, update-same, update-other}
+use Rattle.theory.proofs.Writes.{update-same, update-other}
 
 -- a function of each entry
 abbrev pub along {ℓ} : {A : Type ℓ} → (ℕ → A) → (ℕ → ℕ) → ℕ → A

@@ -1,27 +1,29 @@
 -- The plan for the events 6 and 7: the writer sets every flag from 0 upward, and clears every flag from 0 upward, by induction over the flags done so far. For every N.
--- Assumes nothing.
 use Prim.Native.Nat.{ℕ, zero, suc, _≤_, _<_}
 use native.Mathlib.Omega.{arith}
-use mathlib.Core.Path.{_≡_, refl, sym, subst, ap, _∙_, fun-ext}
-use mathlib.Core.Logic.{_⊎_, inl, inr}
 use mathlib.Core.Bool.{Bool, true, false, cond, not, _&&_, _||_}
 use mathlib.Core.List.{[], _∷_}
+use mathlib.Core.Logic.{_⊎_, inl, inr}
+use mathlib.Core.Path.{_≡_, refl, sym, subst, ap, _∙_, fun-ext}
 use lib.Dec.{T, ltb, eqb, leb·suc-zero, ltb→lt, lt→ltb, eqb→eq}
 use Rattle.definitions.specs.Bounds.{noTarget}
-use Rattle.definitions.specs.Threads.{every, among, gather, between}
-use Rattle.definitions.specs.Table.{Table, mutex≔, target≔, phase≔, forbidden≔}
-use Rattle.definitions.specs.Sound.{sound}
-use Rattle.definitions.specs.Moves.{quietly, showing, go, setMove, clearMove, allForbidden, goEffect, setEffect, clearEffect, effect, phasesOf, hasMove}
+use Rattle.definitions.specs.Codes.{go, setMove, clearMove}
+use Rattle.definitions.specs.Moves.{ask, quietly, showing, allForbidden, goEffect, setEffect, clearEffect, effect}
+use Rattle.definitions.specs.Phases.{rows, holds, hasMove}
 use Rattle.definitions.specs.PlainLock.{Places, advanced, anyInShared, anyInExclusive}
 use Rattle.definitions.specs.Plan.{planOf}
-use Rattle.theory.proofs.Tests.{T-true, T-false, false-T, or-e, or-l, or-r, eq-T, ne-T, not-i, cond-yes, cond-no, same?, same-test}
+use Rattle.definitions.specs.Sound.{sound}
+use Rattle.definitions.specs.Table.{Table, mutex≔, target≔, phase≔, forbidden≔, update, applied}
+use Rattle.definitions.specs.Threads.{every, among, gather}
+use Rattle.orders.specs.Rounds.{restPhase}
 use Rattle.theory.proofs.Quantifiers.{below-suc, every-at, every-i, some-i, none-at, none-i}
-use Rattle.theory.proofs.Views.{update, update-same, update-other, applied, same-table}
 use Rattle.theory.proofs.Soundness.{sound-e}
-use Rattle.orders.proofs.Columns.{along, kept, through, update-twice, same-column}
-use Rattle.orders.proofs.Pairs.{pairOf}
+use Rattle.theory.proofs.Tests.{T-true, T-false, false-T, or-e, or-l, or-r, same-test, not-i, cond-yes, cond-no, eq-T, ne-T, same?}
+use Rattle.theory.proofs.Writes.{update-same, update-other, same-table}
 use Rattle.orders.proofs.Chains.{Leads, stays, both}
-use Rattle.orders.proofs.Resting.{restPhase, restBusy, resting, asks, arrives, asked, goes, Planned}
+use Rattle.orders.proofs.Columns.{along, same-column, kept, through, update-twice}
+use Rattle.orders.proofs.PairTests.{pairOf}
+use Rattle.orders.proofs.RestTables.{restBusy, resting, arrives, makes, makes-go, PlanLeads}
 
 -- ---- tests
 
@@ -75,8 +77,8 @@ module _ (n : ℕ) (p : Places) (i : ℕ) (fits : i < n) where
   setting k =
       record { threads = n; mutex = 1; target = noTarget; phase = update (along restPhase p) i (cond (eqb k n) 13 10); busy = along restBusy p; forbidden = below k }
 
-  set-one : (k : ℕ) → k < n → restBusy (p k) ≡ 0 → T (sound (setting k)) → Leads (setting k) (asks i setMove k ∷ asks i go 0 ∷ []) [] (setting (suc k))
-  unfolding effect setEffect goEffect phasesOf among
+  set-one : (k : ℕ) → k < n → restBusy (p k) ≡ 0 → T (sound (setting k)) → Leads (setting k) (ask i setMove k ∷ ask i go 0 ∷ []) [] (setting (suc k))
+  unfolding effect setEffect goEffect rows among
   set-one k l idle g =
       let s = setting k in
       let f = along restPhase p in
@@ -84,15 +86,17 @@ module _ (n : ℕ) (p : Places) (i : ℕ) (fits : i < n) where
       let at : s .phase i ≡ 10 = update-same f i (cond (eqb k n) 13 10) i refl ∙ cond-no (eqb k n) 13 10 (ne-T k n (λ e. omega arith)) in
       let at-11 : t .phase i ≡ 11 = update-same (s .phase) i 11 i refl in
       let all : allForbidden t ≡ eqb (suc k) n = ap (λ (c : ℕ → ℕ). every n (λ j. eqb (c j) 1)) (below-set k) ∙ all-below n (suc k) l in
-      let a : Leads s (asks i setMove k ∷ []) [] t = asked s i g fits setMove k (quietly (phase≔ i 11 ∷ forbidden≔ k 1 ∷ target≔ k ∷ [])) (omega arith) (lt→ltb k n l) (subst (λ (x : ℕ). T (hasMove setMove x)) (sym at) tt) tt (rw at) in
-      let b = goes t i (a .sound-after) fits 11 (quietly (phase≔ i (cond (eqb (suc k) n) 13 10) ∷ target≔ noTarget ∷ [])) at-11 tt tt (rw (at-11, idle, all)) in
+      let a : Leads s (ask i setMove k ∷ []) [] t =
+      makes s i g fits setMove k (quietly (phase≔ i 11 ∷ forbidden≔ k 1 ∷ target≔ k ∷ [])) (omega arith) (lt→ltb k n l)
+      (subst (λ (x : ℕ). T (hasMove setMove x)) (sym at) tt) tt (rw at) in
+      let b = makes-go t i (a .sound-after) fits 11 (quietly (phase≔ i (cond (eqb (suc k) n) 13 10) ∷ target≔ noTarget ∷ [])) at-11 tt tt (rw (at-11, idle, all)) in
       arrives (both a b)
       (same-table _ (setting (suc k)) refl refl refl
       (update-twice (s .phase) i 11 (cond (eqb (suc k) n) 13 10) ∙ update-twice f i (cond (eqb k n) 13 10) (cond (eqb (suc k) n) 13 10))
       refl
       (below-set k))
 
-  set-below : (k : ℕ) → k ≤ n → ((j : ℕ) → j < n → restBusy (p j) ≡ 0) → T (sound (setting 0)) → Leads (setting 0) (gather k (λ t. asks i setMove t ∷ asks i go 0 ∷ [])) [] (setting k)
+  set-below : (k : ℕ) → k ≤ n → ((j : ℕ) → j < n → restBusy (p j) ≡ 0) → T (sound (setting 0)) → Leads (setting 0) (gather k (λ t. ask i setMove t ∷ ask i go 0 ∷ [])) [] (setting k)
   unfolding gather
   set-below zero l idle g = stays (setting 0) g
   set-below (suc k) l idle g =
@@ -100,8 +104,8 @@ module _ (n : ℕ) (p : Places) (i : ℕ) (fits : i < n) where
       both before (set-one k l (idle k l) (before .sound-after))
 
 -- "For 6: go, then for each t from 0 upward set t and go, then go."
-pub enters-exclusive : (n : ℕ) (p : Places) (i : ℕ) → T (sound (resting n p)) → i < n → p i ≡ 5 → anyInShared n p ≡ false → anyInExclusive n p ≡ false → Planned n p (pairOf i 6)
-unfolding planOf goEffect phasesOf among restPhase
+pub enters-exclusive : (n : ℕ) (p : Places) (i : ℕ) → T (sound (resting n p)) → i < n → p i ≡ 5 → anyInShared n p ≡ false → anyInExclusive n p ≡ false → PlanLeads n p (pairOf i 6)
+unfolding planOf goEffect rows among restPhase
 enters-exclusive n p i g fits at no-reader none =
     let x = pairOf i 6 in
     let f = along restPhase p in
@@ -109,14 +113,14 @@ enters-exclusive n p i g fits at no-reader none =
     let full = setting n p i fits n in
     let at-13 : full .phase i ≡ 13 = update-same f i (cond (eqb n n) 13 10) i refl ∙ cond-yes (eqb n n) 13 10 (eq-T n n refl) in
     let some-6 : anyInExclusive n (advanced p x) ≡ true = T-true _ (some-i (λ t. eqb (advanced p x t) 6) n i fits (eq-T (advanced p x i) 6 (update-same p i 6 i refl))) in
-    let a : Leads (resting n p) (asks i go 0 ∷ []) [] start = arrives
-    (goes (resting n p) i g fits 9 (quietly (phase≔ i 10 ∷ mutex≔ 1 ∷ [])) (ap restPhase at) tt (rw none tt) (rw at))
+    let a : Leads (resting n p) (ask i go 0 ∷ []) [] start = arrives
+    (makes-go (resting n p) i g fits 9 (quietly (phase≔ i 10 ∷ mutex≔ 1 ∷ [])) (ap restPhase at) tt (rw none tt) (rw at))
     (same-table _ start refl refl refl
     (ap (update f i) (sym (cond-no (eqb 0 n) 13 10 (ne-T 0 n (λ e. omega arith)))))
     refl
     (fun-ext (λ t. rw (none, leb·suc-zero t)))) in
     let b = set-below n p i fits n (omega arith) (λ j l. cond-no (eqb (p j) 2) 1 0 (none-at (λ t. eqb (p t) 2) n (false-T _ no-reader) j l)) (a .sound-after) in
-    let c = goes full i (b .sound-after) fits 13 (showing 6 (phase≔ i 14 ∷ [])) at-13 tt tt (rw at-13) in
+    let c = makes-go full i (b .sound-after) fits 13 (showing 6 (phase≔ i 14 ∷ [])) at-13 tt tt (rw at-13) in
     arrives (both a (both b c))
     (same-table _ (resting n (advanced p x)) refl
     (ap (λ (q : Bool). cond q 1 0) (sym some-6))
@@ -174,13 +178,14 @@ module _ (n : ℕ) (p : Places) (i : ℕ) (fits : i < n) where
   abbrev clearing : ℕ → Table
   clearing k = clearingIf (eqb k n) k
 
-  clear-one : (k : ℕ) → k < n → T (sound (clearing k)) → Leads (clearing k) (asks i clearMove k ∷ []) [] (clearing (suc k))
-  unfolding effect clearEffect phasesOf among
+  clear-one : (k : ℕ) → k < n → T (sound (clearing k)) → Leads (clearing k) (ask i clearMove k ∷ []) [] (clearing (suc k))
+  unfolding effect clearEffect rows among
   clear-one k l g =
       let s = clearing k in
       let at : s .phase i ≡ 15 = update-same (along restPhase p) i (cond (eqb k n) 16 15) i refl ∙ cond-no (eqb k n) 16 15 (ne-T k n (λ e. omega arith)) in
       arrives
-      (asked s i g fits clearMove k (quietly (forbidden≔ k 0 ∷ cond (eqb (suc k) n) (phase≔ i 16 ∷ []) [])) (omega arith) (lt→ltb k n l) (subst (λ (x : ℕ). T (hasMove clearMove x)) (sym at) tt) tt (rw (none-from n k l)))
+      (makes s i g fits clearMove k (quietly (forbidden≔ k 0 ∷ cond (eqb (suc k) n) (phase≔ i 16 ∷ []) [])) (omega arith) (lt→ltb k n l)
+      (subst (λ (x : ℕ). T (hasMove clearMove x)) (sym at) tt) tt (rw (none-from n k l)))
       (ends (eqb (suc k) n))
     where
       ends : (b : Bool) → applied (clearing k) (forbidden≔ k 0 ∷ cond b (phase≔ i 16 ∷ []) []) ≡ clearingIf b (suc k)
@@ -192,7 +197,7 @@ module _ (n : ℕ) (p : Places) (i : ℕ) (fits : i < n) where
           refl
           (from-clear n k)
 
-  clear-below : (k : ℕ) → k ≤ n → T (sound (clearing 0)) → Leads (clearing 0) (gather k (λ t. asks i clearMove t ∷ [])) [] (clearing k)
+  clear-below : (k : ℕ) → k ≤ n → T (sound (clearing 0)) → Leads (clearing 0) (gather k (λ t. ask i clearMove t ∷ [])) [] (clearing k)
   unfolding gather
   clear-below zero l g = stays (clearing 0) g
   clear-below (suc k) l g =
@@ -201,10 +206,10 @@ module _ (n : ℕ) (p : Places) (i : ℕ) (fits : i < n) where
 
 -- a sound resting table has at most one thread in exclusive
 only-writer : (n : ℕ) (p : Places) (i : ℕ) → T (sound (resting n p)) → i < n → p i ≡ 6 → anyInExclusive n (advanced p (pairOf i 7)) ≡ false
-unfolding restPhase
+unfolding restPhase rows
 only-writer n p i g fits at = T-false _ (none-i (λ t. eqb (advanced p (pairOf i 7) t) 6) n (λ t l. ne-T (advanced p (pairOf i 7) t) 6 (split t l (same? t i))))
   where
-    inside : (t : ℕ) → p t ≡ 6 → T (between 10 16 (restPhase (p t)))
+    inside : (t : ℕ) → p t ≡ 6 → T (holds (restPhase (p t)))
     inside t e = rw e tt
 
     split : (t : ℕ) → t < n → (t ≡ i) ⊎ (t ≡ i → ⊥) → advanced p (pairOf i 7) t ≡ 6 → ⊥
@@ -212,26 +217,26 @@ only-writer n p i g fits at = T-false _ (none-i (λ t. eqb (advanced p (pairOf i
     split t l (inr h) six = h (sound-e (resting n p) g .one-holder t l i fits (inside t (sym (update-other p i 7 t h) ∙ six)) (inside i at))
 
 -- "For 7: go, clear each t from 0 upward, go."
-pub leaves-exclusive : (n : ℕ) (p : Places) (i : ℕ) → T (sound (resting n p)) → i < n → p i ≡ 6 → Planned n p (pairOf i 7)
-unfolding planOf goEffect phasesOf among restPhase
+pub leaves-exclusive : (n : ℕ) (p : Places) (i : ℕ) → T (sound (resting n p)) → i < n → p i ≡ 6 → PlanLeads n p (pairOf i 7)
+unfolding planOf goEffect rows among restPhase
 leaves-exclusive n p i g fits at =
     let x = pairOf i 7 in
     let f = along restPhase p in
     let start = clearing n p i fits 0 in
     let clear = clearing n p i fits n in
     let at-16 : clear .phase i ≡ 16 = update-same f i (cond (eqb n n) 16 15) i refl ∙ cond-yes (eqb n n) 16 15 (eq-T n n refl) in
-    let held : anyInExclusive n p ≡ true = T-true _ (some-i (λ t. eqb (p t) 6) n i fits (eq-T (p i) 6 at)) in
+    let some-6 : anyInExclusive n p ≡ true = T-true _ (some-i (λ t. eqb (p t) 6) n i fits (eq-T (p i) 6 at)) in
     let none = only-writer n p i g fits at in
-    let a : Leads (resting n p) (asks i go 0 ∷ []) (x ∷ []) start = arrives
-    (goes (resting n p) i g fits 14 (showing 7 (phase≔ i 15 ∷ [])) (ap restPhase at) tt tt (rw at))
+    let a : Leads (resting n p) (ask i go 0 ∷ []) (x ∷ []) start = arrives
+    (makes-go (resting n p) i g fits 14 (showing 7 (phase≔ i 15 ∷ [])) (ap restPhase at) tt tt (rw at))
     (same-table _ start refl
-    (ap (λ (q : Bool). cond q 1 0) held)
+    (ap (λ (q : Bool). cond q 1 0) some-6)
     refl
     (ap (update f i) (sym (cond-no (eqb 0 n) 16 15 (ne-T 0 n (λ e. omega arith)))))
     refl
-    (fun-ext (λ t. rw (held, leb·suc-zero t)))) in
+    (fun-ext (λ t. rw (some-6, leb·suc-zero t)))) in
     let b = clear-below n p i fits n (omega arith) (a .sound-after) in
-    let c = goes clear i (b .sound-after) fits 16 (quietly (phase≔ i 17 ∷ mutex≔ 0 ∷ [])) at-16 tt tt (rw at-16) in
+    let c = makes-go clear i (b .sound-after) fits 16 (quietly (phase≔ i 17 ∷ mutex≔ 0 ∷ [])) at-16 tt tt (rw at-16) in
     arrives (both a (both b c))
     (same-table _ (resting n (advanced p x)) refl
     (ap (λ (q : Bool). cond q 1 0) (sym none))

@@ -1,11 +1,12 @@
 -- EveryOrder holds the theorem of demand 3; the files before it hold what its proofs use.
 pub mod Columns
-pub mod Pairs
+pub mod PairTests
 pub mod Chains
-pub mod Shown
-pub mod Resting
+pub mod Safety
+pub mod RestTables
 pub mod Flags
-pub mod Events
-pub mod Checked
+pub mod EventPlans
+pub mod CheckReply
 pub mod PlanEntry
+pub mod HistoryBytes
 pub mod EveryOrder

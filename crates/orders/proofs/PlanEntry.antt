@@ -1,57 +1,56 @@
 -- What the plan entry answers and leaves where the check passes and the output has room: the plan's length and bytes, which read as triples are the plan.
--- Assumes nothing.
-use Prim.Native.Nat.{ℕ, _*_}
-use native.Mathlib.Omega.{arith}
-use mathlib.Core.Path.{_≡_, refl, sym, ap, _∙_}
-use mathlib.Core.Bool.{Bool, true, false, cond}
-use mathlib.Core.List.{List, [], _∷_, _++_}
-use lib.Dec.{T}
+use Prim.Native.Nat.{ℕ, _*_, _≤_}
+use mathlib.Core.List.{List, [], _∷_}
+use mathlib.Core.Path.{_≡_, refl, sym, subst, ap, _∙_}
+use lib.Dec.{T, leb→le}
 use lib.ListN.{length, take, drop}
 use lib.Seq.{take-at}
-use Rattle.definitions.specs.Answers.{Reply, shown, quiet, done, refused}
-use Rattle.definitions.specs.Moves.{Request}
-use Rattle.definitions.specs.PlainLock.{checkReply}
-use Rattle.definitions.specs.Plan.{bytesOf, roomFor, planned, planAnswer, planReply, planOutput}
-use Rattle.theory.proofs.Tests.{cond-yes}
+use Rattle.definitions.specs.Answers.{accepted, passesAll, filled, roomTest, deliveryReply, deliveryOutput}
+use Rattle.definitions.specs.Chains.{requestsOf}
+use Rattle.definitions.specs.PlainLock.{pairsOf, checkTests}
+use Rattle.definitions.specs.Plan.{plan, bytesOf, planEntry}
+use Rattle.definitions.specs.declared.Request.{Request}
 use Rattle.theory.proofs.Lengths.{bytes-length}
-use Rattle.orders.specs.Triples.{requestsOf}
+use Rattle.theory.proofs.Outputs.{whole}
+use Rattle.theory.proofs.Replies.{peel}
+use Rattle.theory.proofs.TestLists.{accepted-e, passes-append}
+use Rattle.theory.proofs.Tests.{and-l, and-r}
 
-pub bytes-read : (rs : List Request) → requestsOf (bytesOf rs) ≡ rs
+bytes-read : (rs : List Request) → requestsOf (bytesOf rs) ≡ rs
 unfolding bytesOf requestsOf
 bytes-read [] = refl
 bytes-read (r ∷ rs) = ap (λ (l : List Request). r ∷ l) (bytes-read rs)
 
 module _ (n : ℕ) (bytes out : List ℕ) where
+  abbrev moves : List Request
+  moves = plan n (pairsOf bytes)
+
   -- the check passes and there is room
-  pub plan-done : (events : ℕ) → checkReply n bytes ≡ done events → T (roomFor (bytesOf (planned n bytes)) out) → planReply n bytes out ≡ done (length (planned n bytes))
-  unfolding planReply
-  plan-done events e room = rw e (cond-yes (roomFor (bytesOf (planned n bytes)) out) _ _ room)
+  module _ (tested : T (passesAll (checkTests n bytes))) (room : length (bytesOf (plan n (pairsOf bytes))) ≤ length out) where
+    pub plan-reply : deliveryReply (planEntry n bytes) out ≡ accepted (length (plan n (pairsOf bytes)))
+    plan-reply = sym (whole (planEntry n bytes) out tested room .reply)
 
-  pub plan-written : (moves : ℕ) → planReply n bytes out ≡ done moves → planOutput n bytes out ≡ bytesOf (planned n bytes) ++ drop (length (bytesOf (planned n bytes))) out
-  unfolding planOutput
-  plan-written moves e = rw e refl
+    pub plan-output : deliveryOutput (planEntry n bytes) out ≡ filled out (bytesOf (plan n (pairsOf bytes)))
+    plan-output = sym (whole (planEntry n bytes) out tested room .output)
 
-  -- an answer that is a number: the check passed, and the number is the plan's
-  pub plan-answers : (moves : ℕ) → planReply n bytes out ≡ done moves → (events : ℕ) × (checkReply n bytes ≡ done events) × (moves ≡ length (planned n bytes))
-  unfolding planReply
-  plan-answers moves e = by-check (checkReply n bytes) refl e
-    where
-      by-room : (b : Bool) (m : ℕ) → cond b (done m) (refused 12 0) ≡ done moves → moves ≡ m
-      by-room true m q = cc
-      by-room false m q = absurd (let z : _≡_ {A = ℕ} 0 1 = cc in omega arith)
-
-      by-check : (c : Reply) → checkReply n bytes ≡ c → planAnswer c (length (planned n bytes)) (roomFor (bytesOf (planned n bytes)) out) ≡ done moves
-          → (events : ℕ) × (checkReply n bytes ≡ done events) × (moves ≡ length (planned n bytes))
-      by-check (done events) is q = (events, is, by-room (roomFor (bytesOf (planned n bytes)) out) (length (planned n bytes)) q)
-      by-check (refused number place) is q = absurd (let z : _≡_ {A = ℕ} 0 1 = cc in omega arith)
-      by-check (shown event) is q = absurd (let z : _≡_ {A = ℕ} 0 1 = cc in omega arith)
-      by-check quiet is q = absurd (let z : _≡_ {A = ℕ} 0 1 = cc in omega arith)
+  -- an answer that is a number: both hold, and the number is the plan's
+  pub plan-accepted : (k : ℕ) → deliveryReply (planEntry n bytes) out ≡ accepted k
+      → T (passesAll (checkTests n bytes)) × (length (bytesOf (plan n (pairsOf bytes))) ≤ length out) × (length (plan n (pairsOf bytes)) ≡ k)
+  unfolding deliveryReply
+  plan-accepted k e =
+      let tests = checkTests n bytes in
+      let last = roomTest (bytesOf moves) out ∷ [] in
+      let r = accepted-e _ (length moves) k e in
+      let p = subst T (passes-append tests last) (r .0) in (
+        and-l (passesAll tests) (passesAll last) p,
+        leb→le (length (bytesOf moves)) (length out) (peel (roomTest (bytesOf moves) out) [] (and-r (passesAll tests) (passesAll last) p) .0),
+        r .1,
+      )
 
   -- the bytes at the front of the output, read as triples, are the plan
-  pub plan-read : (moves : ℕ) → planReply n bytes out ≡ done moves → requestsOf (take (3 * moves) (planOutput n bytes out)) ≡ planned n bytes
-  plan-read moves e =
-      let a = plan-answers moves e in
-      let size : length (bytesOf (planned n bytes)) ≡ 3 * moves = bytes-length (planned n bytes) ∙ ap (λ (k : ℕ). 3 * k) (sym (a .2)) in
-      ap requestsOf
-      (ap (take (3 * moves)) (plan-written moves e) ∙ take-at (bytesOf (planned n bytes)) _ (3 * moves) size)
-      ∙ bytes-read (planned n bytes)
+  pub plan-read : (k : ℕ) → deliveryReply (planEntry n bytes) out ≡ accepted k → requestsOf (take (3 * k) (deliveryOutput (planEntry n bytes) out)) ≡ plan n (pairsOf bytes)
+  plan-read k e =
+      let a = plan-accepted k e in
+      let size : length (bytesOf moves) ≡ 3 * k = bytes-length moves ∙ ap (λ (m : ℕ). 3 * m) (a .2) in
+      ap requestsOf (ap (take (3 * k)) (plan-output (a .0) (a .1)) ∙ take-at (bytesOf moves) (drop (length (bytesOf moves)) out) (3 * k) size)
+      ∙ bytes-read moves

@@ -1,1 +1,3 @@
-pub mod Triples
+-- What the theorems of demand 3 speak of besides the definitions of the scope paper.
+pub mod Rounds
+pub mod Histories

@@ -1,2 +1,2 @@
--- What the plan's writers promise: how many moves an event takes, and the requests that they repeat.
-pub mod Written
+-- What is counted of a plan.
+pub mod MoveCounts

@@ -1,7 +1,3 @@
 -- Laws that the proofs of the printing functions share.
-pub mod Putting
-pub mod Digits
-pub mod Names
-pub mod Lines
 pub mod Endings
-pub mod Whole
+pub mod Output

@@ -1,3 +1,2 @@
--- What the printing functions cite: a digit, and the output of a run.
-pub mod Digit
+-- What the promises of the printing functions cite besides the definitions of the scope paper.
 pub mod Output

@@ -1,13 +1,11 @@
 -- The output of a run: the lines of the history that it showed, then its last line.
--- Assumes nothing.
-use Prim.Native.Nat.{ℕ, _<_, _≤_}
+use Prim.Native.Nat.{ℕ, _≤_}
 use mathlib.Core.List.{List, _++_}
 use lib.ListN.{length}
-use Rattle.definitions.specs.Bounds.{enoughOutput}
 use Rattle.definitions.specs.Answers.{numberOf}
+use Rattle.definitions.specs.Bounds.{enoughOutput}
 use Rattle.definitions.specs.PlainLock.{pairsOf}
-use Rattle.definitions.specs.Script.{stepsLine, refusedLine}
-use Rattle.runs.specs.Requests.{eventLines}
+use Rattle.definitions.specs.Run.{eventLines, stepsLine, refusedLine}
 use Rattle.printing.specs.declared.Ending.{Ending}
 use Rattle.printing.specs.declared.Ending.the-variants.{Steps, Refused}
 
@@ -16,16 +14,10 @@ abbrev pub endingLine : Ending → List ℕ
 endingLine (Steps steps) = stepsLine steps
 endingLine (Refused refusal line) = refusedLine (numberOf refusal) line
 
--- its count of moves or of lines is below 100,000
-abbrev pub Few : Ending → Type 0
-Few (Steps steps) = steps < 100_000
-Few (Refused refusal line) = line < 100_000
-
 -- "prints `(event T (name))` for each event as it comes", then the last line
 abbrev pub outputOf : List ℕ → Ending → List ℕ
 outputOf history ending = eventLines (pairsOf history) ++ endingLine ending
 
 -- what the printing of an output asks: it isn't longer than the longest of a run
 pub record Measurable (history : List ℕ) (ending : Ending) : Type 0 where
-  pub few : Few ending
   pub short : length (outputOf history ending) ≤ enoughOutput

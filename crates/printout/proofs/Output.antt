@@ -1,25 +1,26 @@
 -- What the program prints: the run's output or the line for a script too long, 65,536 bytes suffice for it, and no byte of the input behind the first 30,001 has a say in it. For every input.
 use Prim.Native.Nat.{ℕ, _+_, _≤_, _<_}
 use native.Mathlib.Omega.{arith}
-use mathlib.Core.Path.{_≡_, refl, sym, ap, _∙_}
-use mathlib.Core.Logic.{_⊎_, inl, inr, ⊎-elim}
-use mathlib.Core.Bool.{Bool, true, false, cond}
-use mathlib.Core.List.{List}
+use mathlib.Core.List.{List, [], _∷_}
+use mathlib.Core.Logic.{⊎-elim}
+use mathlib.Core.Path.{_≡_, refl, sym, subst, ap, _∙_}
 use borrow.Author.Tests.{le-leb, lt-leb}
-use lib.Dec.{leb}
+use lib.Dec.{T, leb, le→leb}
 use lib.ListN.{length, take}
 use lib.Seq.{length-take-le, take-all}
+use Rattle.definitions.specs.Answers.{Reply, accepted, isAccepted, answerReply, test, filled, Delivery, deliveryReply, deliveryOutput, counted}
 use Rattle.definitions.specs.Bounds.{mostScript, enoughOutput}
-use Rattle.definitions.specs.Answers.{done, refused, numberOf, firstRefusal, unlessRefused, replyOfAnswer}
-use Rattle.definitions.specs.Script.{bytes, decimalWithin, refusedLine, runOutputOf, runRefusal, runReply, runOutput, programOutput}
-use Rattle.definitions.specs.declared.Refusal.{Refusal}
+use Rattle.definitions.specs.Run.{refusedLine, runOutputOf, runEntry, programOutput}
+use Rattle.definitions.specs.Texts.{bytes, decimalWithin}
 use Rattle.definitions.specs.declared.Answer.{Answer}
 use Rattle.definitions.specs.declared.Answer.the-variants.{Done, Refused}
-use Rattle.definitions.specs.Table.{filled}
-use Rattle.theory.specs.Put.{Delivered}
-use Rattle.theory.proofs.Tests.{below?}
-use Rattle.runs.proofs.Suffices.{suffices}
+use Rattle.definitions.specs.declared.Refusal.{Refusal}
+use Rattle.theory.specs.Outputs.{Delivered}
 use Rattle.printout.specs.Printed.{Printed}
+use Rattle.runs.proofs.Suffices.{suffices}
+use Rattle.theory.proofs.Outputs.{whole, with-tests}
+use Rattle.theory.proofs.Replies.{pass, no-test}
+use Rattle.theory.proofs.Tests.{below?}
 
 -- ---- which of the two it is
 
@@ -61,39 +62,35 @@ read-enough input = ⊎-elim long short (below? (length input) mostScript)
     short : length input ≤ mostScript → programOutput (take (mostScript + 1) input) ≡ programOutput input
     short l = ap programOutput (take-all (mostScript + 1) input (omega arith))
 
--- ---- what the run delivers
+-- ---- what is delivered
 
-pub run-delivers : (input out after : List ℕ) (r : Answer) → length input ≤ mostScript → replyOfAnswer r ≡ runReply input out → after ≡ runOutput input out
-    → Delivered (programOutput input) out after r
-unfolding runReply runOutput runRefusal firstRefusal
-run-delivers input out after r l e f =
-    let short = le-leb (length input) mostScript l in
-    rw (not-too-long input l) record { reply = reply (leb (length text) (length out)) (rw short at e); output = output (leb (length text) (length out)) (rw short at f) }
-  where
-    text : List ℕ
-    text = runOutputOf input
+-- the run's delivery is the program's
+module _ (input out : List ℕ) (l : length input ≤ mostScript) where
+  text : Delivery ℕ
+  text = counted [] (programOutput input)
 
-    reply : (b : Bool) → replyOfAnswer r ≡ unlessRefused (cond b 0 12) (done (length text)) (refused (cond b 0 12) 0) → replyOfAnswer r ≡ cond b (done (length text)) (refused 12 0)
-    reply true h = h
-    reply false h = h
+  same : Delivered (runEntry input) out (deliveryOutput text out) (deliveryReply text out)
+  unfolding text
+  same =
+      with-tests (test 8 (leb (length input) mostScript) ∷ []) (pass _ [] (le→leb (length input) mostScript l) no-test)
+      (rw (not-too-long input l) (record { reply = refl; output = refl }))
 
-    output : (b : Bool) → after ≡ unlessRefused (cond b 0 12) (filled out text) out → after ≡ cond b (filled out text) out
-    output true h = h
-    output false h = h
+  pub run-delivers : {after : List ℕ} {a : Reply ℕ} → Delivered (runEntry input) out after a → Delivered (counted [] (programOutput input)) out after a
+  unfolding text
+  run-delivers p = record { reply = p .reply ∙ sym (same .reply); output = p .output ∙ sym (same .output) }
 
 -- in a buffer that suffices it is written, and nothing else is answered
-module _ (input out after : List ℕ) (r : Answer) (room : enoughOutput ≤ length out) (d : Delivered (programOutput input) out after r) where
-  fits : leb (length (programOutput input)) (length out) ≡ true
-  fits = le-leb (length (programOutput input)) (length out) (omega (arith, output-fits input))
+module _ (input : List ℕ) {out after : List ℕ} (r : Answer) (room : enoughOutput ≤ length out) (d : Delivered (counted [] (programOutput input)) out after (answerReply r)) where
+  written : Delivered (counted [] (programOutput input)) out (filled out (programOutput input)) (accepted (length (programOutput input)))
+  written = whole (counted [] (programOutput input)) out no-test (omega (arith, output-fits input))
 
-  answered : replyOfAnswer r ≡ done (length (programOutput input))
-  answered = rw fits at (d .reply)
+  answered : answerReply r ≡ accepted (length (programOutput input))
+  answered = d .reply ∙ sym (written .reply)
 
   pub printed : (n : ℕ) → r ≡ Done n → Printed input out after n
-  printed n e = let counted : done n ≡ done (length (programOutput input)) = ap replyOfAnswer (sym e) ∙ answered in record { count = cc; output = rw fits at (d .output) }
+  printed n e =
+      let same : accepted n ≡ accepted (length (programOutput input)) = ap answerReply (sym e) ∙ answered in
+      record { count = cc; output = d .output ∙ sym (written .output) }
 
   pub never-refused : (x : Refusal) (place : ℕ) → r ≡ Refused x place → ⊥
-  never-refused x place e =
-      let clash : refused (numberOf x) place ≡ done (length (programOutput input)) = ap replyOfAnswer (sym e) ∙ answered in
-      let z : _≡_ {A = ℕ} 0 1 = cc in
-      omega arith
+  never-refused x place e = subst (λ (a : Reply ℕ). T (isAccepted a)) (sym answered ∙ ap answerReply e) tt

@@ -1,4 +1,4 @@
--- What reading the input answers: at most as many bytes as the buffer has room for. Assumes nothing.
+-- What reading the input answers: at most as many bytes as the buffer has room for.
 use Prim.Native.Nat.{ℕ, _≤_}
 use Rattle.program.specs.declared.Input.{Input}
 use Rattle.program.specs.declared.Input.the-variants.{Bytes, Failed}

@@ -1,18 +1,19 @@
 // Runs the script on standard input and prints its output: what the crate printout writes for what was read.
+use definitions::ENOUGH_OUTPUT;
+use definitions::MOST_SCRIPT;
 use libc::STDERR_FILENO;
 use libc::STDIN_FILENO;
 use libc::STDOUT_FILENO;
-use printout::ENOUGH_OUTPUT;
 use printout::print_input;
-ghost use mathlib.Core.Path.{_≡_};
 ghost use Prim.Native.Nat.{_<_};
+ghost use mathlib.Core.Path.{_≡_};
 ghost use lib.ListN.{length};
 ghost use Rattle.definitions.specs.Bounds.{mostScript};
-ghost use Rattle.definitions.specs.Script.{programOutput};
+ghost use Rattle.definitions.specs.Run.{programOutput};
 ghost use Rattle.program.specs.Input.{WithinRoom};
 
 // The longest script, and one byte more to see that a script is longer: no byte behind it has a say in the output.
-const MOST_INPUT: usize = 30_001;
+const MOST_INPUT: usize = MOST_SCRIPT + 1;
 
 // How many bytes were read, or that a read failed.
 enum Input {

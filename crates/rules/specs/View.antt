@@ -1,51 +1,60 @@
 -- What the rules of the moves see of a table, whatever stores it, and how a move's writes show in the bytes that they decide.
--- `viewOf` is what is loaded, `applied` what the writes of the definitions make of it, and `Follows` says that a decision is that of an effect.
--- Assumes nothing.
-use Prim.Native.Nat.{ℕ}
-use mathlib.Core.Path.{_≡_}
-use mathlib.Core.Bool.{Bool, cond, _||_}
+-- `viewOf` is what is loaded, `cellsAfter` what the writes of the definitions make of it, and `Follows` says that a decision is that of an effect.
+use Prim.Native.Nat.{ℕ, _+_, _-_}
+use mathlib.Core.Bool.{Bool, cond, _&&_, _||_}
 use mathlib.Core.List.{List, [], _∷_}
-use lib.Dec.{eqb}
+use mathlib.Core.Path.{_≡_}
+use lib.Dec.{T, eqb}
+use Rattle.definitions.specs.Answers.{outcomeReply, accepted}
 use Rattle.definitions.specs.Bounds.{noTarget}
-use Rattle.definitions.specs.Threads.{between}
-use Rattle.definitions.specs.Answers.{replyOf}
+use Rattle.definitions.specs.Moves.{Effect, namesThread, noneForbiddenBut, effect, accepts}
 use Rattle.definitions.specs.Table.{Table, Write, mutex≔, target≔, phase≔, busy≔, forbidden≔}
-use Rattle.definitions.specs.Nodes.{replyFor}
-use Rattle.definitions.specs.Moves.{Request, Effect, setMove, clearMove, allForbidden, noneForbiddenBut, effect}
+use Rattle.definitions.specs.Threads.{every, between}
 use Rattle.definitions.specs.declared.Event.{Event}
 use Rattle.definitions.specs.declared.Outcome.the-variants.{Quiet, Shown}
+use Rattle.definitions.specs.declared.Request.{Request}
 use Rattle.rules.specs.declared.Cells.{Cells}
-use Rattle.rules.specs.declared.View.{View}
 use Rattle.rules.specs.declared.Decided.{Decided}
+use Rattle.rules.specs.declared.Others.{Others}
+use Rattle.rules.specs.declared.View.{View}
 
--- the move names a thread of its own: "Set t", "Clear t"
-abbrev pub namesThread : ℕ → Bool
-namesThread move = eqb move setMove || eqb move clearMove
+-- ---- what is loaded
 
 -- the thread whose busy a move may read and whose forbidden it may write: that of the request for set and clear, the table's target in phases 11 and 12, else the mover
-unfoldable pub subjectOf : Table → Request → ℕ
-subjectOf s r =
-    cond (namesThread (r .move)) (r .target) (cond (between 11 12 (s .phase (r .thread))) (s .target) (r .thread))
+unfoldable pub subjectBy : Request → ℕ → ℕ → ℕ
+subjectBy r phase target = cond (namesThread (r .mv)) (r .target) (cond (between 11 12 phase) target (r .thread))
+
+abbrev pub subjectOf : Table → Request → ℕ
+subjectOf s r = subjectBy r (s .phase (r .thread)) (s .target)
 
 -- the bytes that a move of thread i with subject t may write
 abbrev pub cellsOf : Table → ℕ → ℕ → Cells
 cellsOf s i t =
     record { phase = s .phase i; busy = s .busy i; mutex = s .mutex; target = s .target; forbidden = s .forbidden t }
 
+-- every forbidden is 1 but for that of t
+abbrev pub allForbiddenBut : ℕ → Table → Bool
+allForbiddenBut t s = every (s .threads) (λ j. eqb j t || eqb (s .forbidden j) 1)
+
+-- whether the other forbidden are all 1, or all 0, where k of n are 1 and the subject's is given
+abbrev pub othersBy : ℕ → ℕ → ℕ → Others
+othersBy n k forbidden = record { set = eqb k (n - 1 + forbidden); clear = eqb k forbidden }
+
 -- with what it may only read
 abbrev pub viewAt : Table → ℕ → ℕ → View
 viewAt s i t =
     record {
       cells = cellsOf s i t;
-      own = s .forbidden i;
+      «own_forbidden» = s .forbidden i;
       subject = t;
-      occupied = s .busy t;
-      full = allForbidden s;
-      last = noneForbiddenBut t s;
+      «subject_busy» = s .busy t;
+      others = record { set = allForbiddenBut t s; clear = noneForbiddenBut t s };
     }
 
 abbrev pub viewOf : Table → Request → View
 viewOf s r = viewAt s (r .thread) (subjectOf s r)
+
+-- ---- what is written
 
 -- one of these bytes given a value
 abbrev pub withPhase : Cells → ℕ → Cells
@@ -64,17 +73,19 @@ abbrev pub withForbidden : Cells → ℕ → Cells
 withForbidden c v = record { phase = c .phase; busy = c .busy; mutex = c .mutex; target = c .target; forbidden = v }
 
 -- a write, as it shows in them
-abbrev pub appliedOne : Cells → Write → Cells
-appliedOne c (phase≔ i v) = withPhase c v
-appliedOne c (busy≔ i v) = withBusy c v
-appliedOne c (mutex≔ v) = withMutex c v
-appliedOne c (target≔ v) = withTarget c v
-appliedOne c (forbidden≔ i v) = withForbidden c v
+abbrev pub cellsWith : Cells → Write → Cells
+cellsWith c (phase≔ i v) = withPhase c v
+cellsWith c (busy≔ i v) = withBusy c v
+cellsWith c (mutex≔ v) = withMutex c v
+cellsWith c (target≔ v) = withTarget c v
+cellsWith c (forbidden≔ i v) = withForbidden c v
 
 -- a list of writes, one after the other
-abbrev pub applied : Cells → List Write → Cells
-applied c [] = c
-applied c (w ∷ ws) = applied (appliedOne c w) ws
+abbrev pub cellsAfter : Cells → List Write → Cells
+cellsAfter c [] = c
+cellsAfter c (w ∷ ws) = cellsAfter (cellsWith c w) ws
+
+-- ---- what is decided
 
 -- a decision, by its bytes and what it shows
 abbrev pub quietBy : Cells → Decided
@@ -86,15 +97,16 @@ shownBy c e = record { cells = c; outcome = Shown e }
 -- what go leaves in phase 11: "the target's busy is read; if 1, to 12; if 0, target := 255, and to 13 when every forbidden is 1, else to 10"
 abbrev pub probed : View → Cells
 probed v =
-    cond (eqb (v .occupied) 1)
+    cond (eqb (v .«subject_busy») 1)
     (withPhase (v .cells) 12)
-    (withTarget (withPhase (v .cells) (cond (v .full) 13 10)) noTarget)
+    (withTarget (withPhase (v .cells) (cond (v .others .set && eqb (v .cells .forbidden) 1) 13 10)) noTarget)
 
 -- the decision is what an effect of the definitions makes of the bytes seen, and shows
 pub record Follows (e : Effect) (c : Cells) (d : Decided) : Type 0 where
-  pub cells : d .cells ≡ applied c (e .writes)
-  pub shows : replyOf (d .outcome) ≡ replyFor (e .shows)
+  pub cells : d .cells ≡ cellsAfter c (e .writes)
+  pub shows : outcomeReply (d .outcome) ≡ accepted (e .shows)
 
--- it does so for every table and request that look like the view
+-- it does so for every table and accepted request that look like the view
 abbrev pub Decides : View → ℕ → Decided → Type 0
-Decides v move d = (s : Table) (r : Request) → r .move ≡ move → v ≡ viewOf s r → Follows (effect s r) (v .cells) d
+Decides v mv d =
+    (s : Table) (r : Request) → T (accepts s r) → r .mv ≡ mv → v ≡ viewOf s r → Follows (effect s r) (v .cells) d

@@ -1,35 +1,27 @@
-// The rules of the moves, by value and apart from any storage: which moves a phase has, and what a move writes and shows.
-mod request;
-
+// The rules of the moves, by value and apart from any storage: what a move that passed its tests writes and shows.
+use definitions::CALL_EXCLUSIVE;
+use definitions::CALL_SHARED;
+use definitions::CLEAR;
 use definitions::Event;
+use definitions::GO;
+use definitions::NO_TARGET;
 use definitions::Outcome;
-pub use request::MOVE_CALL_EXCLUSIVE;
-pub use request::MOVE_CALL_SHARED;
-pub use request::MOVE_CLEAR;
-pub use request::MOVE_GO;
-pub use request::MOVE_RELENT;
-pub use request::MOVE_SET;
-pub use request::Tested;
-pub use request::is_among;
-pub use request::moves_in;
-pub use request::must_wait;
-pub use request::names_thread;
-pub use request::targets_of;
-pub use request::test;
-ghost use mathlib.Core.Path.{_≡_};
-ghost use Rattle.definitions.specs.Bounds.{noTarget};
-ghost use Rattle.definitions.specs.Moves.{go, setMove, clearMove};
+use definitions::RELENT;
+use definitions::Request;
+use definitions::SET;
+ghost use Prim.Native.Nat.{_≤_};
 ghost use mathlib.Core.Bool.{cond};
+ghost use mathlib.Core.Path.{_≡_};
 ghost use lib.Dec.{eqb};
-ghost use Rattle.rules.specs.View.{Decides, withPhase, withBusy, withMutex, withTarget, withForbidden, quietBy, shownBy, probed};
+ghost use Rattle.definitions.specs.Bounds.{mostThreads, lastMove, noTarget};
+ghost use Rattle.definitions.specs.Codes.{go, setMove, clearMove};
+ghost use Rattle.rules.specs.View.{subjectBy, othersBy, Decides, withPhase, withBusy, withMutex, withTarget, withForbidden, quietBy, shownBy, probed};
 
 // The phases of Table 1 of source document 000, by number:
-//  0 Free; 1 to 4 the reader raises busy, looks at its forbidden, and lowers busy where it is 1; 5 LOE; 6 Shared; 7, 8 it lowers busy and leaves;
+//  0 Free; 1 to 4 the reader raises busy, looks at its forbidden, and lowers busy where it is 1; 5 LOE; 6 Shared; 7, 8 it
+//  lowers busy and leaves;
 //  9 EE; 10 to 12 the writer holds the mutex and sets a forbidden, looks at that thread's busy, or takes the forbidden back;
 // 13 LOS; 14 Exclusive; 15 it clears every forbidden; 16, 17 it lets the mutex go and leaves.
-
-// The target byte where there is none.
-pub const NO_TARGET: u8 = 255;
 
 // The bytes that a move may write: the mover's phase and busy, the mutex, the target, and the subject's forbidden.
 pub struct Cells {
@@ -40,15 +32,50 @@ pub struct Cells {
     pub forbidden: u8,
 }
 
-// What a move may read: these bytes; the mover's own forbidden; the subject's number and busy;
-// whether every forbidden is 1; whether every forbidden is 0 but for the subject's.
+// The thread whose busy a move may read and whose forbidden it may write, from the mover's phase and the table's target.
+pub fn subject_of(request: Request, phase: u8, target: u8) -> usize
+    requires { ⌜ request .mv ≤ lastMove ⌝ }
+    ensures { λ r. ⌜ r ≡ subjectBy request phase target ⌝ }
+{
+    let mv = request.mv as u8;
+    if requests::names_thread(mv) {
+        return request.target as usize;
+    }
+    if (11 <= phase) & (phase <= 12) {
+        return target as usize;
+    }
+    request.thread as usize
+}
+
+// Whether every forbidden but the subject's is 1, and whether every one but the subject's is 0.
+pub struct Others {
+    pub set: bool,
+    pub clear: bool,
+}
+
+// The same from how many forbidden are 1, and the subject's.
+pub fn others_of(threads: usize, count: usize, forbidden: u8) -> Others
+    requires { ⌜ (1 ≤ threads) × (threads ≤ mostThreads) ⌝ }
+    ensures { λ r. ⌜ r ≡ othersBy threads count forbidden ⌝ }
+{
+    let one = forbidden as usize;
+    let rest = threads - 1;
+    let all = rest + one;
+    Others {
+        set: count == all,
+        clear: count == one,
+    }
+}
+
+// What a move may read.
 pub struct View {
     pub cells: Cells,
-    pub own: u8,
+    // The mover's own forbidden.
+    pub own_forbidden: u8,
+    // The subject, and its busy.
     pub subject: u8,
-    pub occupied: u8,
-    pub full: bool,
-    pub last: bool,
+    pub subject_busy: u8,
+    pub others: Others,
 }
 
 // What a move leaves in the bytes that it may write, and its answer.
@@ -80,7 +107,7 @@ fn show(mut cells: Cells, phase: u8, event: Event) -> Decided
 }
 
 // To a phase, with a value for busy.
-fn mark(mut cells: Cells, phase: u8, busy: u8) -> Decided
+fn set_busy(mut cells: Cells, phase: u8, busy: u8) -> Decided
     ensures { λ r. ⌜ r ≡ quietBy (withBusy (withPhase cells phase) busy) ⌝ }
 {
     cells.busy = busy;
@@ -88,7 +115,7 @@ fn mark(mut cells: Cells, phase: u8, busy: u8) -> Decided
 }
 
 // To a phase, with a value for the mutex.
-fn hold(mut cells: Cells, phase: u8, mutex: u8) -> Decided
+fn set_mutex(mut cells: Cells, phase: u8, mutex: u8) -> Decided
     ensures { λ r. ⌜ r ≡ quietBy (withMutex (withPhase cells phase) mutex) ⌝ }
 {
     cells.mutex = mutex;
@@ -96,7 +123,7 @@ fn hold(mut cells: Cells, phase: u8, mutex: u8) -> Decided
 }
 
 // To phase 10 or 13, with no target any more.
-fn release(mut cells: Cells, phase: u8) -> Decided
+fn drop_target(mut cells: Cells, phase: u8) -> Decided
     ensures { λ r. ⌜ r ≡ quietBy (withTarget (withPhase cells phase) noTarget) ⌝ }
 {
     cells.target = NO_TARGET;
@@ -105,10 +132,10 @@ fn release(mut cells: Cells, phase: u8) -> Decided
 
 // Phase 2: the reader has raised busy and looks at its forbidden.
 fn look(v: View) -> Decided
-    ensures { λ r. ⌜ r ≡ quietBy (withPhase (v .cells) (cond (eqb (v .own) 0) 5 3)) ⌝ }
+    ensures { λ r. ⌜ r ≡ quietBy (withPhase (v .cells) (cond (eqb (v .«own_forbidden») 0) 5 3)) ⌝ }
 {
     let cells = v.cells;
-    if v.own == 0 {
+    if v.own_forbidden == 0 {
         return step(cells, 5);
     }
     step(cells, 3)
@@ -119,13 +146,15 @@ fn probe(v: View) -> Decided
     ensures { λ r. ⌜ r ≡ quietBy (probed v) ⌝ }
 {
     let cells = v.cells;
-    if v.occupied == 1 {
+    if v.subject_busy == 1 {
         return step(cells, 12);
     }
-    if v.full {
-        return release(cells, 13);
+    let others = v.others;
+    let all = others.set & (cells.forbidden == 1);
+    if all {
+        return drop_target(cells, 13);
     }
-    release(cells, 10)
+    drop_target(cells, 10)
 }
 
 // Phase 12: the writer takes the subject's forbidden back.
@@ -134,7 +163,7 @@ fn take_back(v: View) -> Decided
 {
     let mut cells = v.cells;
     cells.forbidden = 0;
-    release(cells, 10)
+    drop_target(cells, 10)
 }
 
 fn go(v: View) -> Decided
@@ -143,26 +172,26 @@ fn go(v: View) -> Decided
     let cells = v.cells;
     let phase = cells.phase;
     match phase {
-        1 => mark(cells, 2, 1),
+        1 => set_busy(cells, 2, 1),
         2 => look(v),
-        3 => mark(cells, 4, 0),
+        3 => set_busy(cells, 4, 0),
         4 => step(cells, 1),
         5 => show(cells, 6, Event::EnterSharedReturn),
         6 => show(cells, 7, Event::LeaveSharedCall),
-        7 => mark(cells, 8, 0),
+        7 => set_busy(cells, 8, 0),
         8 => show(cells, 0, Event::LeaveSharedReturn),
-        9 => hold(cells, 10, 1),
+        9 => set_mutex(cells, 10, 1),
         11 => probe(v),
         12 => take_back(v),
         13 => show(cells, 14, Event::EnterExclusiveReturn),
         14 => show(cells, 15, Event::LeaveExclusiveCall),
-        16 => hold(cells, 17, 0),
+        16 => set_mutex(cells, 17, 0),
         17 => show(cells, 0, Event::LeaveExclusiveReturn),
         _ => step(cells, phase),
     }
 }
 
-fn set(v: View) -> Decided
+fn set_flag(v: View) -> Decided
     ensures { λ r. ⌜ Decides v setMove r ⌝ }
 {
     let mut cells = v.cells;
@@ -175,31 +204,32 @@ fn set(v: View) -> Decided
     step(cells, phase)
 }
 
-fn clear(v: View) -> Decided
+fn clear_flag(v: View) -> Decided
     ensures { λ r. ⌜ Decides v clearMove r ⌝ }
 {
     let mut cells = v.cells;
     let phase = cells.phase;
     cells.forbidden = 0;
-    if v.last {
+    let others = v.others;
+    if others.clear {
         return step(cells, 16);
     }
     step(cells, phase)
 }
 
 // What a move writes and shows. Callers ask for a move that has passed its tests.
-pub fn decide(v: View, mv: usize) -> Decided
+pub fn decide(v: View, mv: u8) -> Decided
     ensures { λ r. ⌜ Decides v mv r ⌝ }
 {
     let cells = v.cells;
     let phase = cells.phase;
     match mv {
-        MOVE_GO => go(v),
-        MOVE_CALL_SHARED => show(cells, 1, Event::EnterSharedCall),
-        MOVE_CALL_EXCLUSIVE => show(cells, 9, Event::EnterExclusiveCall),
-        MOVE_SET => set(v),
-        MOVE_CLEAR => clear(v),
-        MOVE_RELENT => step(cells, 12),
+        GO => go(v),
+        CALL_SHARED => show(cells, 1, Event::EnterSharedCall),
+        CALL_EXCLUSIVE => show(cells, 9, Event::EnterExclusiveCall),
+        SET => set_flag(v),
+        CLEAR => clear_flag(v),
+        RELENT => step(cells, 12),
         _ => step(cells, phase),
     }
 }

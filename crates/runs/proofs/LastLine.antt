@@ -1,15 +1,16 @@
 -- The last line of an output can be told from its bytes: one that ends in a steps line has one count, and does not end in a refused line.
--- Read from the back: the bracket, the number's digits, a space, and a letter or a digit. Assumes nothing.
+-- Read from the back: the bracket, the number's digits, a space, and a letter or a digit.
 use Prim.Native.Nat.{ℕ, _+_, _/_, _%_, _≤_, _<_}
 use native.Mathlib.Omega.{arith}
-use mathlib.Core.Path.{_≡_, refl, sym, subst, ap, _∙_}
 use mathlib.Core.List.{List, [], _∷_, _++_, append-assoc, reverse, reverse-append, reverse-reverse, append-cancel-left}
+use mathlib.Core.Path.{_≡_, refl, sym, subst, ap, _∙_}
 use lib.Dec.{T, leb, leb→le, le→leb}
 use lib.ListN.{length, getD, drop, length-reverse}
-use Rattle.definitions.specs.Script.{bytes, isDigit, digitsOf, valueFrom, decimal, stepsLine, refusedLine}
-use Rattle.theory.proofs.Tests.{and-i, and-r, cond-yes}
-use Rattle.theory.proofs.Numbers.{decimal-small, decimal-more, by-tens, decimal-some}
+use Rattle.definitions.specs.Run.{stepsLine, refusedLine}
+use Rattle.definitions.specs.Texts.{bytes, isDigit, digitsOf, valueFrom, decimal}
 use Rattle.theory.proofs.Digits.{value-printed}
+use Rattle.theory.proofs.Numbers.{decimal-small, decimal-more, by-tens, decimal-some}
+use Rattle.theory.proofs.Tests.{and-i, and-r, cond-yes}
 
 -- ---- numbers
 

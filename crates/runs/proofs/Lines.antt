@@ -1,15 +1,18 @@
 -- Lines: their bytes add up to the script's, a line that states a request has the bytes of its form, and what a line does to the run.
--- Assumes nothing.
 use Prim.Native.Nat.{ℕ, suc, _+_, _-_, _≤_}
 use native.Mathlib.Omega.{arith}
-use mathlib.Core.Path.{_≡_, refl, ap, _∙_}
 use mathlib.Core.Bool.{Bool, true, false, cond, _&&_, _||_}
 use mathlib.Core.List.{List, [], _∷_}
+use mathlib.Core.Path.{_≡_, refl, ap, _∙_}
 use lib.Dec.{T, eqb}
 use lib.ListN.{length, getD, take, drop, length-drop}
-use Rattle.definitions.specs.Answers.{Test, firstRefusal}
-use Rattle.definitions.specs.Moves.{Request, go, callShared, callExclusive, setMove, clearMove, relent, moveRefusal, accepts}
-use Rattle.definitions.specs.Script.{bytes, same, starts, lineFeed, Line, inFront, linesOf, decimal, NumberRead, numberRead, Form, threads, request, note, bad, noteFits, noteForm, threadsForm, targetForm, actForm, moveForm, formOf, lineForm, Turn, stops, passes, makes, turnOf}
+use Rattle.definitions.specs.Answers.{Reply, accepted, refused, Seen, Test, answered}
+use Rattle.definitions.specs.Codes.{go, callShared, callExclusive, setMove, clearMove, relent}
+use Rattle.definitions.specs.Forms.{Form, threads, request, note, bad, noteFits, noteForm, threadsForm, targetForm, actForm, moveForm, formOf, lineForm}
+use Rattle.definitions.specs.Moves.{ask, replyIn, moveReply}
+use Rattle.definitions.specs.Run.{Turn, stops, passes, makes, turnFor, turnOf}
+use Rattle.definitions.specs.Texts.{bytes, same, starts, lineFeed, Line, inFront, linesOf, decimal, NumberRead, numberRead}
+use Rattle.definitions.specs.declared.Request.{Request}
 use Rattle.theory.proofs.Tests.{T-true, cond-either}
 use Rattle.theory.proofs.Texts.{same-eq, starts-length}
 use Rattle.runs.proofs.Numbers.{printed-digits, digits-split}
@@ -57,22 +60,22 @@ starts-split : (p xs : List ℕ) → T (starts p xs) → length xs ≡ length p 
 starts-split p xs t = omega (arith, length-drop (length p) xs, starts-length p xs (T-true (starts p xs) t))
 
 abbrev pub isCall : ℕ → Bool
-isCall move = eqb move callShared || eqb move callExclusive
+isCall mv = eqb mv callShared || eqb mv callExclusive
 
--- a line of so many bytes has room for a request: `(T (go))` is the shortest, and a call takes nine bytes more
-pub record Written (size thread move : ℕ) : Type 0 where
+-- a line of so many bytes has room for a request of a thread: `(T (go))` is the shortest, and a call takes nine bytes more
+pub record LineFits (size thread mv : ℕ) : Type 0 where
   pub plain : length (decimal thread) + 8 ≤ size
-  pub call : T (isCall move) → length (decimal thread) + 17 ≤ size
+  pub call : T (isCall mv) → length (decimal thread) + 17 ≤ size
 
 abbrev pub Long : ℕ → Form → Type 0
 Long size (threads n) = Unit {0}
-Long size (request thread move target) = Written size thread move
+Long size (request r) = LineFits size (r .thread) (r .mv)
 Long size note = Unit {0}
 Long size bad = Unit {0}
 
-target-long : (size thread move : ℕ) (r : NumberRead) → Written size thread move → Long size (targetForm thread move r)
-target-long size thread move r w =
-    cond-either (Long size) (r .fits && same (r .rest) (bytes "))")) (request thread move (r .value)) bad (λ t. w) (λ t. tt)
+target-long : (size thread mv : ℕ) (r : NumberRead) → LineFits size thread mv → Long size (targetForm thread mv r)
+target-long size thread mv r w =
+    cond-either (Long size) (r .fits && same (r .rest) (bytes "))")) (request (ask thread mv (r .value))) bad (λ t. w) (λ t. tt)
 
 -- behind T: " (go))" has 6 bytes, " (call shared))" 15
 act-long : (size thread : ℕ) (xs : List ℕ) → length (decimal thread) + length xs + 2 ≤ size → Long size (actForm thread xs)
@@ -82,15 +85,17 @@ act-long size thread xs fits =
     (λ t1. cond-either (Long size) (same xs (bytes " (call shared))")) _ _ (λ t. long callShared (omega (arith, same-length xs (bytes " (call shared))") t)))
     (λ t2. cond-either (Long size) (same xs (bytes " (call exclusive))")) _ _ (λ t. long callExclusive (omega (arith, same-length xs (bytes " (call exclusive))") t)))
     (λ t3. cond-either (Long size) (same xs (bytes " (relent))")) _ _ (λ t. short relent (λ u. u) (omega (arith, same-length xs (bytes " (relent))") t)))
-    (λ t4. cond-either (Long size) (starts (bytes " (set ") xs) _ _ (λ t. target-long size thread setMove (numberRead (drop 6 xs)) (short setMove (λ u. u) (omega (arith, starts-split (bytes " (set ") xs t))))
-    (λ t5. cond-either (Long size) (starts (bytes " (clear ") xs) _ _ (λ t. target-long size thread clearMove (numberRead (drop 8 xs)) (short clearMove (λ u. u) (omega (arith, starts-split (bytes " (clear ") xs t))))
+    (λ t4. cond-either (Long size) (starts (bytes " (set ") xs) _ _
+    (λ t. target-long size thread setMove (numberRead (drop 6 xs)) (short setMove (λ u. u) (omega (arith, starts-split (bytes " (set ") xs t))))
+    (λ t5. cond-either (Long size) (starts (bytes " (clear ") xs) _ _
+    (λ t. target-long size thread clearMove (numberRead (drop 8 xs)) (short clearMove (λ u. u) (omega (arith, starts-split (bytes " (clear ") xs t))))
     (λ t6. tt))))))
   where
-    short : (move : ℕ) → (T (isCall move) → ⊥) → 6 ≤ length xs → Written size thread move
-    short move other l = record { plain = omega arith; call = λ e. absurd (other e) }
+    short : (mv : ℕ) → (T (isCall mv) → ⊥) → 6 ≤ length xs → LineFits size thread mv
+    short mv other l = record { plain = omega arith; call = λ e. absurd (other e) }
 
-    long : (move : ℕ) → 15 ≤ length xs → Written size thread move
-    long move l = record { plain = omega arith; call = λ e. omega arith }
+    long : (mv : ℕ) → 15 ≤ length xs → LineFits size thread mv
+    long mv l = record { plain = omega arith; call = λ e. omega arith }
 
 -- behind the first bracket
 move-long : (size : ℕ) (xs : List ℕ) → length xs + 2 ≤ size → Long size (moveForm (numberRead xs))
@@ -131,26 +136,33 @@ abbrev Small : List Test → Type 0
 Small [] = Unit {0}
 Small (t ∷ ts) = (t .number ≤ 9) × Small ts
 
-first-small : (ts : List Test) → Small ts → firstRefusal ts ≤ 9
-unfolding firstRefusal
-first-small [] h = omega arith
-first-small (t ∷ ts) h = cond-either (λ (k : ℕ). k ≤ 9) (t .passed) (firstRefusal ts) (t .number) (λ u. first-small ts (h .1)) (λ u. h .0)
+refused-small : {A : Type 0} (ts : List Test) (a : A) (number place : ℕ) → Small ts → answered ts a ≡ refused number place → number ≤ 9
+unfolding answered
+refused-small [] a number place h e = absurd (let z : _≡_ {A = ℕ} 0 1 = cc in omega arith)
+refused-small (t ∷ ts) a number place h e = by (t .passed) e (λ d. refused-small ts a number place (h .1) d)
+  where
+    by : (b : Bool) → cond b (answered ts a) (refused (t .number) (t .place)) ≡ refused number place → (answered ts a ≡ refused number place → number ≤ 9) → number ≤ 9
+    by true d rec = rec d
+    by false d rec = let same : t .number ≡ number = cc in let low = h .0 in omega arith
 
-refusal-small : (table : List ℕ) (r : Request) → moveRefusal table r ≤ 9
-unfolding moveRefusal
-refusal-small table r = first-small _ (omega arith, (omega arith, (omega arith, (omega arith, (omega arith, (omega arith, (omega arith, tt)))))))
+move-small : (table : List ℕ) (r : Request) (number place : ℕ) → moveReply table r ≡ refused number place → number ≤ 9
+unfolding replyIn
+move-small table r number place e =
+    refused-small _ _ number place (omega arith, (omega arith, (omega arith, (omega arith, (omega arith, (omega arith, (omega arith, tt))))))) e
 
--- a line that stops the run has a refusal of one digit, one that makes a move has the bytes of an accepted request
+-- a line that stops the run has a refusal of one digit, one that makes a move is an accepted request and has the bytes of its form
 abbrev pub Does : List ℕ → ℕ → Turn → Type 0
 Does table size (stops number) = number ≤ 9
 Does table size passes = Unit {0}
-Does table size (makes r) = T (accepts table r) × Written size (r .thread) (r .move)
+Does table size (makes r seen) = (moveReply table r ≡ accepted seen) × LineFits size (r .thread) (r .mv)
 
 form-does : (table : List ℕ) (size : ℕ) (f : Form) → Long size f → Does table size (turnOf table f)
 form-does table size (threads n) w = omega arith
-form-does table size (request thread move target) w =
-    let r : Request = record { thread = thread; move = move; target = target } in
-    cond-either (Does table size) (accepts table r) (makes r) (stops (moveRefusal table r)) (λ t. (t, w)) (λ t. refusal-small table r)
+form-does table size (request r) w = by (moveReply table r) refl
+  where
+    by : (x : Reply Seen) → moveReply table r ≡ x → Does table size (turnFor r x)
+    by (accepted seen) e = (e, w)
+    by (refused number place) e = move-small table r number place e
 form-does table size note w = tt
 form-does table size bad w = omega arith
 

@@ -1,17 +1,16 @@
 -- Numbers as they are read and printed: digits that stand for a value are at least as many as the value takes when it is printed.
--- Assumes nothing.
 use Prim.Native.Nat.{ℕ, _+_, _≤_}
 use native.Mathlib.Omega.{arith}
-use mathlib.Core.Path.{_≡_}
 use mathlib.Core.Bool.{not, _||_}
 use mathlib.Core.List.{List}
+use mathlib.Core.Path.{_≡_}
 use lib.Dec.{T, leb, eqb, leb→le}
 use lib.ListN.{length, getD, drop, length-drop}
+use Rattle.definitions.specs.Texts.{digitsOf, numberFits, valueFrom, decimal}
 use Rattle.definitions.specs.Threads.{between}
-use Rattle.definitions.specs.Script.{digitsOf, numberFits, valueFrom, decimal}
-use Rattle.theory.proofs.Tests.{and-l}
-use Rattle.theory.proofs.Numbers.{decimal-short}
 use Rattle.theory.proofs.Digits.{digits-within, take-digits, value-below}
+use Rattle.theory.proofs.Numbers.{decimal-short}
+use Rattle.theory.proofs.Tests.{and-l}
 
 -- digits read are at least as many as the value's printed ones
 pub printed-digits : (xs : List ℕ) → T (numberFits (digitsOf xs)) → length (decimal (valueFrom 0 (digitsOf xs))) ≤ length (digitsOf xs)

@@ -1,26 +1,34 @@
 -- The amortised cost of a move: the bytes that it prints and the potential after it are at most twice the bytes of its line and the potential before it.
--- The potential of a table is the sum of its threads' credits, and a thread's credit goes by its phase. Assumes nothing.
+-- The potential of a table is the sum of its threads' credits, and a thread's credit goes by its phase.
 use Prim.Native.Nat.{ℕ, zero, suc, _+_, _*_, _≤_, _<_}
-use native.Mathlib.Omega.{arith}
 use native.Mathlib.Nat.{not-suc-le-zero}
-use mathlib.Core.Path.{_≡_, refl, sym, subst, ap, _∙_}
+use native.Mathlib.Omega.{arith}
+use mathlib.Core.List.{List}
 use mathlib.Core.Logic.{⊎-elim}
-use mathlib.Core.List.{List, [], _∷_}
+use mathlib.Core.Path.{_≡_, refl, sym, subst, ap, _∙_}
 use lib.Dec.{T}
-use lib.ListN.{length, getD, length-append}
+use lib.ListN.{length, length-append}
+use Rattle.definitions.specs.Answers.{Reply, accepted, isAccepted, Seen, shown}
 use Rattle.definitions.specs.Bounds.{lastMove}
-use Rattle.definitions.specs.Answers.{Reply, shown}
-use Rattle.definitions.specs.Threads.{among}
-use Rattle.definitions.specs.Table.{Table, tableOf, fresh}
-use Rattle.definitions.specs.Nodes.{replyFor}
-use Rattle.definitions.specs.Moves.{Request, Effect, effect, phasesOf, hasMove, accepts, moveReply, moveTable}
-use Rattle.definitions.specs.Script.{bytes, decimal, eventName, eventLine}
-use Rattle.theory.proofs.Quantifiers.{below-suc}
-use Rattle.theory.proofs.Views.{update, update-same, update-other, applied, fresh-table}
-use Rattle.theory.proofs.Ways.{accepted-e, Way, way, call-shared, call-exclusive, raise-busy, find-open, find-forbidden, back-off, try-again, enter-shared, leave-shared, lower-busy, return-shared, take-mutex, find-busy, last-flag, next-flag, give-up, enter-exclusive, leave-exclusive, release-mutex, return-exclusive, set-flag, set-again, clear-last, clear-flag, relents}
-use Rattle.theory.proofs.Steps.{accepts-e, accepted-table, accepted-reply}
+use Rattle.definitions.specs.Moves.{Effect, effect, moveReply, moveTable}
+use Rattle.definitions.specs.Phases.{rows, hasMove}
+use Rattle.definitions.specs.Run.{eventName, eventLine}
+use Rattle.definitions.specs.Table.{Table, update, applied, tableOf, byteTable, fresh}
+use Rattle.definitions.specs.Texts.{bytes, decimal}
+use Rattle.definitions.specs.Threads.{every, among, implies}
+use Rattle.definitions.specs.declared.Request.{Request}
+use Rattle.runs.specs.Length.{credit}
+use Rattle.theory.proofs.Bytes.{byte-keeps, fresh-table}
 use Rattle.theory.proofs.Numbers.{decimal-some}
-use Rattle.runs.proofs.Lines.{isCall, Written}
+use Rattle.theory.proofs.Quantifiers.{below-suc, every-at}
+use Rattle.theory.proofs.Storages.{accepts-e, accepted-reply, accepted-table}
+use Rattle.theory.proofs.Tests.{implies-e}
+use Rattle.theory.proofs.Ways.{accepted-e, Way, way}
+use Rattle.theory.proofs.Ways.{call-shared, raise-busy, find-open, find-forbidden, back-off, try-again, enter-shared, leave-shared, lower-busy, return-shared}
+use Rattle.theory.proofs.Ways.{call-exclusive, take-mutex, set-flag, find-busy, last-flag, next-flag, relents, give-up, enter-exclusive, leave-exclusive}
+use Rattle.theory.proofs.Ways.{set-again, clear-flag, clear-last, release-mutex, return-exclusive}
+use Rattle.theory.proofs.Writes.{update-same, update-other}
+use Rattle.runs.proofs.Lines.{isCall, LineFits}
 
 -- ---- sums over the threads
 
@@ -45,10 +53,6 @@ sum-but (suc n) f g i l others =
     (below-suc i n l)
 
 -- ---- the potential
-
--- a thread's credit in each phase from 0 to 17
-unfoldable pub credit : ℕ → ℕ
-credit phase = getD (0 ∷ 0 ∷ 8 ∷ 0 ∷ 0 ∷ 26 ∷ 12 ∷ 0 ∷ 14 ∷ 0 ∷ 0 ∷ 14 ∷ 0 ∷ 32 ∷ 15 ∷ 0 ∷ 0 ∷ 17 ∷ []) phase 0
 
 abbrev pub potential : Table → ℕ
 potential s = sumOf (s .threads) (λ j. credit (s .phase j))
@@ -77,16 +81,11 @@ pub event-size : (thread event : ℕ) → length (eventLine thread (shown event)
 unfolding eventLine bytes
 event-size thread event = simp length-append (omega arith)
 
--- phase 0 has only the calls
-only-calls : (move : ℕ) → move ≤ lastMove → T (hasMove move 0) → T (isCall move)
-unfolding among phasesOf
-only-calls zero l t = t
-only-calls (suc zero) l t = tt
-only-calls (suc (suc zero)) l t = tt
-only-calls (suc (suc (suc zero))) l t = t
-only-calls (suc (suc (suc (suc zero)))) l t = t
-only-calls (suc (suc (suc (suc (suc zero))))) l t = t
-only-calls (suc (suc (suc (suc (suc (suc m)))))) l t = absurd (omega arith)
+-- phase 0 has only the calls, by trying the moves
+only-calls : (mv : ℕ) → mv ≤ lastMove → T (hasMove mv 0) → T (isCall mv)
+unfolding rows every among
+only-calls mv l =
+    implies-e (hasMove mv 0) (isCall mv) (every-at (λ m. implies (hasMove m 0) (isCall m)) (suc lastMove) tt mv (omega arith))
 
 module _ (s : Table) (i t size : ℕ) (fits : i < s .threads) (plain : length (decimal i) + 8 ≤ size) (call : s .phase i ≡ 0 → length (decimal i) + 17 ≤ size) where
   -- quiet
@@ -98,7 +97,7 @@ module _ (s : Table) (i t size : ℕ) (fits : i < s .threads) (plain : length (d
       → length (eventLine i (shown event)) + sumOf (s .threads) (λ j. credit (update (s .phase) i q j)) ≤ 2 * size + potential s
   event-cost event p q e enough = let z = event-size i event in let m = moved s i p q fits e in omega arith
 
-  way-cost : (e : Effect) → Way s i t e → length (eventLine i (replyFor (e .shows))) + potential (applied s (e .writes)) ≤ 2 * size + potential s
+  way-cost : (e : Effect) → Way s i t e → length (eventLine i (e .shows)) + potential (applied s (e .writes)) ≤ 2 * size + potential s
   unfolding credit eventName bytes eventLine
   way-cost e (call-shared p) = let long = call p in event-cost 1 0 1 p (omega arith)
   way-cost e (call-exclusive p) = let long = call p in event-cost 5 0 9 p (omega arith)
@@ -127,16 +126,19 @@ module _ (s : Table) (i t size : ℕ) (fits : i < s .threads) (plain : length (d
   way-cost e (relents p) = quiet-cost 11 12 p (omega arith)
 
 -- `size` is the length of the line that states the request, with its line feed
-pub move-cost : (table : List ℕ) (r : Request) (size : ℕ) → T (accepts table r) → Written size (r .thread) (r .move)
-    → length (eventLine (r .thread) (moveReply table r)) + potential (tableOf (moveTable table r)) ≤ 2 * size + potential (tableOf table)
-move-cost table r size t w =
+pub move-cost : (table : List ℕ) (r : Request) (seen : Seen) (size : ℕ) → moveReply table r ≡ accepted seen → LineFits size (r .thread) (r .mv)
+    → length (eventLine (r .thread) seen) + potential (tableOf (moveTable table r)) ≤ 2 * size + potential (tableOf table)
+move-cost table r seen size e w =
     let s = tableOf table in
-    let a = accepted-e s r (accepts-e table r t .1) in
+    let t = subst (λ (x : Reply Seen). T (isAccepted x)) (sym e) tt in
+    let a = accepted-e s r (accepts-e byteTable table r t .1) in
     let cost =
     way-cost s (r .thread) (r .target) size (a .thread-fits) (w .plain)
-    (λ e. w .call (only-calls (r .move) (a .move-fits) (subst (λ (p : ℕ). T (hasMove (r .move) p)) e (a .has-move))))
+    (λ p. w .call (only-calls (r .mv) (a .move-fits) (subst (λ (k : ℕ). T (hasMove (r .mv) k)) p (a .has-move))))
     (effect s r) (way s r a)
     in
-    let prints = ap (λ (reply : Reply). length (eventLine (r .thread) reply)) (accepted-reply table r t) in
-    let leaves = ap potential (accepted-table table r t) in
+    let reply = accepted-reply byteTable table r t in
+    let same : seen ≡ effect s r .shows = cc in
+    let prints = ap (λ (x : Seen). length (eventLine (r .thread) x)) same in
+    let leaves = ap potential (accepted-table byteTable byte-keeps table r t) in
     omega arith

@@ -1,33 +1,35 @@
--- A run in the words of demand 3: its output is the history that its accepted requests show, a line an event, and then one last line. All those requests are accepted in turn from the fresh table; a steps line has their number, and they are then all that the script states.
--- So what is proved of lists of requests, as in crates/orders, holds of scripts. Assumes nothing.
+-- A run in the words of demand 3: its output is the history that its accepted requests show, a line an event, and then one last line.
+-- All those requests are accepted in turn from the fresh table; a steps line has their number, and they are then all that the script states.
+-- So what is proved of lists of requests, as in crates/orders, holds of scripts.
 use Prim.Native.Nat.{ℕ, suc, _+_, _<_}
-use native.Mathlib.Omega.{arith}
 use native.Mathlib.Nat.{zero-add}
-use mathlib.Core.Path.{_≡_, refl, sym, ap, _∙_}
-use mathlib.Core.Logic.{_⊎_, inl, inr, ⊎-elim}
+use native.Mathlib.Omega.{arith}
 use mathlib.Core.Bool.{Bool, true, false, cond}
 use mathlib.Core.List.{List, [], _∷_, _++_, append-assoc}
+use mathlib.Core.Logic.{_⊎_, inl, inr, ⊎-elim}
+use mathlib.Core.Path.{_≡_, refl, sym, subst, ap, _∙_}
 use lib.Dec.{T}
 use lib.ListN.{length, getD, take, drop}
-use Rattle.definitions.specs.Answers.{Reply, shown, quiet, done, refused}
-use Rattle.definitions.specs.Table.{countFits, fresh}
-use Rattle.definitions.specs.Moves.{Request, accepts, moveReply, moveTable}
+use Rattle.definitions.specs.Answers.{Reply, accepted, refused, isAccepted, Seen, shown, quiet}
+use Rattle.definitions.specs.Chains.{pairFor, historyIn, afterIn, acceptsAllIn, history, tableAfter, acceptsAll}
+use Rattle.definitions.specs.Forms.{Form, threads, request, note, bad, lineForm}
+use Rattle.definitions.specs.Moves.{acceptsIn, moveReply, moveTable}
 use Rattle.definitions.specs.PlainLock.{Pair}
-use Rattle.definitions.specs.Chains.{pairFor, history, tableAfter, acceptsAll}
-use Rattle.definitions.specs.Script.{Line, linesOf, Form, threads, request, note, bad, lineForm, Turn, stops, passes, makes, turnOf, eventLine, stepsLine, refusedLine, printed, printedFirst, runText, runOutputOf}
-use Rattle.theory.proofs.Tests.{true-T, and-i, cond-either}
-use Rattle.runs.specs.Requests.{eventLines, requestIn, requestsIn, movesFrom, movesFirst, movesOfLines, movesOf, threadsFirst, threadsOfLines, threadsOf, moveLines}
+use Rattle.definitions.specs.Run.{eventLine, eventLines, stepsLine, refusedLine, Turn, stops, passes, makes, turnFor, turnOf, printed, printedFirst, runText, runOutputOf}
+use Rattle.definitions.specs.Table.{countFits, byteTable, fresh}
+use Rattle.definitions.specs.Texts.{Line, linesOf}
+use Rattle.definitions.specs.declared.Request.{Request}
+use Rattle.runs.specs.Requests.{requestIn, requestsIn, movesFrom, movesFirst, movesOfLines, movesOf, threadsFirst, threadsOfLines, threadsOf, moveLines}
+use Rattle.theory.proofs.Tests.{true-T, and-i}
 use Rattle.runs.proofs.LastLine.{steps-once, steps-not-refused}
 
 -- ---- events
 
--- a reply's pair prints what the reply prints
-pair-line : (thread : ℕ) (reply : Reply) (rest : List Pair) → eventLines (pairFor thread reply ++ rest) ≡ eventLine thread reply ++ eventLines rest
+-- the pair of an accepted move prints what is seen of it
+pair-line : (thread : ℕ) (seen : Seen) (rest : List Pair) → eventLines (pairFor thread (accepted seen) ++ rest) ≡ eventLine thread seen ++ eventLines rest
 unfolding eventLines eventLine
 pair-line thread (shown event) rest = refl
 pair-line thread quiet rest = refl
-pair-line thread (done n) rest = refl
-pair-line thread (refused number place) rest = refl
 
 -- ---- one line
 
@@ -35,13 +37,15 @@ pair-line thread (refused number place) rest = refl
 abbrev Says : List ℕ → Form → Turn → Type 0
 Says table f (stops number) = Unit {0}
 Says table f passes = requestIn f ≡ []
-Says table f (makes r) = T (accepts table r) × (requestIn f ≡ r ∷ [])
+Says table f (makes r seen) = (moveReply table r ≡ accepted seen) × (requestIn f ≡ r ∷ [])
 
 form-says : (table : List ℕ) (f : Form) → Says table f (turnOf table f)
 form-says table (threads n) = tt
-form-says table (request thread move target) =
-    let r : Request = record { thread = thread; move = move; target = target } in
-    cond-either (Says table (request thread move target)) (accepts table r) (makes r) (stops _) (λ t. (t, refl)) (λ t. tt)
+form-says table (request r) = by (moveReply table r) refl
+  where
+    by : (x : Reply Seen) → moveReply table r ≡ x → Says table (request r) (turnFor r x)
+    by (accepted seen) e = (e, refl)
+    by (refused number place) e = tt
 form-says table note = refl
 form-says table bad = tt
 
@@ -75,7 +79,7 @@ pub record FromLine (table : List ℕ) (line steps : ℕ) (ls : List Line) (rs :
 -- at a line turned down
 stop-line : (table : List ℕ) (line steps : ℕ) (l : Line) (ls : List Line) (number : ℕ) → turnOf table (lineForm l) ≡ stops number
     → FromLine table line steps (l ∷ ls) [] (refusedLine number line)
-unfolding history eventLines acceptsAll requestsIn tableAfter
+unfolding historyIn eventLines acceptsAllIn requestsIn afterIn
 stop-line table line steps l ls number e =
     record {
       last = refusedLine number line;
@@ -105,22 +109,26 @@ note-line table line steps l ls rs output e t =
         }
 
 -- at a request that is accepted
-move-line : (table : List ℕ) (line steps : ℕ) (l : Line) (ls : List Line) (r : Request) (rs : List Request) (output : List ℕ) → T (accepts table r) → requestIn (lineForm l) ≡ r ∷ []
-    → FromLine (moveTable table r) (suc line) (suc steps) ls rs output → FromLine table line steps (l ∷ ls) (r ∷ rs) (eventLine (r .thread) (moveReply table r) ++ output)
-unfolding requestsIn history acceptsAll tableAfter
-move-line table line steps l ls r rs output a e t =
-    let here = eventLine (r .thread) (moveReply table r) in
+move-line : (table : List ℕ) (line steps : ℕ) (l : Line) (ls : List Line) (r : Request) (seen : Seen) (rs : List Request) (output : List ℕ)
+    → moveReply table r ≡ accepted seen → requestIn (lineForm l) ≡ r ∷ []
+    → FromLine (moveTable table r) (suc line) (suc steps) ls rs output → FromLine table line steps (l ∷ ls) (r ∷ rs) (eventLine (r .thread) seen ++ output)
+unfolding requestsIn historyIn acceptsAllIn afterIn
+move-line table line steps l ls r seen rs output a e t =
+    let here = eventLine (r .thread) seen in
     let rest = history (moveTable table r) rs in
+    let shows : eventLines (pairFor (r .thread) (moveReply table r) ++ rest) ≡ here ++ eventLines rest =
+    ap (λ (x : Reply Seen). eventLines (pairFor (r .thread) x ++ rest)) a ∙ pair-line (r .thread) seen rest in
     record {
       last = t .last;
       prints =
           ap (λ (xs : List ℕ). here ++ xs) (t .prints)
-          ∙ (sym (append-assoc here (eventLines rest) (t .last)) ∙ ap (λ (xs : List ℕ). xs ++ t .last) (sym (pair-line (r .thread) (moveReply table r) rest)));
-      accepted = and-i (accepts table r) (acceptsAll (moveTable table r) rs) a (t .accepted);
+          ∙ (sym (append-assoc here (eventLines rest) (t .last)) ∙ ap (λ (xs : List ℕ). xs ++ t .last) (sym shows));
+      accepted = and-i (acceptsIn byteTable table r) (acceptsAll (moveTable table r) rs) (subst (λ (x : Reply Seen). T (isAccepted x)) (sym a) tt) (t .accepted);
       ending = by (t .ending);
     }
   where
-    by : Finished (suc steps) ls rs (t .last) ⊎ TurnedDown (moveTable table r) (suc line) ls rs (t .last) → Finished steps (l ∷ ls) (r ∷ rs) (t .last) ⊎ TurnedDown table line (l ∷ ls) (r ∷ rs) (t .last)
+    by : Finished (suc steps) ls rs (t .last) ⊎ TurnedDown (moveTable table r) (suc line) ls rs (t .last)
+        → Finished steps (l ∷ ls) (r ∷ rs) (t .last) ⊎ TurnedDown table line (l ∷ ls) (r ∷ rs) (t .last)
     by (inl f) =
         inl
         record {
@@ -139,7 +147,7 @@ move-line table line steps l ls r rs output a e t =
         }
 
 from-line : (table : List ℕ) (line steps : ℕ) (ls : List Line) → FromLine table line steps ls (movesFrom table ls) (printed table line steps ls)
-unfolding printed movesFrom history eventLines acceptsAll requestsIn
+unfolding printed movesFrom historyIn eventLines acceptsAllIn requestsIn
 from-line table line steps [] =
     record {
       last = stepsLine steps;
@@ -157,17 +165,17 @@ from-line table line steps (l ∷ ls) =
         (elim u [
           | stops number ↦ []
           | passes ↦ movesFrom table ls
-          | makes r ↦ r ∷ movesFrom (moveTable table r) ls
+          | makes r seen ↦ r ∷ movesFrom (moveTable table r) ls
         ])
         (elim u [
           | stops number ↦ refusedLine number line
           | passes ↦ printed table (suc line) steps ls
-          | makes r ↦ eventLine (r .thread) (moveReply table r) ++ printed (moveTable table r) (suc line) (suc steps) ls
+          | makes r seen ↦ eventLine (r .thread) seen ++ printed (moveTable table r) (suc line) (suc steps) ls
         ])
     by (stops number) e s same next = stop-line table line steps l ls number e
     by passes e s same next = note-line table line steps l ls (movesFrom table ls) (printed table (suc line) steps ls) s same
-    by (makes r) e s same next =
-        move-line table line steps l ls r (movesFrom (moveTable table r) ls) (printed (moveTable table r) (suc line) (suc steps) ls) (s .0) (s .1) (next (moveTable table r))
+    by (makes r seen) e s same next =
+        move-line table line steps l ls r seen (movesFrom (moveTable table r) ls) (printed (moveTable table r) (suc line) (suc steps) ls) (s .0) (s .1) (next (moveTable table r))
 
 -- ---- the whole run
 
@@ -188,7 +196,7 @@ pub record WholeRun (n : ℕ) (ls : List Line) (rs : List Request) (output : Lis
   pub ending : Ending n ls rs last
 
 not-started : (n : ℕ) (ls : List Line) (number : ℕ) → (number ≡ 8) ⊎ (number ≡ 1) → WholeRun n ls [] (refusedLine number 1)
-unfolding history eventLines acceptsAll
+unfolding historyIn eventLines acceptsAllIn
 not-started n ls number which =
     record { last = refusedLine number 1; prints = refl; accepted = tt; ending = inr record { none = refl; says = by which } }
   where
@@ -205,7 +213,7 @@ first-run (threads n) ls = by (countFits n) refl
         let t = from-line (fresh n) 2 0 ls in
         record { last = t .last; prints = t .prints; accepted = t .accepted; ending = inl (true-T (countFits n) e, t .ending) }
     by false e = not-started n ls 1 (inr refl)
-first-run (request thread move target) ls = not-started 0 ls 8 (inl refl)
+first-run (request r) ls = not-started 0 ls 8 (inl refl)
 first-run note ls = not-started 0 ls 8 (inl refl)
 first-run bad ls = not-started 0 ls 8 (inl refl)
 

@@ -1,18 +1,23 @@
 -- "the run's output, for which 65,536 bytes always suffice": for every script that isn't too long, so a run that is lent as many is not refused.
--- Shown: the output is at most twice the script and the bytes of the last line. Assumes nothing.
+-- Shown: the output is at most twice the script and the bytes of the last line (`longestOutput`).
 use Prim.Native.Nat.{ℕ, suc, _+_, _*_, _≤_, _<_}
 use native.Mathlib.Omega.{arith}
-use mathlib.Core.Path.{_≡_}
 use mathlib.Core.List.{List, [], _∷_, _++_}
-use lib.Dec.{leb, le→leb}
+use lib.Dec.{le→leb}
 use lib.ListN.{length, length-append}
+use Rattle.definitions.specs.Answers.{accepted, filled}
 use Rattle.definitions.specs.Bounds.{mostScript, enoughOutput}
-use Rattle.definitions.specs.Answers.{done, firstRefusal}
-use Rattle.definitions.specs.Table.{tableOf, countFits, fresh, filled}
-use Rattle.definitions.specs.Moves.{moveReply, moveTable}
-use Rattle.definitions.specs.Script.{bytes, Line, linesOf, lineForm, Form, threads, request, note, bad, eventLine, stepsLine, refusedLine, Turn, stops, passes, makes, turnOf, printed, printedFirst, runText, runOutputOf, runRefusal, runReply, runOutput}
-use Rattle.theory.proofs.Tests.{T-true, cond-either}
+use Rattle.definitions.specs.Forms.{lineForm, Form, threads, request, note, bad}
+use Rattle.definitions.specs.Moves.{moveTable}
+use Rattle.definitions.specs.Run.{eventLine, stepsLine, refusedLine, Turn, stops, passes, makes, turnOf, printed, printedFirst, runText, runOutputOf, runEntry}
+use Rattle.definitions.specs.Table.{tableOf, countFits, fresh}
+use Rattle.definitions.specs.Texts.{bytes, Line, linesOf}
+use Rattle.theory.specs.Outputs.{Delivered}
+use Rattle.runs.specs.Length.{longestOutput}
 use Rattle.theory.proofs.Numbers.{tens, decimal-short}
+use Rattle.theory.proofs.Outputs.{whole}
+use Rattle.theory.proofs.Replies.{pass, no-test}
+use Rattle.theory.proofs.Tests.{cond-either}
 use Rattle.runs.proofs.Lines.{lineSize, sizeOf, lines-size, lines-count, Does, line-does}
 use Rattle.runs.proofs.Potential.{potential, fresh-potential, move-cost}
 
@@ -46,12 +51,12 @@ bound table line steps (l ∷ ls) below few =
         → length {A = ℕ} (elim u [
           | stops number ↦ refusedLine number line
           | passes ↦ printed table (suc line) steps ls
-          | makes r ↦ eventLine (r .thread) (moveReply table r) ++ printed (moveTable table r) (suc line) (suc steps) ls
+          | makes r seen ↦ eventLine (r .thread) seen ++ printed (moveTable table r) (suc line) (suc steps) ls
         ]) ≤ 2 * (lineSize l + sizeOf ls) + potential (tableOf table) + 18
     by (stops number) d same next = let last = refused-short number line d (omega arith) in omega arith
     by passes d same next = omega arith
-    by (makes r) d same next =
-        let here = move-cost table r (lineSize l) (d .0) (d .1) in
+    by (makes r seen) d same next =
+        let here = move-cost table r seen (lineSize l) (d .0) (d .1) in
         let rest = next (moveTable table r) in
         simp length-append (omega arith)
 
@@ -63,7 +68,7 @@ first-bound (threads n) ls few =
     cond-either (λ (xs : List ℕ). length xs ≤ 2 * sizeOf ls + 18) (countFits n) (printed (fresh n) 2 0 ls) (refusedLine 1 1)
     (λ t. let rest = bound (fresh n) 2 0 ls (omega arith) few in let none = fresh-potential n in omega arith)
     (λ t. let last = refused-short 1 1 (omega arith) (omega arith) in omega arith)
-first-bound (request thread move target) ls few = let last = refused-short 8 1 (omega arith) (omega arith) in omega arith
+first-bound (request r) ls few = let last = refused-short 8 1 (omega arith) (omega arith) in omega arith
 first-bound note ls few = let last = refused-short 8 1 (omega arith) (omega arith) in omega arith
 first-bound bad ls few = let last = refused-short 8 1 (omega arith) (omega arith) in omega arith
 
@@ -73,7 +78,7 @@ text-bound [] few = refused-short 8 1 (omega arith) (omega arith)
 text-bound (l ∷ ls) few = let rest = first-bound (lineForm l) ls (omega arith) in omega arith
 
 -- the output of a run is at most twice its script and one short line
-pub run-bound : (script : List ℕ) → length script ≤ mostScript → length (runOutputOf script) ≤ 2 * length script + 18
+pub run-bound : (script : List ℕ) → length script ≤ mostScript → length (runOutputOf script) ≤ longestOutput (length script)
 run-bound script fits =
     let count = lines-count script in
     let size = lines-size script in
@@ -84,20 +89,8 @@ run-bound script fits =
 pub suffices : (script : List ℕ) → length script ≤ mostScript → length (runOutputOf script) ≤ enoughOutput
 suffices script fits = let b = run-bound script fits in omega arith
 
--- with as many bytes lent, a script that isn't too long is not turned down
-module _ (script out : List ℕ) (fits : length script ≤ mostScript) (room : enoughOutput ≤ length out) where
-  not-turned-down : runRefusal script out ≡ 0
-  unfolding runRefusal firstRefusal
-  not-turned-down =
-      let long = T-true (leb (length script) mostScript) (le→leb (length script) mostScript fits) in
-      let needed = suffices script fits in
-      let short = T-true (leb (length (runOutputOf script)) (length out)) (le→leb (length (runOutputOf script)) (length out) (omega arith)) in
-      rw (long, short)
-
-  pub never-refused : runReply script out ≡ done (length (runOutputOf script))
-  unfolding runReply
-  never-refused = rw not-turned-down
-
-  pub always-filled : runOutput script out ≡ filled out (runOutputOf script)
-  unfolding runOutput
-  always-filled = rw not-turned-down
+-- with as many bytes lent, a script that isn't too long is not turned down, and its output is written whole
+pub never-refused : (script out : List ℕ) → length script ≤ mostScript → enoughOutput ≤ length out
+    → Delivered (runEntry script) out (filled out (runOutputOf script)) (accepted (length (runOutputOf script)))
+never-refused script out fits room =
+    whole (runEntry script) out (pass _ _ (le→leb (length script) mostScript fits) no-test) (let short = suffices script fits in omega arith)

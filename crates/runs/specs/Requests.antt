@@ -1,24 +1,19 @@
--- The requests of a script: those that its lines state, and those that the run makes of them; and the lines that a history prints.
--- Assumes nothing.
+-- The requests of a script: those that its lines state, and those that the run makes of them.
 use Prim.Native.Nat.{ℕ}
 use mathlib.Core.Bool.{cond}
 use mathlib.Core.List.{List, [], _∷_, _++_}
 use lib.ListN.{drop}
-use Rattle.definitions.specs.Answers.{shown}
+use Rattle.definitions.specs.Forms.{Form, threads, request, note, bad, lineForm}
+use Rattle.definitions.specs.Moves.{moveTable}
+use Rattle.definitions.specs.Run.{stops, passes, makes, turnOf}
 use Rattle.definitions.specs.Table.{countFits, fresh}
-use Rattle.definitions.specs.Moves.{Request, moveTable}
-use Rattle.definitions.specs.PlainLock.{Pair}
-use Rattle.definitions.specs.Script.{Line, linesOf, Form, threads, request, note, bad, lineForm, stops, passes, makes, turnOf, eventLine}
-
--- "prints `(event T (name))` for each event as it comes": the lines of a history
-unfoldable pub eventLines : List Pair → List ℕ
-eventLines [] = []
-eventLines (x ∷ xs) = eventLine (x .thread) (shown (x .event)) ++ eventLines xs
+use Rattle.definitions.specs.Texts.{Line, linesOf}
+use Rattle.definitions.specs.declared.Request.{Request}
 
 -- the request that a form states
 abbrev pub requestIn : Form → List Request
 requestIn (threads n) = []
-requestIn (request thread move target) = record { thread = thread; move = move; target = target } ∷ []
+requestIn (request r) = r ∷ []
 requestIn note = []
 requestIn bad = []
 
@@ -34,13 +29,13 @@ movesFrom table (l ∷ ls) =
     elim (turnOf table (lineForm l)) [
       | stops number ↦ []
       | passes ↦ movesFrom table ls
-      | makes r ↦ r ∷ movesFrom (moveTable table r) ls
+      | makes r seen ↦ r ∷ movesFrom (moveTable table r) ls
     ]
 
 -- the same of a run whose first line has this form; "The run starts fresh"
 abbrev pub movesFirst : Form → List Line → List Request
 movesFirst (threads n) ls = cond (countFits n) (movesFrom (fresh n) ls) []
-movesFirst (request thread move target) ls = []
+movesFirst (request r) ls = []
 movesFirst note ls = []
 movesFirst bad ls = []
 
@@ -55,7 +50,7 @@ movesOf script = movesOfLines (linesOf script)
 -- the N of a script, 0 where its first line gives none
 abbrev pub threadsFirst : Form → ℕ
 threadsFirst (threads n) = n
-threadsFirst (request thread move target) = 0
+threadsFirst (request r) = 0
 threadsFirst note = 0
 threadsFirst bad = 0
 

@@ -1,4 +1,2 @@
--- What the contracts of the run's inner functions cite, besides the definitions of the scope paper.
-pub mod Lines
-pub mod Steps
+-- What the promises of the run's inner functions cite besides the definitions of the scope paper.
 pub mod Records

@@ -1,5 +1,6 @@
--- Laws of tests and of words on threads, the rules by counts, then the theorem.
+-- Laws of tests, of words on threads and of matches; the sum of the holders' phases; the rules from a tally; then the theorem.
 pub mod Bools
 pub mod Threads
-pub mod Counted
+pub mod Holders
+pub mod Rules
 pub mod OnePass

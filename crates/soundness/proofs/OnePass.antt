@@ -1,111 +1,164 @@
 -- The one pass decides soundness: for every N and every table, the decision from what is found of the threads below N is `sound`.
--- The sum of the holders' phases tells how many threads hold, where they are none or one, and the holder's phase; so the decision from the sum is the one by counts.
--- Assumes nothing.
-use Prim.Native.Nat.{ℕ, zero, suc, _+_, _≤_}
-use native.Mathlib.Nat.{eq-or-lt-of-le}
+-- The sum of the holders' phases tells whether the decision is one by the rules for no holder or for the holder's phase, which are tried one by one, or a refusal since several threads hold the mutex.
+use Prim.Native.Nat.{ℕ, suc, _≤_, _<_}
 use native.Mathlib.Omega.{arith}
+use mathlib.Core.Bool.{Bool, true, false, cond, _&&_, _||_, and-assoc, and-true, and-false}
+use mathlib.Core.List.{List, [], _∷_}
 use mathlib.Core.Path.{_≡_, refl, sym, subst, ap, _∙_}
-use mathlib.Core.Logic.{⊎-elim}
-use mathlib.Core.Bool.{Bool, true, false, cond, _&&_, and-assoc, and-true, and-false}
-use lib.Dec.{leb, ltb, eqb, leb→le}
-use borrow.Author.Tests.{lt-leb, ne-eqb}
-use Rattle.definitions.specs.Bounds.{noTarget}
-use Rattle.definitions.specs.Threads.{howMany, between}
+use borrow.Author.Tests.{le-leb, lt-leb, ne-eqb}
+use lib.Dec.{T, leb, ltb, eqb}
+use Rattle.definitions.specs.Bounds.{lastPhase, noTarget}
+use Rattle.definitions.specs.Phases.{rows, holds, reading}
+use Rattle.definitions.specs.Sound.{phaseRule, flagRule, busyRule, holderRule, targetRule, openRule, rule10, rule11, rule13, rule15, mutexRule, sound}
 use Rattle.definitions.specs.Table.{Table}
-use Rattle.definitions.specs.Sound.{holds, sound}
-use Rattle.soundness.specs.declared.Tally.{Tally}
+use Rattle.definitions.specs.Threads.{every, howMany, among, between, allOf, implies}
+use Rattle.soundness.specs.Pass.{tallyBelow, fitBelow, foundOf, mutexAgrees, aimFits, restFits, soundBy, aimOf, passes}
+use Rattle.soundness.specs.declared.Aim.{Aim}
 use Rattle.soundness.specs.declared.Found.the-variants.{Good, Bad}
-use Rattle.soundness.specs.Pass.{holding, total, tallyBelow, fitBelow, foundOf, mutexFits, targetFits, restFits, decidedOf, passes}
-use Rattle.soundness.proofs.Counted.{countsOf, holderBelow, rulesFit, counted}
-use Rattle.theory.proofs.Tests.{and-l, and-r, true-T}
+use Rattle.soundness.specs.declared.Tally.{Tally}
+use Rattle.theory.proofs.Cases.{or-at, none-of}
+use Rattle.theory.proofs.Quantifiers.{every-at}
+use Rattle.theory.proofs.Tests.{and-l, and-r, implies-e}
+use Rattle.soundness.proofs.Bools.{and-cong}
+use Rattle.soundness.proofs.Holders.{holder-phase, Holders, none, one, many, holders}
+use Rattle.soundness.proofs.Rules.{each-fits, flags-of, mutex-is, target-is, open-is, is-10, is-11, is-13, is-15}
 
--- how many threads hold, the last holder's phase, and the sum of the holders' phases
-data Held (count last sum : ℕ) : Type 0 where
-  none : count ≡ 0 → last ≡ 0 → sum ≡ 0 → Held count last sum
-  one : count ≡ 1 → sum ≡ last → 10 ≤ last → last ≤ 16 → Held count last sum
-  many : 2 ≤ count → 20 ≤ sum → Held count last sum
+-- ---- the decision, by the sum of the holders' phases
 
-low : (p : ℕ) → holds p ≡ true → 10 ≤ p
-low p e = leb→le 10 p (and-l (leb 10 p) (leb p 16) (true-T _ e))
+-- the holder's phases
+abbrev holderPhases : List ℕ
+holderPhases = 10 ∷ 11 ∷ 12 ∷ 13 ∷ 14 ∷ 15 ∷ 16 ∷ []
 
-high : (p : ℕ) → holds p ≡ true → p ≤ 16
-high p e = leb→le p 16 (and-r (leb 10 p) (leb p 16) (true-T _ e))
+is-holder : (p : ℕ) → T (holds p) → T (among p holderPhases)
+unfolding rows every among
+is-holder p t =
+    let l = holder-phase p t in
+    implies-e (holds p) (among p holderPhases) (every-at (λ q. implies (holds q) (among q holderPhases)) (suc lastPhase) tt p (omega arith)) t
 
-held-step : (x : Bool) (p k h s : ℕ) → holds p ≡ x → Held k h s → Held (k + cond x 1 0) (cond x p h) (s + cond x p 0)
-held-step true p k h s e (none a b c) = one (omega arith) (omega arith) (low p e) (high p e)
-held-step true p k h s e (one a b c d) = many (omega arith) (omega (arith, low p e))
-held-step true p k h s e (many a b) = many (omega arith) (omega arith)
-held-step false p k h s e (none a b c) = none (omega arith) b (omega arith)
-held-step false p k h s e (one a b c d) = one (omega arith) (omega arith) c d
-held-step false p k h s e (many a b) = many (omega arith) (omega arith)
+-- what holds of each number of a list holds of one that is among them
+abbrev Each : (ℕ → Type 0) → List ℕ → Type 0
+Each P [] = Unit {0}
+Each P (k ∷ ks) = P k × Each P ks
 
-held : (n : ℕ) (phase : ℕ → ℕ) → Held (howMany n (λ i. holds (phase i))) (holderBelow n phase) (total n (λ i. holding (phase i)))
-unfolding howMany holderBelow total
-held zero phase = none refl refl refl
-held (suc n) phase = held-step (holds (phase n)) (phase n) _ _ _ refl (held n phase)
+each-at : (P : ℕ → Type 0) (x : ℕ) (ks : List ℕ) → Each P ks → T (among x ks) → P x
+each-at P x [] h = none-of x
+each-at P x (k ∷ ks) h = or-at x k ks (λ e. subst P (sym e) (h .0)) (each-at P x ks (h .1))
 
--- a number from 10 to 16
-split : (P : ℕ → Type 0) (a h : ℕ) → a ≤ h → P a → (suc a ≤ h → P h) → P h
-split P a h l p rest = ⊎-elim (λ e. subst P e p) rest (eq-or-lt-of-le l)
+module _ (s : Table) where
+  -- what is found of all threads, but for the sum
+  abbrev tally : ℕ → Tally
+  tally h = record { holder = h; forbidden = tallyBelow s (s .threads) .forbidden; readers = tallyBelow s (s .threads) .readers }
 
--- the decision by counts is the one from the sum
-module _ (good : Bool) (r b n mutex target f p : ℕ) where
-  abbrev by-counts : ℕ → ℕ → Bool
-  by-counts k h = rulesFit (record { good = good; holders = k; holder = h; raised = r; blocked = b }) n mutex target f p
+  -- the sum
+  abbrev holder : ℕ
+  holder = tallyBelow s (s .threads) .holder
 
-  abbrev from-sum : ℕ → Bool
-  from-sum s =
-      let t : Tally = record { holding = s; raised = r; blocked = b } in
-      mutexFits t mutex && cond (between 11 12 s) (ltb target n && targetFits t f p) (eqb target noTarget && restFits t n)
+  -- how many threads hold the mutex
+  abbrev count : ℕ
+  count = howMany (s .threads) (λ i. holds (s .phase i))
 
-  same-one : (h : ℕ) → 10 ≤ h → h ≤ 16 → by-counts 1 h ≡ from-sum h
-  unfolding mutexFits targetFits restFits
-  same-one h l m =
-      let P : ℕ → Type 0 = λ x. by-counts 1 x ≡ from-sum x in
-      split P 10 h l (simp and-true) (λ l.
-      split P 11 h l (simp (and-true, and-assoc)) (λ l.
-      split P 12 h l (simp (and-true, and-assoc)) (λ l.
-      split P 13 h l (simp and-true) (λ l.
-      split P 14 h l (simp and-true) (λ l.
-      split P 15 h l refl (λ l.
-      split P 16 h l (simp and-true) (λ l. absurd (omega arith))))))))
+  -- the rules on all threads together, by a sum h
+  abbrev by-rules : ℕ → Bool
+  by-rules h =
+      mutexAgrees (tally h) (s .mutex)
+      && (cond (between 11 12 h) (ltb (s .target) (s .threads) && eqb (s .forbidden (s .target)) 1) (eqb (s .target) noTarget)
+      && (implies (eqb h 0 || between 16 16 h) (eqb (tally h .forbidden) 0)
+      && (implies (between 10 10 h) (ltb (tally h .forbidden) (s .threads) && eqb (tally h .readers) 0)
+      && (implies (between 11 12 h) (eqb (tally h .readers) (cond (reading (s .phase (s .target))) 1 0))
+      && (implies (between 13 14 h) (eqb (tally h .forbidden) (s .threads) && eqb (tally h .readers) 0)
+      && implies (between 15 15 h) (ltb 0 (tally h .forbidden)))))))
 
-  same-many : (k h s : ℕ) → 2 ≤ k → 20 ≤ s → by-counts k h ≡ from-sum s
-  unfolding mutexFits targetFits restFits
-  same-many k h s l m =
+  -- the decision
+  abbrev by-sum : ℕ → Bool
+  by-sum h = soundBy (tally h) (s .threads) (s .mutex) (s .target) (record { phase = s .phase (s .target); forbidden = s .forbidden (s .target) })
+
+  abbrev Same : ℕ → Type 0
+  Same h = by-rules h ≡ by-sum h
+
+  same-none : Same 0
+  unfolding soundBy restFits
+  same-none = simp and-true
+
+  same-one : (h : ℕ) → T (holds h) → Same h
+  unfolding soundBy restFits aimFits
+  same-one h t =
+      each-at Same h holderPhases (
+        simp and-true,
+        (simp (and-true, and-assoc), (simp (and-true, and-assoc), (simp and-true, (simp and-true, (refl, (simp and-true, tt)))))),
+      ) (is-holder h t)
+
+  -- several threads hold the mutex
+  same-many : (h : ℕ) → lastPhase < h → by-sum h ≡ false
+  unfolding soundBy restFits
+  same-many h l =
       simp (
-        lt-leb k 1 (omega arith),
-        lt-leb s 12 (omega arith),
-        lt-leb s 14 (omega arith),
-        ne-eqb s 0 (λ e. omega arith),
-        ne-eqb s 10 (λ e. omega arith),
-        ne-eqb s 15 (λ e. omega arith),
-        ne-eqb s 16 (λ e. omega arith),
+        lt-leb h 12 (omega arith),
+        ne-eqb h 0 (λ e. omega arith),
+        ne-eqb h 10 (λ e. omega arith),
+        ne-eqb h 13 (λ e. omega arith),
+        ne-eqb h 14 (λ e. omega arith),
+        ne-eqb h 15 (λ e. omega arith),
+        ne-eqb h 16 (λ e. omega arith),
         and-false,
       )
 
-  same-none : by-counts 0 0 ≡ from-sum 0
-  unfolding mutexFits targetFits restFits
-  same-none = simp and-true
+  -- ---- the rules of the definitions
 
-  same : (k h s : ℕ) → Held k h s → by-counts k h ≡ from-sum s
-  same k h s (none a c d) = cc (same-none)
-  same k h s (one a c d e) = cc (same-one h d e)
-  same k h s (many a c) = same-many k h s a c
+  together : Bool
+  together = mutexRule s && (targetRule s && (openRule s && (rule10 s && (rule11 s && (rule13 s && (rule15 s && true))))))
+
+  module _ (flags : (i : ℕ) → i < s .threads → s .forbidden i ≤ 1) where
+    rule-by-rule : count ≤ 1 → together ≡ by-rules holder
+    unfolding together
+    rule-by-rule l =
+        and-cong _ _ _ _ (mutex-is s flags l) (λ _.
+        and-cong _ _ _ _ (target-is s flags l) (λ aimed.
+        and-cong _ _ _ _ (open-is s flags l) (λ _.
+        and-cong _ _ _ _ (is-10 s flags l) (λ _.
+        and-cong _ _ _ _ (is-11 s flags l aimed) (λ _.
+        and-cong _ _ _ _ (is-13 s flags l) (λ _. and-true (rule15 s) ∙ is-15 s flags l))))))
+
+    all-threads : (holderRule s && together) ≡ by-sum holder
+    unfolding holderRule
+    all-threads = by (holders (s .phase) (s .threads))
+      where
+        single : count ≤ 1 → Same holder → (leb count 1 && together) ≡ by-sum holder
+        single l e = ap (λ (b : Bool). b && together) (le-leb count 1 l) ∙ (rule-by-rule l ∙ e)
+
+        by : Holders count holder → (leb count 1 && together) ≡ by-sum holder
+        by (none a b) = single (omega arith) (subst Same (sym b) same-none)
+        by (one a b) = single (omega arith) (same-one holder b)
+        by (many a b) = ap (λ (x : Bool). x && together) (lt-leb count 1 (omega arith)) ∙ sym (same-many holder b)
+
+  -- the target's bytes are asked for where it is a thread
+  aim-same : soundBy (tallyBelow s (s .threads)) (s .threads) (s .mutex) (s .target) (aimOf s) ≡ by-sum holder
+  unfolding soundBy aimOf
+  aim-same = ap (λ (x : Bool). mutexAgrees (tally holder) (s .mutex) && cond (between 11 12 holder) x unaimed) (by (ltb (s .target) (s .threads)) _ _)
+    where
+      unaimed : Bool
+      unaimed = eqb (s .target) noTarget && restFits (tally holder) (s .threads)
+
+      by : (b : Bool) (x y : Aim) → (b && aimFits (tally holder) (cond b x y)) ≡ (b && aimFits (tally holder) x)
+      by true x y = refl
+      by false x y = refl
+
+-- ---- the theorem
+
+regroup : (p f b r : Bool) → (p && (f && (b && r))) ≡ (p && (f && b) && r)
+regroup p f b r = simp and-assoc
 
 -- threads that fail by themselves are refused
-either : (s : Table) (x : Bool) (t : Tally) → passes s (cond x (Good t) Bad) ≡ (x && decidedOf s t)
+either : (s : Table) (x : Bool) (t : Tally) → passes s (cond x (Good t) Bad) ≡ (x && soundBy t (s .threads) (s .mutex) (s .target) (aimOf s))
 unfolding passes
 either s true t = refl
 either s false t = refl
 
--- the theorem
 pub one-pass : (s : Table) → passes s (foundOf s (s .threads)) ≡ sound s
-unfolding foundOf decidedOf
+unfolding foundOf sound allOf together
 one-pass s =
-    let n = s .threads in
-    let t = countsOf s in
-    either s (fitBelow s n) (tallyBelow s n)
-    ∙ ap (λ (x : Bool). fitBelow s n && x)
-    (sym (same (t .good) (t .raised) (t .blocked) n (s .mutex) (s .target) (s .forbidden (s .target)) (s .phase (s .target)) _ _ _ (held n (s .phase))))
-    ∙ counted s
+    either s (fitBelow s (s .threads)) (tallyBelow s (s .threads))
+    ∙ ap (λ (b : Bool). fitBelow s (s .threads) && b) (aim-same s)
+    ∙ sym
+    (regroup (phaseRule s) (flagRule s) (busyRule s) (holderRule s && together s)
+    ∙ and-cong (phaseRule s && (flagRule s && busyRule s)) _ _ _ (sym (each-fits s)) (λ rules.
+    all-threads s (flags-of s (and-l (flagRule s) _ (and-r (phaseRule s) _ rules)))))

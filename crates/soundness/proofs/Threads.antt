@@ -1,16 +1,16 @@
 -- Laws of the words on threads, every, some and how many: words that agree thread by thread, and each word as a count. More of them stand in the crate theory.
--- Assumes nothing.
 use Prim.Native.Nat.{ℕ, zero, suc, _+_, _≤_, _<_}
-use native.Mathlib.Numerals.{add-one}
 use native.Mathlib.Nat.{add-zero, eq-or-lt-of-le, le-of-suc-le-suc, not-suc-le-zero}
+use native.Mathlib.Numerals.{add-one}
 use native.Mathlib.Omega.{arith}
-use mathlib.Core.Path.{_≡_, refl, sym, subst, ap, _∙_}
-use mathlib.Core.Logic.{⊎-elim}
 use mathlib.Core.Bool.{Bool, true, false, cond, not, _&&_, _||_, and-true, and-false}
-use lib.Dec.{eqb, eqb·suc-suc}
+use mathlib.Core.Logic.{⊎-elim}
+use mathlib.Core.Path.{_≡_, refl, sym, subst, ap, _∙_}
 use borrow.Author.Tests.{eq-eqb, ne-eqb}
+use lib.Dec.{eqb, eqb·suc-suc}
 use Rattle.definitions.specs.Threads.{every, some, howMany}
 use Rattle.theory.proofs.Quantifiers.{howMany-at, howMany-most, none-howMany}
+use Rattle.soundness.proofs.Bools.{not-not}
 
 pub every-same : (n : ℕ) (f g : ℕ → Bool) → ((i : ℕ) → i < n → f i ≡ g i) → every n f ≡ every n g
 unfolding every
@@ -18,12 +18,8 @@ every-same zero f g h = refl
 every-same (suc n) f g h = cc (every-same n f g (λ i l. h i (omega arith)), h n (omega arith))
 
 -- the words as counts
-twice : (b : Bool) → b ≡ not (not b)
-twice true = refl
-twice false = refl
-
 pub some-count : (n : ℕ) (f : ℕ → Bool) → some n f ≡ not (eqb (howMany n f) 0)
-some-count n f = twice (some n f) ∙ ap not (none-howMany f n)
+some-count n f = sym (not-not (some n f)) ∙ ap not (none-howMany f n)
 
 pub every-count : (n : ℕ) (f : ℕ → Bool) → every n f ≡ eqb (howMany n f) n
 unfolding every howMany

@@ -1,51 +1,52 @@
 -- The soundness test by one pass: what is found of the threads, and what is decided from it.
--- First the pass: `foundOf s i` is what is found of the threads below i, each field a word on those threads. Then `decidedOf`, the decision from what was found of all threads, the mutex, the target and the target's bytes.
--- That it is the decision of `sound` stands in proofs/OnePass. Assumes nothing.
+-- First the pass: `foundOf s i` is what is found of the threads below i, each field a word on those threads.
+-- Then `soundBy`, the decision from what was found of all threads, N, the mutex, the target and the target's bytes.
+-- That it is the decision of `sound` stands in proofs/OnePass.
 use Prim.Native.Nat.{ℕ, zero, suc, _+_, _<_}
 use mathlib.Core.Bool.{Bool, false, cond, not, _&&_, _||_}
 use lib.Dec.{leb, ltb, eqb}
 use Rattle.definitions.specs.Bounds.{lastPhase, noTarget}
-use Rattle.definitions.specs.Threads.{every, howMany, between}
+use Rattle.definitions.specs.Phases.{busyIn, holds, reading}
 use Rattle.definitions.specs.Table.{Table}
-use Rattle.definitions.specs.Sound.{holds, busyIn, reading}
-use Rattle.soundness.specs.declared.Tally.{Tally}
+use Rattle.definitions.specs.Threads.{every, howMany, between}
+use Rattle.soundness.specs.declared.Aim.{Aim}
 use Rattle.soundness.specs.declared.Found.{Found}
 use Rattle.soundness.specs.declared.Found.the-variants.{Good, Bad}
-use Rattle.soundness.specs.declared.Row.{Row}
+use Rattle.soundness.specs.declared.Tally.{Tally}
+use Rattle.soundness.specs.declared.TallyRow.{TallyRow}
+
+-- ---- one thread
 
 -- the rules that speak of one thread by itself: "phases are at most 17 and flags 0 or 1; busy is 1 exactly in phases 2, 3, 5, 6, 7"
 abbrev pub threadFits : ℕ → ℕ → ℕ → Bool
-threadFits phase busy forbidden = leb phase lastPhase && (leb forbidden 1 && eqb busy (cond (busyIn phase) 1 0))
+threadFits phase busy forbidden = leb phase lastPhase && (leb forbidden 1 && eqb busy (busyIn phase))
 
 -- a thread with forbidden 1 in phases 5 to 7
-abbrev pub blocks : ℕ → ℕ → Bool
-blocks phase forbidden = eqb forbidden 1 && reading phase
+abbrev pub forbiddenReader : ℕ → ℕ → Bool
+forbiddenReader phase forbidden = eqb forbidden 1 && reading phase
 
 -- a holder's phase, 0 for another thread
-abbrev pub holding : ℕ → ℕ
-holding phase = cond (holds phase) phase 0
+abbrev pub holderPhase : ℕ → ℕ
+holderPhase phase = cond (holds phase) phase 0
+
+-- what a phase tells of its thread: its busy byte, with 256 for no phase, a holder's phase, and whether it reads
+unfoldable pub tallyRow : ℕ → TallyRow
+tallyRow phase = record { 0 = cond (leb phase lastPhase) (busyIn phase) 256; 1 = holderPhase phase; 2 = cond (reading phase) 1 0 }
+
+-- ---- the pass
 
 -- the sum of f 0, f 1, .. up to n - 1
 unfoldable pub total : ℕ → (ℕ → ℕ) → ℕ
 total zero f = 0
 total (suc n) f = total n f + f n
 
--- what a phase tells of its thread: its busy byte, with 256 for no phase, whether it holds and whether it reads
-unfoldable pub rowOf : ℕ → Row
-rowOf phase =
-    record {
-      busy = cond (leb phase lastPhase) (cond (busyIn phase) 1 0) 256;
-      holding = holding phase;
-      reading = cond (reading phase) 1 0;
-    }
-
 -- what is found of the threads below i, each of which passes the rules by itself
 abbrev pub tallyBelow : Table → ℕ → Tally
 tallyBelow s i =
     record {
-      holding = total i (λ j. holding (s .phase j));
-      raised = howMany i (λ j. eqb (s .forbidden j) 1);
-      blocked = howMany i (λ j. blocks (s .phase j) (s .forbidden j));
+      holder = total i (λ j. holderPhase (s .phase j));
+      forbidden = howMany i (λ j. eqb (s .forbidden j) 1);
+      readers = howMany i (λ j. forbiddenReader (s .phase j) (s .forbidden j));
     }
 
 -- the threads below i pass them
@@ -56,56 +57,67 @@ fitBelow s i = every i (λ j. threadFits (s .phase j) (s .busy j) (s .forbidden 
 unfoldable pub foundOf : Table → ℕ → Found
 foundOf s i = cond (fitBelow s i) (Good (tallyBelow s i)) Bad
 
--- what is found with one more thread
-unfoldable pub addedOf : Tally → ℕ → ℕ → ℕ → Found
-addedOf t phase busy forbidden =
+-- of no thread
+abbrev pub nobody : Tally
+nobody = record { holder = 0; forbidden = 0; readers = 0 }
+
+-- with one more thread
+unfoldable pub withThread : Tally → ℕ → ℕ → ℕ → Found
+withThread t phase busy forbidden =
     cond (threadFits phase busy forbidden)
     (Good
     (record {
-      holding = t .holding + holding phase;
-      raised = t .raised + cond (eqb forbidden 1) 1 0;
-      blocked = t .blocked + cond (blocks phase forbidden) 1 0;
+      holder = t .holder + holderPhase phase;
+      forbidden = t .forbidden + cond (eqb forbidden 1) 1 0;
+      readers = t .readers + cond (forbiddenReader phase forbidden) 1 0;
     }))
     Bad
 
--- the counts can be raised
-pub record Room (t : Tally) : Type 0 where
-  pub holding : t .holding < 65536
-  pub raised : t .raised < 256
-  pub blocked : t .blocked < 256
+-- there is room in a tally for one more
+pub record TallyRoom (t : Tally) : Type 0 where
+  pub holder : t .holder < 65536
+  pub forbidden : t .forbidden < 256
+  pub readers : t .readers < 256
+
+-- ---- the decision
 
 -- "the mutex is 1 exactly if there is one"
-unfoldable pub mutexFits : Tally → ℕ → Bool
-mutexFits t mutex = eqb mutex (cond (not (eqb (t .holding) 0)) 1 0)
+abbrev pub mutexAgrees : Tally → ℕ → Bool
+mutexAgrees t mutex = eqb mutex 1 && not (eqb (t .holder) 0) || eqb mutex 0 && not (not (eqb (t .holder) 0))
 
 -- a holder in 11 or 12: the target's forbidden is 1, and "no thread with forbidden 1, the target excepted, is in 5 to 7."
-unfoldable pub targetFits : Tally → ℕ → ℕ → Bool
-targetFits t forbidden phase = eqb forbidden 1 && eqb (t .blocked) (cond (reading phase) 1 0)
+unfoldable pub aimFits : Tally → Aim → Bool
+aimFits t aim = eqb (aim .forbidden) 1 && eqb (t .readers) (cond (reading (aim .phase)) 1 0)
 
--- the other rules by the holder's phase:
--- "none, or 16: every forbidden is 0."
--- "10: some forbidden is 0; no thread with forbidden 1 is in 5 to 7."
--- "13, 14: every forbidden is 1; no thread is in 5 to 7."
--- "15: some forbidden is 1."
+-- the rules for no holder, or one in another phase
 unfoldable pub restFits : Tally → ℕ → Bool
 restFits t n =
-    cond (eqb (t .holding) 0 || eqb (t .holding) 16)
-    (eqb (t .raised) 0)
-    (cond (eqb (t .holding) 10)
-    (ltb (t .raised) n && eqb (t .blocked) 0)
-    (cond (between 13 14 (t .holding))
-    (eqb (t .raised) n && eqb (t .blocked) 0)
-    (eqb (t .holding) 15 && ltb 0 (t .raised))))
+    -- "none, or 16: every forbidden is 0."
+    cond (eqb (t .holder) 0 || eqb (t .holder) 16)
+    (eqb (t .forbidden) 0)
+    -- "10: some forbidden is 0; no thread with forbidden 1 is in 5 to 7."
+    (cond (eqb (t .holder) 10)
+    (ltb (t .forbidden) n && eqb (t .readers) 0)
+    -- "13, 14: every forbidden is 1; no thread is in 5 to 7."
+    (cond (eqb (t .holder) 13 || eqb (t .holder) 14)
+    (eqb (t .forbidden) n && eqb (t .readers) 0)
+    -- "15: some forbidden is 1."
+    (eqb (t .holder) 15 && ltb 0 (t .forbidden))))
 
--- the decision on a table whose threads pass by themselves: the target is a thread where the holder is in 11 or 12, else 255
-unfoldable pub decidedOf : Table → Tally → Bool
-decidedOf s t =
-    mutexFits t (s .mutex)
-    && cond (between 11 12 (t .holding))
-    (ltb (s .target) (s .threads) && targetFits t (s .forbidden (s .target)) (s .phase (s .target)))
-    (eqb (s .target) noTarget && restFits t (s .threads))
+-- the decision on threads that pass by themselves: the target is a thread where the holder is in 11 or 12, else 255
+unfoldable pub soundBy : Tally → ℕ → ℕ → ℕ → Aim → Bool
+soundBy t n mutex target aim =
+    mutexAgrees t mutex
+    && cond (between 11 12 (t .holder)) (ltb target n && aimFits t aim) (eqb target noTarget && restFits t n)
+
+-- the target's bytes; where the target is no thread, 0 and 0
+unfoldable pub aimOf : Table → Aim
+aimOf s =
+    cond (ltb (s .target) (s .threads))
+    (record { phase = s .phase (s .target); forbidden = s .forbidden (s .target) })
+    (record { phase = 0; forbidden = 0 })
 
 -- the whole decision
 unfoldable pub passes : Table → Found → Bool
-passes s (Good t) = decidedOf s t
+passes s (Good t) = soundBy t (s .threads) (s .mutex) (s .target) (aimOf s)
 passes s Bad = false

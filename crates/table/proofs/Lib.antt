@@ -1,3 +1,2 @@
-pub mod Laws
-pub mod Filled
-pub mod Entries
+-- What the answers of `examine` mean.
+pub mod TableTests

@@ -1,2 +1,2 @@
--- The definitions that this crate's contracts cite besides those of the crate definitions.
-pub mod Examined
+-- The definitions that this crate's contracts cite besides those of the crates definitions, theory and soundness.
+pub mod TableTests

@@ -1,17 +1,16 @@
 -- Digits as they are read: how far they go at the front of a list, place by place, their value and its size.
--- Assumes nothing.
 use Prim.Native.Nat.{ℕ, zero, suc, _+_, _-_, _*_, _/_, _%_, _≤_, _<_}
-use native.Mathlib.Omega.{arith}
 use native.Mathlib.Nat.{mul-le-mul-left, mul-assoc, mul-comm}
-use mathlib.Core.Path.{_≡_, refl, ap, _∙_}
+use native.Mathlib.Omega.{arith}
 use mathlib.Core.Bool.{Bool, true, false, cond, false≢true}
 use mathlib.Core.List.{List, [], _∷_, _++_}
+use mathlib.Core.Path.{_≡_, refl, ap, _∙_}
 use borrow.Author.Tests.{leb-true, le-leb}
 use lib.Dec.{leb}
 use lib.ListN.{length, take, getD}
-use Rattle.definitions.specs.Script.{isDigit, digitsOf, valueFrom, decimal}
-use Rattle.theory.proofs.Tests.{and-both}
+use Rattle.definitions.specs.Texts.{isDigit, digitsOf, valueFrom, decimal}
 use Rattle.theory.proofs.Numbers.{decimal-small, decimal-more, by-tens, tens}
+use Rattle.theory.proofs.Tests.{and-both}
 
 -- ---- how far the digits go
 

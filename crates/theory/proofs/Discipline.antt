@@ -1,39 +1,41 @@
 -- The protocol's discipline, on bytes: who writes what, and that a reader's move uses its own three bytes alone.
--- `discipline`: a byte that a request changes is one that the mover may write by its phase; `Disciplined` spells that out for each kind of byte. `reader-local`: on two sound tables of the same N that agree on a reader's three bytes, its request gets the same reply and leaves the same three bytes; `reader-writes`: all other bytes stay.
--- For every table and every request with any numbers. Assumes nothing.
+-- `discipline`: a byte that a request changes is one that the mover may write by its phase; `disciplined` says that for each kind of byte.
+-- `reader-local`: on two sound tables of the same N that agree on a reader's three bytes, its request gets the same reply and leaves the same three bytes.
+-- `reader-writes`: all other bytes stay.
+-- For every table and every request with any numbers.
 use Prim.Native.Nat.{ℕ, _≤_}
 use native.Mathlib.Omega.{arith}
-use mathlib.Core.Path.{_≡_, refl, sym, subst, ap, _∙_}
-use mathlib.Core.Logic.{_⊎_, inl, inr, ⊎-elim}
-use mathlib.Core.Bool.{Bool, true, false, cond, not, _&&_, _||_}
+use mathlib.Core.Bool.{Bool, true, cond, not, _&&_}
 use mathlib.Core.List.{List, [], _∷_}
+use mathlib.Core.Logic.{_⊎_, inl, inr, ⊎-elim}
+use mathlib.Core.Path.{_≡_, refl, sym, subst, ap, _∙_}
 use lib.Dec.{T, leb, ltb, eqb, eqb→eq}
 use lib.ListN.{getD}
 use lib.Seq.{getD-set-other}
+use Rattle.definitions.specs.Answers.{Reply, accepted, refused, leaves, Seen, Test, test, answered}
 use Rattle.definitions.specs.Bounds.{lastMove}
-use Rattle.definitions.specs.Threads.{every, among, between, implies}
-use Rattle.definitions.specs.Answers.{Reply, refused, firstRefusal, unlessRefused}
-use Rattle.definitions.specs.Table.{Table, tableOf, phaseAt, busyAt, forbiddenAt, Write, mutex≔, target≔, phase≔, busy≔, forbidden≔, storedOne, stored}
-use Rattle.definitions.specs.Sound.{sound, holds}
-use Rattle.definitions.specs.Nodes.{replyFor}
-use Rattle.definitions.specs.Moves.{Request, Effect, effect, goEffect, phasesOf, go, callShared, requestTests, targetFits, hasMove, mutexFits, accepts, moveReply, moveTable}
-use Rattle.theory.proofs.Tests.{T-true, and-l, and-r, or-e, decided, not-i, implies-e, cond-yes}
+use Rattle.definitions.specs.Codes.{go, callShared}
+use Rattle.definitions.specs.Moves.{Effect, effect, goEffect, targetFits, mustWait, requestTests, stepReply, step, acceptsIn, moveReply, moveTable}
+use Rattle.definitions.specs.Phases.{rows, holds, hasMove}
+use Rattle.definitions.specs.Sound.{sound}
+use Rattle.definitions.specs.Table.{Table, Write, mutex≔, target≔, phase≔, busy≔, forbidden≔, appliedOne, applied, phaseAt, busyAt, forbiddenAt, tableOf, storedOne, stored, byteTable}
+use Rattle.definitions.specs.Threads.{every, listOf, between}
+use Rattle.definitions.specs.declared.Request.{Request}
+use Rattle.theory.specs.Statements.{MayWrite, its-phase, its-busy, a-forbidden, the-mutex, the-target, Disciplined, readerPhase, readerMove, Agree}
+use Rattle.theory.specs.Tables.{SoundBytes}
+use Rattle.theory.proofs.Bytes.{byte-keeps}
+use Rattle.theory.proofs.Cases.{or-at, none-of, among-range, has-phase}
 use Rattle.theory.proofs.Quantifiers.{every-at}
-use Rattle.theory.proofs.Views.{applied, appliedOne, refusalOn, replyOn, stepOn, reply-same}
-use Rattle.theory.proofs.Ways.{Way, way, Accepted, accepted-e, pick, call-shared, call-exclusive, raise-busy, find-open, find-forbidden, back-off, try-again, enter-shared, leave-shared, lower-busy, return-shared, take-mutex, find-busy, last-flag, next-flag, give-up, enter-exclusive, leave-exclusive, release-mutex, return-exclusive, set-flag, set-again, clear-last, clear-flag, relents}
+use Rattle.theory.proofs.Replies.{passed}
 use Rattle.theory.proofs.Stages.{between-e}
-use Rattle.theory.proofs.Steps.{accepts-e, accepted-bytes, refused-bytes, table-step}
-use Rattle.theory.proofs.SoundKept.{SoundBytes}
+use Rattle.theory.proofs.Storages.{accepts-e, accepted-stores, refused-stays, reply-same, table-step}
+use Rattle.theory.proofs.Tests.{T-true, and-l, and-r, or-e, decided, no-both, not-i, below?}
+use Rattle.theory.proofs.Ways.{Way, way, Accepted, accepted-e, phases-1}
+use Rattle.theory.proofs.Ways.{call-shared, raise-busy, find-open, find-forbidden, back-off, try-again, enter-shared, leave-shared, lower-busy, return-shared}
+use Rattle.theory.proofs.Ways.{call-exclusive, take-mutex, set-flag, find-busy, last-flag, next-flag, relents, give-up, enter-exclusive, leave-exclusive}
+use Rattle.theory.proofs.Ways.{set-again, clear-flag, clear-last, release-mutex, return-exclusive}
 
 -- ---- who writes what
-
--- byte k of the table may be written by thread i in phase p: its own phase and busy; a forbidden if it holds the mutex; the mutex in 9 and 16; the target in 10 to 12
-pub data MayWrite (i p k : ℕ) : Type 0 where
-  its-phase : k ≡ phaseAt i → MayWrite i p k
-  its-busy : k ≡ busyAt i → MayWrite i p k
-  a-forbidden : (j : ℕ) → k ≡ forbiddenAt j → T (holds p) → MayWrite i p k
-  the-mutex : k ≡ 1 → (p ≡ 9) ⊎ (p ≡ 16) → MayWrite i p k
-  the-target : k ≡ 2 → T (between 10 12 p) → MayWrite i p k
 
 -- the byte that a write is to
 abbrev placeOf : Write → ℕ
@@ -61,6 +63,7 @@ stored-other i p k h bytes (w ∷ ws) m =
     stored-other i p k h (storedOne bytes w) ws (m .1) ∙ write-other bytes w k (λ e. h (subst (MayWrite i p) (sym e) (m .0)))
 
 may-ways : (s : Table) (i t : ℕ) {x : Effect} → Way s i t x → MayWriteAll i (s .phase i) (x .writes)
+unfolding rows
 may-ways s i t (call-shared e) = (its-phase refl, tt)
 may-ways s i t (call-exclusive e) = (its-phase refl, tt)
 may-ways s i t (raise-busy e) = (its-phase refl, (its-busy refl, tt))
@@ -89,23 +92,14 @@ may-ways s i t (relents e) = (its-phase refl, tt)
 
 -- a byte that the mover may not write stays
 pub discipline : (bytes : List ℕ) (r : Request) (k : ℕ) → (MayWrite (r .thread) (tableOf bytes .phase (r .thread)) k → ⊥) → getD (moveTable bytes r) k 0 ≡ getD bytes k 0
-discipline bytes r k h = by (decided (accepts bytes r))
+discipline bytes r k h = by (decided (acceptsIn byteTable bytes r))
   where
-    by : T (accepts bytes r) ⊎ T (not (accepts bytes r)) → getD (moveTable bytes r) k 0 ≡ getD bytes k 0
+    by : T (acceptsIn byteTable bytes r) ⊎ T (not (acceptsIn byteTable bytes r)) → getD (moveTable bytes r) k 0 ≡ getD bytes k 0
     by (inl t) =
         let s = tableOf bytes in
-        let m = may-ways s (r .thread) (r .target) (way s r (accepted-e s r (accepts-e bytes r t .1))) in
-        ap (λ (b : List ℕ). getD b k 0) (accepted-bytes bytes r t) ∙ stored-other (r .thread) (s .phase (r .thread)) k h bytes (effect s r .writes) m
-    by (inr t) = ap (λ (b : List ℕ). getD b k 0) (refused-bytes bytes r t)
-
--- the same for each kind of byte: s before, s′ after a request of thread i
-pub record Disciplined (s : Table) (i : ℕ) (s′ : Table) : Type 0 where
-  pub threads-kept : s′ .threads ≡ s .threads
-  pub phase-own : (j : ℕ) → (j ≡ i → ⊥) → s′ .phase j ≡ s .phase j
-  pub busy-own : (j : ℕ) → (j ≡ i → ⊥) → s′ .busy j ≡ s .busy j
-  pub forbidden-held : (T (holds (s .phase i)) → ⊥) → (j : ℕ) → s′ .forbidden j ≡ s .forbidden j
-  pub mutex-in : (s .phase i ≡ 9 → ⊥) → (s .phase i ≡ 16 → ⊥) → s′ .mutex ≡ s .mutex
-  pub target-in : (T (between 10 12 (s .phase i)) → ⊥) → s′ .target ≡ s .target
+        let m = may-ways s (r .thread) (r .target) (way s r (accepted-e s r (accepts-e byteTable bytes r t .1))) in
+        ap (λ (b : List ℕ). getD b k 0) (accepted-stores byteTable bytes r t) ∙ stored-other (r .thread) (s .phase (r .thread)) k h bytes (effect s r .writes) m
+    by (inr t) = ap (λ (b : List ℕ). getD b k 0) (refused-stays byteTable bytes r t)
 
 -- what each kind of byte would need
 no-phase : (i p j : ℕ) → (j ≡ i → ⊥) → MayWrite i p (phaseAt j) → ⊥
@@ -165,52 +159,48 @@ disciplined bytes r =
 
 -- ---- a reader uses its own bytes alone
 
--- a reader's request: call shared, or go in phases 1 to 8
-abbrev pub readerMove : Table → Request → Bool
-readerMove s r = eqb (r .move) callShared || (eqb (r .move) go && between 1 8 (s .phase (r .thread)))
-
--- two tables of the same N in which thread i's three bytes are the same
-pub record Agree (s t : Table) (i : ℕ) : Type 0 where
-  pub threads : s .threads ≡ t .threads
-  pub phase : s .phase i ≡ t .phase i
-  pub busy : s .busy i ≡ t .busy i
-  pub forbidden : s .forbidden i ≡ t .forbidden i
-
 -- what a reader's request is, in cases
-reader-e : (s : Table) (r : Request) → T (readerMove s r) → (r .move ≡ callShared) ⊎ ((r .move ≡ go) × T (between 1 8 (s .phase (r .thread))))
+reader-e : (s : Table) (r : Request) → T (readerMove s r) → (r .mv ≡ callShared) ⊎ ((r .mv ≡ go) × T (readerPhase (s .phase (r .thread))))
 reader-e s r t =
-    let at-go = eqb (r .move) go in
-    let reading = between 1 8 (s .phase (r .thread)) in
-    ⊎-elim (λ u. inl (eqb→eq (r .move) callShared u)) (λ u. inr (eqb→eq (r .move) go (and-l at-go reading u), and-r at-go reading u))
-    (or-e (eqb (r .move) callShared) (at-go && reading) t)
+    let at-go = eqb (r .mv) go in
+    let reading = readerPhase (s .phase (r .thread)) in
+    ⊎-elim (λ u. inl (eqb→eq (r .mv) callShared u)) (λ u. inr (eqb→eq (r .mv) go (and-l at-go reading u), and-r at-go reading u))
+    (or-e (eqb (r .mv) callShared) (at-go && reading) t)
 
 -- accepted, it is in a phase up to 8
 reader-phase : (s : Table) (r : Request) → T (readerMove s r) → Accepted s r → s .phase (r .thread) ≤ 8
-unfolding phasesOf
 reader-phase s r t a = by (reader-e s r t)
   where
-    by : (r .move ≡ callShared) ⊎ ((r .move ≡ go) × T (between 1 8 (s .phase (r .thread)))) → s .phase (r .thread) ≤ 8
+    p : ℕ
+    p = s .phase (r .thread)
+
+    by : (r .mv ≡ callShared) ⊎ ((r .mv ≡ go) × T (readerPhase p)) → p ≤ 8
     by (inl e) =
-        pick (s .phase (r .thread)) (s .phase (r .thread) ≤ 8) (phasesOf 1) (subst (λ (m : ℕ). T (hasMove m (s .phase (r .thread)))) e (a .has-move)) ((λ z. omega arith), tt)
-    by (inr g) = between-e 1 8 (s .phase (r .thread)) (g .1) .1
+        or-at p 0 [] (λ z. omega arith) (none-of p) (has-phase 1 p (0 ∷ []) phases-1 (subst (λ (m : ℕ). T (hasMove m p)) e (a .has-move)))
+    by (inr g) = between-e _ _ p (g .1) .1
+
+-- no holder is in a phase up to 8, by trying them
+holder-high : (p : ℕ) → T (holds p) → 9 ≤ p
+unfolding rows every
+holder-high p t = ⊎-elim (λ l. absurd (no-both (holds p) t (every-at (λ q. not (holds q)) 9 tt p l))) (λ l. l) (below? 9 p)
 
 no-other : (i p k : ℕ) → p ≤ 8 → (k ≡ phaseAt i → ⊥) → (k ≡ busyAt i → ⊥) → MayWrite i p k → ⊥
 no-other i p k l h g (its-phase e) = h e
 no-other i p k l h g (its-busy e) = g e
-no-other i p k l h g (a-forbidden j e t) = let x = between-e 10 16 p t in omega arith
+no-other i p k l h g (a-forbidden j e t) = let x = holder-high p t in omega arith
 no-other i p k l h g (the-mutex e t) = ⊎-elim (λ z. omega arith) (λ z. omega arith) t
 no-other i p k l h g (the-target e t) = let x = between-e 10 12 p t in omega arith
 
 -- a reader writes its own phase and busy alone
 pub reader-writes : (bytes : List ℕ) (r : Request) → T (readerMove (tableOf bytes) r) → (k : ℕ) → (k ≡ phaseAt (r .thread) → ⊥) → (k ≡ busyAt (r .thread) → ⊥)
     → getD (moveTable bytes r) k 0 ≡ getD bytes k 0
-reader-writes bytes r t k h g = by (decided (accepts bytes r))
+reader-writes bytes r t k h g = by (decided (acceptsIn byteTable bytes r))
   where
-    by : T (accepts bytes r) ⊎ T (not (accepts bytes r)) → getD (moveTable bytes r) k 0 ≡ getD bytes k 0
+    by : T (acceptsIn byteTable bytes r) ⊎ T (not (acceptsIn byteTable bytes r)) → getD (moveTable bytes r) k 0 ≡ getD bytes k 0
     by (inl u) =
         let s = tableOf bytes in
-        discipline bytes r k (no-other (r .thread) (s .phase (r .thread)) k (reader-phase s r t (accepted-e s r (accepts-e bytes r u .1))) h g)
-    by (inr u) = ap (λ (b : List ℕ). getD b k 0) (refused-bytes bytes r u)
+        discipline bytes r k (no-other (r .thread) (s .phase (r .thread)) k (reader-phase s r t (accepted-e s r (accepts-e byteTable bytes r u .1))) h g)
+    by (inr u) = ap (λ (b : List ℕ). getD b k 0) (refused-stays byteTable bytes r u)
 
 -- the table as the reader sees it: its own three bytes for every thread's
 abbrev own : ℕ → ℕ → ℕ → ℕ → Table
@@ -222,68 +212,76 @@ ownOf s i = own (s .threads) (s .phase i) (s .busy i) (s .forbidden i)
 own-same : (s t : Table) (i : ℕ) → Agree s t i → ownOf s i ≡ ownOf t i
 own-same s t i a = λ k. own (a .threads k) (a .phase k) (a .busy k) (a .forbidden k)
 
-one-to-eight : (p : ℕ) → T (between 1 8 p) → T (among p (1 ∷ 2 ∷ 3 ∷ 4 ∷ 5 ∷ 6 ∷ 7 ∷ 8 ∷ []))
-unfolding every among
-one-to-eight p t =
-    let f : ℕ → Bool = λ q. implies (between 1 8 q) (among q (1 ∷ 2 ∷ 3 ∷ 4 ∷ 5 ∷ 6 ∷ 7 ∷ 8 ∷ [])) in
-    implies-e (between 1 8 p) (among p (1 ∷ 2 ∷ 3 ∷ 4 ∷ 5 ∷ 6 ∷ 7 ∷ 8 ∷ [])) (every-at f 9 tt p (let x = between-e 1 8 p t in omega arith)) t
-
 -- its effect is that on what it sees
-own-go : (s : Table) (i : ℕ) → T (between 1 8 (s .phase i)) → goEffect s i ≡ goEffect (ownOf s i) i
-unfolding goEffect
+own-go : (s : Table) (i : ℕ) → T (readerPhase (s .phase i)) → goEffect s i ≡ goEffect (ownOf s i) i
+unfolding goEffect listOf
 own-go s i t =
-    pick (s .phase i) (goEffect s i ≡ goEffect (ownOf s i) i) (1 ∷ 2 ∷ 3 ∷ 4 ∷ 5 ∷ 6 ∷ 7 ∷ 8 ∷ []) (one-to-eight (s .phase i) t)
-    ((λ e. rw e), ((λ e. rw e), ((λ e. rw e), ((λ e. rw e), ((λ e. rw e), ((λ e. rw e), ((λ e. rw e), ((λ e. rw e), tt))))))))
+    let p = s .phase i in
+    or-at p 1 _ (λ e. rw e)
+    (or-at p 2 _ (λ e. rw e)
+    (or-at p 3 _ (λ e. rw e)
+    (or-at p 4 _ (λ e. rw e)
+    (or-at p 5 _ (λ e. rw e) (or-at p 6 _ (λ e. rw e) (or-at p 7 _ (λ e. rw e) (or-at p 8 [] (λ e. rw e) (none-of p))))))))
+    (among-range p _ _ t)
 
 own-effect : (s : Table) (r : Request) → T (readerMove s r) → effect s r ≡ effect (ownOf s (r .thread)) r
 unfolding effect
 own-effect s r t = by (reader-e s r t)
   where
-    by : (r .move ≡ callShared) ⊎ ((r .move ≡ go) × T (between 1 8 (s .phase (r .thread)))) → effect s r ≡ effect (ownOf s (r .thread)) r
+    by : (r .mv ≡ callShared) ⊎ ((r .mv ≡ go) × T (readerPhase (s .phase (r .thread)))) → effect s r ≡ effect (ownOf s (r .thread)) r
     by (inl e) = rw e
     by (inr g) = rw (g .0) (own-go s (r .thread) (g .1))
 
 -- refusal 7 isn't for readers
-reader-mutex : (s : Table) (r : Request) → T (readerMove s r) → T (mutexFits s r)
-reader-mutex s r t =
-    let at-go = eqb (r .move) go in
-    let at-9 = eqb (s .phase (r .thread)) 9 in
-    let locked = eqb (s .mutex) 1 in
-    not-i (at-go && (at-9 && locked))
-    (λ u. by (eqb→eq (r .move) go (and-l at-go (at-9 && locked) u)) (eqb→eq (s .phase (r .thread)) 9 (and-l at-9 locked (and-r at-go (at-9 && locked) u))) (reader-e s r t))
+reader-goes : (s : Table) (r : Request) (mutex : ℕ) → T (readerMove s r) → not (mustWait (s .phase (r .thread)) mutex (r .mv)) ≡ true
+reader-goes s r mutex t =
+    T-true (not (at-go && (at-9 && locked)))
+    (not-i (at-go && (at-9 && locked))
+    (λ u. by (eqb→eq (r .mv) go (and-l at-go (at-9 && locked) u)) (eqb→eq (s .phase (r .thread)) 9 (and-l at-9 locked (and-r at-go (at-9 && locked) u))) (reader-e s r t)))
   where
-    by : r .move ≡ go → s .phase (r .thread) ≡ 9 → (r .move ≡ callShared) ⊎ ((r .move ≡ go) × T (between 1 8 (s .phase (r .thread)))) → ⊥
+    at-go : Bool
+    at-go = eqb (r .mv) go
+
+    at-9 : Bool
+    at-9 = eqb (s .phase (r .thread)) 9
+
+    locked : Bool
+    locked = eqb mutex 1
+
+    by : r .mv ≡ go → s .phase (r .thread) ≡ 9 → (r .mv ≡ callShared) ⊎ ((r .mv ≡ go) × T (readerPhase (s .phase (r .thread)))) → ⊥
     by g n (inl e) = omega arith
-    by g n (inr h) = let x = between-e 1 8 (s .phase (r .thread)) (h .1) in omega arith
+    by g n (inr h) = let x = between-e _ _ (s .phase (r .thread)) (h .1) in omega arith
 
--- its refusal, reply and table after, by what it sees
-abbrev ownRefusal : Table → Request → ℕ
-ownRefusal o r = firstRefusal (requestTests o r)
+-- its tests, reply and table after, by what it sees
+own-tests : (s : Table) (r : Request) → T (readerMove s r) → requestTests s r ≡ requestTests (ownOf s (r .thread)) r
+own-tests s r t =
+    ap
+    (λ (b : Bool). test 3 (ltb (r .thread) (s .threads))
+    ∷ test 4 (leb (r .mv) lastMove)
+    ∷ test 5 (targetFits (s .threads) (r .mv) (r .target))
+    ∷ test 6 (hasMove (r .mv) (s .phase (r .thread)))
+    ∷ test 7 b
+    ∷ [])
+    (reader-goes s r (s .mutex) t ∙ sym (reader-goes s r 0 t))
 
-own-refusal : (s : Table) (r : Request) → T (sound s) → T (readerMove s r) → refusalOn s r ≡ ownRefusal (ownOf s (r .thread)) r
-unfolding refusalOn firstRefusal
-own-refusal s r z t =
-    cond-yes (sound s) (firstRefusal (requestTests s r)) 2 z
-    ∙ ap (λ (b : Bool). cond (ltb (r .thread) (s .threads)) (cond (leb (r .move) lastMove) (cond (targetFits (s .threads) (r .move) (r .target)) (cond (hasMove (r .move) (s .phase (r .thread))) (cond b 0 7) 6) 5) 4) 3)
-    (T-true (mutexFits s r) (reader-mutex s r t) ∙ sym (T-true (mutexFits (ownOf s (r .thread)) r) (reader-mutex (ownOf s (r .thread)) r t)))
+abbrev ownReply : Table → Request → Reply Seen
+ownReply o r = answered (requestTests o r) (effect o r .shows)
 
-abbrev ownReply : Table → Request → Reply
-ownReply o r = unlessRefused (ownRefusal o r) (replyFor (effect o r .shows)) (refused (ownRefusal o r) 0)
-
-own-reply : (s : Table) (r : Request) → T (sound s) → T (readerMove s r) → replyOn s r ≡ ownReply (ownOf s (r .thread)) r
-unfolding replyOn
+own-reply : (s : Table) (r : Request) → T (sound s) → T (readerMove s r) → stepReply s r ≡ ownReply (ownOf s (r .thread)) r
+unfolding stepReply
 own-reply s r z t =
-    ap (λ (n : ℕ). unlessRefused n (replyFor (effect s r .shows)) (refused n 0)) (own-refusal s r z t)
-    ∙ ap (λ (x : Effect). unlessRefused (ownRefusal (ownOf s (r .thread)) r) (replyFor (x .shows)) (refused (ownRefusal (ownOf s (r .thread)) r) 0)) (own-effect s r t)
+    passed (test 2 (sound s)) (requestTests s r) (effect s r .shows) z
+    ∙ (ap (λ (ts : List Test). answered ts (effect s r .shows)) (own-tests s r t)
+    ∙ ap (λ (x : Effect). answered (requestTests (ownOf s (r .thread)) r) (x .shows)) (own-effect s r t))
 
 abbrev ownStep : Table → Request → Table → Table
-ownStep o r s = unlessRefused (ownRefusal o r) (applied s (effect o r .writes)) s
+ownStep o r s = leaves (ownReply o r) (applied s (effect o r .writes)) s
 
-own-step : (s : Table) (r : Request) → T (sound s) → T (readerMove s r) → stepOn s r ≡ ownStep (ownOf s (r .thread)) r s
-unfolding stepOn
+own-step : (s : Table) (r : Request) → T (sound s) → T (readerMove s r) → step s r ≡ ownStep (ownOf s (r .thread)) r s
+unfolding step
 own-step s r z t =
-    ap (λ (n : ℕ). unlessRefused n (applied s (effect s r .writes)) s) (own-refusal s r z t)
-    ∙ ap (λ (x : Effect). unlessRefused (ownRefusal (ownOf s (r .thread)) r) (applied s (x .writes)) s) (own-effect s r t)
+    ap (λ (x : Reply Seen). leaves x (applied s (effect s r .writes)) s) (own-reply s r z t)
+    ∙ ap (λ (x : Effect). leaves (ownReply (ownOf s (r .thread)) r) (applied s (x .writes)) s) (own-effect s r t)
 
 -- the same writes to tables that agree
 agree-one : (s t : Table) (i : ℕ) (w : Write) → Agree s t i → Agree (appliedOne s w) (appliedOne t w) i
@@ -301,22 +299,22 @@ agree-all i [] s t a = a
 agree-all i (w ∷ ws) s t a = agree-all i ws (appliedOne s w) (appliedOne t w) (agree-one s t i w a)
 
 agree-step : (o s t : Table) (r : Request) → Agree s t (r .thread) → Agree (ownStep o r s) (ownStep o r t) (r .thread)
-agree-step o s t r a = by (eqb (ownRefusal o r) 0)
+agree-step o s t r a = by (ownReply o r)
   where
-    by : (b : Bool) → Agree (cond b (applied s (effect o r .writes)) s) (cond b (applied t (effect o r .writes)) t) (r .thread)
-    by true = agree-all (r .thread) (effect o r .writes) s t a
-    by false = a
+    by : (x : Reply Seen) → Agree (leaves x (applied s (effect o r .writes)) s) (leaves x (applied t (effect o r .writes)) t) (r .thread)
+    by (accepted seen) = agree-all (r .thread) (effect o r .writes) s t a
+    by (refused number place) = a
 
 -- the same reply and the same three bytes, on records
 pub reader-on : (s t : Table) (r : Request) → T (sound s) → T (sound t) → Agree s t (r .thread) → T (readerMove s r)
-    → (replyOn s r ≡ replyOn t r) × Agree (stepOn s r) (stepOn t r) (r .thread)
+    → (stepReply s r ≡ stepReply t r) × Agree (step s r) (step t r) (r .thread)
 reader-on s t r y z a m =
     let i = r .thread in
     let o = ownOf s i in
     let same : ownOf s i ≡ ownOf t i = own-same s t i a in
     let n : T (readerMove t r) = subst (λ (x : Table). T (readerMove x r)) same m in (
       own-reply s r y m ∙ (ap (λ (x : Table). ownReply x r) same ∙ sym (own-reply t r z n)),
-      subst (λ (x : Table). Agree x (stepOn t r) i) (sym (own-step s r y m))
+      subst (λ (x : Table). Agree x (step t r) i) (sym (own-step s r y m))
           (subst (λ (x : Table). Agree (ownStep o r s) x i) (sym (own-step t r z n ∙ ap (λ (x : Table). ownStep x r t) (sym same))) (agree-step o s t r a)),
     )
 
@@ -325,7 +323,7 @@ pub reader-local : (a b : List ℕ) (r : Request) → SoundBytes a → SoundByte
     → (moveReply a r ≡ moveReply b r) × Agree (tableOf (moveTable a r)) (tableOf (moveTable b r)) (r .thread)
 reader-local a b r x y g m =
     let on = reader-on (tableOf a) (tableOf b) r (x .is-sound) (y .is-sound) g m in (
-      reply-same a r (x .is-sized) ∙ (on .0 ∙ sym (reply-same b r (y .is-sized))),
-      subst (λ (s : Table). Agree s (tableOf (moveTable b r)) (r .thread)) (sym (table-step a r (x .is-sized)))
-          (subst (λ (s : Table). Agree (stepOn (tableOf a) r) s (r .thread)) (sym (table-step b r (y .is-sized))) (on .1)),
+      reply-same byteTable a r (x .is-sized) ∙ (on .0 ∙ sym (reply-same byteTable b r (y .is-sized))),
+      subst (λ (s : Table). Agree s (tableOf (moveTable b r)) (r .thread)) (sym (table-step byteTable byte-keeps a r (x .is-sized)))
+          (subst (λ (s : Table). Agree (step (tableOf a) r) s (r .thread)) (sym (table-step byteTable byte-keeps b r (y .is-sized))) (on .1)),
     )

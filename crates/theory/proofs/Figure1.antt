@@ -1,30 +1,37 @@
--- The theorem on Figure 1, on bytes and with the nodes that the `nodes` entry writes: every accepted move keeps all nodes and is quiet, or takes the mover along one of the twelve arrows, its guard met on the nodes before, and answers the arrow's event.
--- For every table and every request with any numbers. Assumes nothing.
-use Prim.Native.Nat.{ℕ, zero, suc, _≤_, _<_}
-use native.Mathlib.Omega.{arith}
+-- The theorem on Figure 1, on bytes and with the nodes that the `nodes` entry writes.
+-- Every accepted move keeps all nodes and is quiet, or takes the mover along one of the twelve arrows, its guard met on the nodes before, and answers the arrow's event.
+-- For every table and every request with any numbers.
+use Prim.Native.Nat.{ℕ, zero, suc, _<_}
 use native.Mathlib.Nat.{not-suc-le-zero}
-use mathlib.Core.Path.{_≡_, refl, sym, subst, ap, _∙_}
-use mathlib.Core.Logic.{_⊎_, inl, inr}
-use mathlib.Core.Bool.{not}
+use native.Mathlib.Omega.{arith}
+use mathlib.Core.Bool.{Bool, not}
 use mathlib.Core.List.{List, [], _∷_, List·Memᴰ, List·Memᴰ·head, List·Memᴰ·tail}
-use lib.Dec.{T, eqb, eqb→eq, le→leb}
+use mathlib.Core.Logic.{_⊎_, inl, inr}
+use mathlib.Core.Path.{_≡_, refl, sym, subst, ap, _∙_}
+use lib.Dec.{T, eqb, eqb→eq}
 use lib.ListN.{length, getD, set}
+use Rattle.definitions.specs.Answers.{quiet}
 use Rattle.definitions.specs.Bounds.{lastPhase}
-use Rattle.definitions.specs.Threads.{every, among, between, implies, listOf}
-use Rattle.definitions.specs.Answers.{Reply}
-use Rattle.definitions.specs.Table.{Table, tableOf, filled}
-use Rattle.definitions.specs.Nodes.{LOE, Shared, SAF, LOS, Exclusive, LE, nodeOf, nodesOf, Arrow, arrows, replyFor, Figure1, nodesRefusal, nodesOutput}
-use Rattle.definitions.specs.Moves.{Request, Effect, effect, accepts, moveReply, moveTable, allForbidden}
-use Rattle.theory.proofs.Tests.{not-i, implies-e, same?, cond-yes, eq-T}
-use Rattle.theory.proofs.Quantifiers.{every-at}
-use Rattle.theory.proofs.Views.{update, update-same, update-other, applied, refusalOn}
-use Rattle.theory.proofs.Ways.{Way, way, accepted-e, passes, none, call-shared, call-exclusive, raise-busy, find-open, find-forbidden, back-off, try-again, enter-shared, leave-shared, lower-busy, return-shared, take-mutex, find-busy, last-flag, next-flag, give-up, enter-exclusive, leave-exclusive, release-mutex, return-exclusive, set-flag, set-again, clear-last, clear-flag, relents}
-use Rattle.theory.proofs.Soundness.{All, In, Sound, sound-e}
-use Rattle.theory.proofs.Stages.{widen}
+use Rattle.definitions.specs.Codes.{LOE, Shared, SAF, LOS, Exclusive, LE}
+use Rattle.definitions.specs.Moves.{Effect, allForbidden, effect, accepts, acceptsIn}
+use Rattle.definitions.specs.Nodes.{nodesOf, Arrow, arrows, Figure1}
+use Rattle.definitions.specs.Phases.{rows, nodeOf, holds, reading}
+use Rattle.definitions.specs.Table.{Table, update, applied, tableOf, byteTable}
+use Rattle.definitions.specs.Threads.{every, listOf, among, between, implies}
+use Rattle.definitions.specs.declared.Request.{Request}
+use Rattle.theory.specs.Statements.{OutsideView}
+use Rattle.theory.proofs.Bytes.{byte-keeps}
 use Rattle.theory.proofs.Kept.{settled}
-use Rattle.theory.proofs.Steps.{accepts-e, accepted-table, accepted-reply}
-use Rattle.theory.proofs.SoundKept.{SoundBytes}
-use Rattle.theory.proofs.Lists.{length-listOf, getD-listOf, listOf-same, listOf-set, anyIn-listOf}
+use Rattle.theory.proofs.Lists.{getD-listOf, listOf-same, listOf-set, anyIn-listOf}
+use Rattle.theory.proofs.Quantifiers.{every-at}
+use Rattle.theory.proofs.Soundness.{All, Sound, sound-e}
+use Rattle.theory.proofs.Storages.{accepts-e, accepted-reply, accepted-table}
+use Rattle.theory.proofs.Tests.{not-i, implies-e, same?}
+use Rattle.theory.proofs.Ways.{Way, way, accepted-e}
+use Rattle.theory.proofs.Ways.{call-shared, raise-busy, find-open, find-forbidden, back-off, try-again, enter-shared, leave-shared, lower-busy, return-shared}
+use Rattle.theory.proofs.Ways.{call-exclusive, take-mutex, set-flag, find-busy, last-flag, next-flag, relents, give-up, enter-exclusive, leave-exclusive}
+use Rattle.theory.proofs.Ways.{set-again, clear-flag, clear-last, release-mutex, return-exclusive}
+use Rattle.theory.proofs.Writes.{update-same, update-other}
 
 -- ---- the arrows by their place in the list
 
@@ -34,7 +41,7 @@ member-at (x ∷ xs) zero d h = List·Memᴰ·head refl
 member-at (x ∷ xs) (suc k) d h = List·Memᴰ·tail (member-at xs k d (omega arith))
 
 abbrev arrowAt : ℕ → Arrow
-arrowAt k = getD arrows k (record { from = 0; to = 0; event = 0; nobodyIn = [] })
+arrowAt k = getD arrows k (record { from = 0; to = 0; shows = quiet; nobodyIn = [] })
 
 module _ (s : Table) (z : Sound s) (i : ℕ) (l : i < s .threads) where
   -- the nodes after thread i went to phase v
@@ -57,8 +64,9 @@ module _ (s : Table) (z : Sound s) (i : ℕ) (l : i < s .threads) where
       by j (inr h) = ap nodeOf (update-other (s .phase) i v j h)
 
   -- it takes the arrow at place k
-  takes : (k p v : ℕ) → k < length arrows → s .phase i ≡ p → nodeOf p ≡ arrowAt k .from → nodeOf v ≡ arrowAt k .to → All s (λ j. T (not (among (nodeOf (s .phase j)) (arrowAt k .nobodyIn))))
-      → Figure1 (nodesOf s) i (replyFor (arrowAt k .event)) (nodesWith v)
+  takes : (k p v : ℕ) → k < length arrows → s .phase i ≡ p → nodeOf p ≡ arrowAt k .from → nodeOf v ≡ arrowAt k .to
+      → All s (λ j. T (not (among (nodeOf (s .phase j)) (arrowAt k .nobodyIn))))
+      → Figure1 (nodesOf s) i (arrowAt k .shows) (nodesWith v)
   unfolding nodesOf
   takes k p v fits e begins ends guard =
       inr (
@@ -68,45 +76,42 @@ module _ (s : Table) (z : Sound s) (i : ℕ) (l : i < s .threads) where
           begins = getD-listOf (s .threads) (λ j. nodeOf (s .phase j)) i 0 l ∙ (ap nodeOf e ∙ begins);
           guard = anyIn-listOf (arrowAt k .nobodyIn) (s .threads) (λ j. nodeOf (s .phase j)) guard;
           ends = nodes-set v ∙ ap (set (nodesOf s) i) ends;
-          answers = refl;
+          shows = refl;
         },
       )
 
   -- ---- the guards
 
-  -- nodes of a list are those of phases a to b, by trying every phase
-  in-nodes : (wanted : List ℕ) (a b : ℕ) → T (every (suc lastPhase) (λ q. implies (among (nodeOf q) wanted) (between a b q)))
-      → All s (λ j. T (among (nodeOf (s .phase j)) wanted) → In a b s j)
-  in-nodes wanted a b t j k =
-      implies-e (among (nodeOf (s .phase j)) wanted) (between a b (s .phase j))
-      (every-at (λ q. implies (among (nodeOf q) wanted) (between a b q)) (suc lastPhase) t (s .phase j) (let h = z .phases j k in omega arith))
-
-  nobody : (wanted : List ℕ) (a b : ℕ) → T (every (suc lastPhase) (λ q. implies (among (nodeOf q) wanted) (between a b q)))
-      → All s (λ j. In a b s j → ⊥) → All s (λ j. T (not (among (nodeOf (s .phase j)) wanted)))
-  nobody wanted a b t none j k = not-i (among (nodeOf (s .phase j)) wanted) (λ u. none j k (in-nodes wanted a b t j k u))
+  -- nobody is in the phases of which f holds, and those of a list of nodes are among them, by trying every phase
+  nobody : (wanted : List ℕ) (f : ℕ → Bool) → T (every (suc lastPhase) (λ q. implies (among (nodeOf q) wanted) (f q)))
+      → All s (λ j. T (f (s .phase j)) → ⊥) → All s (λ j. T (not (among (nodeOf (s .phase j)) wanted)))
+  nobody wanted f t none j k =
+      not-i (among (nodeOf (s .phase j)) wanted)
+      (λ u. none j k
+      (implies-e (among (nodeOf (s .phase j)) wanted) (f (s .phase j))
+      (every-at (λ q. implies (among (nodeOf q) wanted) (f q)) (suc lastPhase) t (s .phase j) (let h = z .phases j k in omega arith)) u))
 
   -- ES to LOE: forbidden is 0, so nobody is in 13 or 14
   open-guard : s .forbidden i ≡ 0 → All s (λ j. T (not (among (nodeOf (s .phase j)) (LOS ∷ Exclusive ∷ []))))
-  unfolding every among nodeOf
-  open-guard f = nobody (LOS ∷ Exclusive ∷ []) 13 14 tt (λ j k u. let o = z .all-forbidden j k u i l in omega arith)
+  unfolding every among rows
+  open-guard f = nobody (LOS ∷ Exclusive ∷ []) (between 13 14) tt (λ j k u. let o = z .all-forbidden j k u i l in omega arith)
 
-  -- EE to SAF: the mutex is free, so nobody is in 10 to 16
+  -- EE to SAF: the mutex is free, so nobody holds it
   mutex-guard : (s .mutex ≡ 1 → ⊥) → All s (λ j. T (not (among (nodeOf (s .phase j)) (SAF ∷ LOS ∷ Exclusive ∷ LE ∷ []))))
-  unfolding every among nodeOf
-  mutex-guard f =
-      nobody (SAF ∷ LOS ∷ Exclusive ∷ LE ∷ []) 10 15 tt (λ j k u. f (z .held j k (widen 10 16 10 15 (s .phase j) (omega arith) (omega arith) u)))
+  unfolding every among rows
+  mutex-guard f = nobody (SAF ∷ LOS ∷ Exclusive ∷ LE ∷ []) holds tt (λ j k u. f (z .held j k u))
 
   -- SAF to LOS: every forbidden is 1 and the target isn't busy, so nobody is in 5 to 7
   last-guard : s .phase i ≡ 11 → (s .busy (s .target) ≡ 1 → ⊥) → T (allForbidden s) → All s (λ j. T (not (among (nodeOf (s .phase j)) (LOE ∷ Shared ∷ []))))
-  unfolding every among nodeOf
-  last-guard e quiet a =
-      nobody (LOE ∷ Shared ∷ []) 5 6 tt
-      (λ j k u. settled s z i l e quiet j k (eqb→eq (s .forbidden j) 1 (every-at (λ x. eqb (s .forbidden x) 1) (s .threads) a j k)) (widen 5 7 5 6 (s .phase j) (omega arith) (omega arith) u))
+  unfolding every among rows
+  last-guard e idle a =
+      nobody (LOE ∷ Shared ∷ []) reading tt
+      (λ j k u. settled s z i l e idle j k (eqb→eq (s .forbidden j) 1 (every-at (λ x. eqb (s .forbidden x) 1) (s .threads) a j k)) u)
 
   -- ---- the ways
 
-  figure-way : (t : ℕ) {x : Effect} → Way s i t x → Figure1 (nodesOf s) i (replyFor (x .shows)) (nodesOf (applied s (x .writes)))
-  unfolding nodesOf nodeOf arrows among
+  figure-way : (t : ℕ) {x : Effect} → Way s i t x → Figure1 (nodesOf s) i (x .shows) (nodesOf (applied s (x .writes)))
+  unfolding nodesOf rows arrows among
   figure-way t (call-shared e) = takes 0 0 1 (omega arith) e refl refl (λ j k. tt)
   figure-way t (call-exclusive e) = takes 5 0 9 (omega arith) e refl refl (λ j k. tt)
   figure-way t (raise-busy e) = inl (stays 1 2 e refl, refl)
@@ -136,29 +141,15 @@ module _ (s : Table) (z : Sound s) (i : ℕ) (l : i < s .threads) where
 -- ---- the theorem
 
 -- on the record
-pub figure-on : (s : Table) (r : Request) → refusalOn s r ≡ 0 → Figure1 (nodesOf s) (r .thread) (replyFor (effect s r .shows)) (nodesOf (applied s (effect s r .writes)))
-figure-on s r e = let a = accepted-e s r e in figure-way s (sound-e s (a .is-sound)) (r .thread) (a .thread-fits) (r .target) (way s r a)
+pub figure-on : (s : Table) (r : Request) → T (accepts s r) → Figure1 (nodesOf s) (r .thread) (effect s r .shows) (nodesOf (applied s (effect s r .writes)))
+figure-on s r t = let a = accepted-e s r t in figure-way s (sound-e s (a .is-sound)) (r .thread) (a .thread-fits) (r .target) (way s r a)
 
-pub figure-1 : (bytes : List ℕ) (r : Request) → T (accepts bytes r) → Figure1 (nodesOf (tableOf bytes)) (r .thread) (moveReply bytes r) (nodesOf (tableOf (moveTable bytes r)))
+pub figure-1 : (bytes : List ℕ) (r : Request) → T (acceptsIn byteTable bytes r) → OutsideView bytes r
 figure-1 bytes r t =
-    subst (λ (x : Reply). Figure1 (nodesOf (tableOf bytes)) (r .thread) x (nodesOf (tableOf (moveTable bytes r)))) (sym (accepted-reply bytes r t))
-    (subst (λ (s : Table). Figure1 (nodesOf (tableOf bytes)) (r .thread) (replyFor (effect (tableOf bytes) r .shows)) (nodesOf s)) (sym (accepted-table bytes r t))
-    (figure-on (tableOf bytes) r (accepts-e bytes r t .1)))
-
-length-nodes : (s : Table) → length (nodesOf s) ≡ s .threads
-unfolding nodesOf
-length-nodes s = length-listOf (s .threads) (λ j. nodeOf (s .phase j))
-
-unrefused : (bytes out : List ℕ) → SoundBytes bytes → tableOf bytes .threads ≤ length out → nodesRefusal bytes out ≡ 0
-unfolding nodesRefusal
-unrefused bytes out z room =
+    let a = accepts-e byteTable bytes r t in
     let s = tableOf bytes in
-    passes _ _ (z .is-sized)
-    (passes _ _ (z .is-sound)
-    (passes _ _ (le→leb (length (nodesOf s)) (length out) (subst (λ (n : ℕ). n ≤ length out) (sym (length-nodes s)) room)) none))
-
--- `nodesOf` is what the `nodes` entry writes, where the output has room
-pub nodes-written : (bytes out : List ℕ) → SoundBytes bytes → tableOf bytes .threads ≤ length out → nodesOutput bytes out ≡ filled out (nodesOf (tableOf bytes))
-unfolding nodesOutput
-nodes-written bytes out z room =
-    cond-yes (eqb (nodesRefusal bytes out) 0) (filled out (nodesOf (tableOf bytes))) out (eq-T (nodesRefusal bytes out) 0 (unrefused bytes out z room))
+    record {
+      seen = effect s r .shows;
+      reply = accepted-reply byteTable bytes r t;
+      moves = subst (λ (x : Table). Figure1 (nodesOf s) (r .thread) (effect s r .shows) (nodesOf x)) (sym (accepted-table byteTable byte-keeps bytes r t)) (figure-on s r (a .1));
+    }

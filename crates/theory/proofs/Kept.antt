@@ -1,39 +1,48 @@
 -- Every accepted move of the record leaves a sound table (`kept-sound`), and writes only to threads below N (`writes-fit`).
--- One lemma serves the moves of a thread outside phases 10 to 16 that stays outside (`outside-sound`); the holder's moves are shown stage by stage. Assumes nothing.
+-- One lemma serves the moves of a thread that is not the holder and stays so (`outside-sound`); the holder's moves are shown stage by stage.
 use Prim.Native.Nat.{ℕ, zero, suc, _≤_, _<_}
 use native.Mathlib.Omega.{arith}
-use mathlib.Core.Path.{_≡_, refl, sym, subst, ap, _∙_}
-use mathlib.Core.Logic.{_⊎_, inl, inr, ⊎-elim}
-use mathlib.Core.Bool.{Bool, cond, not, _||_}
+use mathlib.Core.Bool.{Bool, not, _||_}
 use mathlib.Core.List.{[], _∷_}
+use mathlib.Core.Logic.{_⊎_, inl, inr, ⊎-elim}
+use mathlib.Core.Path.{_≡_, refl, sym, subst, ap, _∙_}
 use lib.Dec.{T, eqb, eqb→eq}
+use Rattle.definitions.specs.Answers.{leaves}
 use Rattle.definitions.specs.Bounds.{lastPhase, noTarget}
-use Rattle.definitions.specs.Threads.{every, among, between, implies}
-use Rattle.definitions.specs.Table.{Table, mutex≔, target≔, phase≔, busy≔, forbidden≔}
-use Rattle.definitions.specs.Sound.{sound, busyIn}
-use Rattle.definitions.specs.Moves.{Request, Effect, effect, allForbidden, noneForbiddenBut}
-use Rattle.theory.proofs.Tests.{T-ne, decided, no-both, or-e, or-l, or-r, same?, cond-yes, cond-no, eq-T, implies-e}
+use Rattle.definitions.specs.Moves.{Effect, effect, allForbidden, noneForbiddenBut, stepReply, step, accepts}
+use Rattle.definitions.specs.Phases.{Row, rows, busyIn, holds, reading}
+use Rattle.definitions.specs.Sound.{sound}
+use Rattle.definitions.specs.Table.{Table, mutex≔, target≔, phase≔, busy≔, forbidden≔, update, applied}
+use Rattle.definitions.specs.Threads.{every, between, implies}
+use Rattle.definitions.specs.declared.Request.{Request}
+use Rattle.theory.specs.Tables.{WritesFit}
+use Rattle.theory.proofs.Cases.{no-row}
 use Rattle.theory.proofs.Quantifiers.{every-at, not-every}
-use Rattle.theory.proofs.Views.{update, applied, update-same, update-other, WritesFit, refusalOn, stepOn}
-use Rattle.theory.proofs.Ways.{Way, way, accepted-e, call-shared, call-exclusive, raise-busy, find-open, find-forbidden, back-off, try-again, enter-shared, leave-shared, lower-busy, return-shared, take-mutex, find-busy, last-flag, next-flag, give-up, enter-exclusive, leave-exclusive, release-mutex, return-exclusive, set-flag, set-again, clear-last, clear-flag, relents}
-use Rattle.theory.proofs.Soundness.{All, In, Sound, sound-e, sound-i}
-use Rattle.theory.proofs.Stages.{between-e, widen, Fits, Stage, held-sound, nobody-sound, stage-10, stage-11, stage-13, stage-15, stage-16}
+use Rattle.theory.proofs.Replies.{leaves-yes, leaves-no}
+use Rattle.theory.proofs.Soundness.{All, In, Holds, Reads, Sound, sound-e, sound-i}
+use Rattle.theory.proofs.Stages.{range-holds, Fits, Stage, held-sound, nobody-sound, stage-10, stage-11, stage-13, stage-15, stage-16}
+use Rattle.theory.proofs.Tests.{T-ne, decided, no-both, or-e, or-l, or-r, same?, eq-T, implies-e, below?}
+use Rattle.theory.proofs.Ways.{Way, way, accepted-e}
+use Rattle.theory.proofs.Ways.{call-shared, raise-busy, find-open, find-forbidden, back-off, try-again, enter-shared, leave-shared, lower-busy, return-shared}
+use Rattle.theory.proofs.Ways.{call-exclusive, take-mutex, set-flag, find-busy, last-flag, next-flag, relents, give-up, enter-exclusive, leave-exclusive}
+use Rattle.theory.proofs.Ways.{set-again, clear-flag, clear-last, release-mutex, return-exclusive}
+use Rattle.theory.proofs.Writes.{update-same, update-other}
 
 -- ---- columns
 
 -- g is f, but v at i
-pub record Put (f : ℕ → ℕ) (i v : ℕ) (g : ℕ → ℕ) : Type 0 where
+pub record Column (f : ℕ → ℕ) (i v : ℕ) (g : ℕ → ℕ) : Type 0 where
   pub here : g i ≡ v
   pub others : (j : ℕ) → (j ≡ i → ⊥) → g j ≡ f j
 
-pub put : (f : ℕ → ℕ) (i v : ℕ) → Put f i v (update f i v)
+pub put : (f : ℕ → ℕ) (i v : ℕ) → Column f i v (update f i v)
 put f i v = record { here = update-same f i v i refl; others = update-other f i v }
 
-pub keep : (f : ℕ → ℕ) (i v : ℕ) → f i ≡ v → Put f i v f
+pub keep : (f : ℕ → ℕ) (i v : ℕ) → f i ≡ v → Column f i v f
 keep f i v e = record { here = e; others = λ j h. refl }
 
 -- what holds of v and of the other entries holds of all
-put-all : (P : ℕ → ℕ → Type 0) (f g : ℕ → ℕ) (i v : ℕ) → Put f i v g → P i v → (j : ℕ) → P j (f j) → P j (g j)
+put-all : (P : ℕ → ℕ → Type 0) (f g : ℕ → ℕ) (i v : ℕ) → Column f i v g → P i v → (j : ℕ) → P j (f j) → P j (g j)
 put-all P f g i v w here j rest = by (same? j i)
   where
     by : (j ≡ i) ⊎ (j ≡ i → ⊥) → P j (g j)
@@ -41,7 +50,7 @@ put-all P f g i v w here j rest = by (same? j i)
     by (inr h) = subst (λ (x : ℕ). P j x) (sym (w .others j h)) rest
 
 -- an entry of g with a property that v lacks is an entry of f
-put-back : (P : ℕ → Type 0) (f g : ℕ → ℕ) (i v : ℕ) → Put f i v g → (P v → ⊥) → (j : ℕ) → P (g j) → (j ≡ i → ⊥) × P (f j)
+put-back : (P : ℕ → Type 0) (f g : ℕ → ℕ) (i v : ℕ) → Column f i v g → (P v → ⊥) → (j : ℕ) → P (g j) → (j ≡ i → ⊥) × P (f j)
 put-back P f g i v w lacks j t = by (same? j i)
   where
     by : (j ≡ i) ⊎ (j ≡ i → ⊥) → (j ≡ i → ⊥) × P (f j)
@@ -60,28 +69,29 @@ bit-1 zero k h = absurd (h refl)
 bit-1 (suc zero) k h = refl
 bit-1 (suc (suc x)) k h = absurd (omega arith)
 
--- "busy is 1" in phases 5 to 7, by trying the phases below 18
-reading-busy : (q : ℕ) → T (between 5 7 q) → T (busyIn q)
-unfolding every among
-reading-busy q t =
-    let f : ℕ → Bool = λ x. implies (between 5 7 x) (busyIn x) in
-    implies-e (between 5 7 q) (busyIn q) (every-at f 8 tt q (let r = between-e 5 7 q t in omega arith)) t
+-- "busy is 1" in phases 5 to 7, by trying the phases
+reading-busy : (q : ℕ) → q ≤ lastPhase → T (reading q) → busyIn q ≡ 1
+unfolding rows every
+reading-busy q l t =
+    eqb→eq (busyIn q) 1
+    (implies-e (reading q) (eqb (busyIn q) 1) (every-at (λ x. implies (reading x) (eqb (busyIn x) 1)) (suc lastPhase) tt q (omega arith)) t)
+
+-- a holder's number is a phase: another number has no row
+holder-phase : (q : ℕ) → T (holds q) → q ≤ lastPhase
+holder-phase q t = ⊎-elim (λ l. omega arith) (λ l. absurd (subst (λ (row : Row). T (row .holder)) (no-row q l) t)) (below? (suc lastPhase) q)
 
 -- ---- the tables after a move
-
--- the busy of a thread in a phase
-abbrev busyFor : ℕ → ℕ
-busyFor p = cond (busyIn p) 1 0
 
 abbrev after : Table → ℕ → ℕ → (ℕ → ℕ) → (ℕ → ℕ) → (ℕ → ℕ) → Table
 after s m g φ β F = record { threads = s .threads; mutex = m; target = g; phase = φ; busy = β; forbidden = F }
 
 module _ (s : Table) (z : Sound s) (i : ℕ) (l : i < s .threads) where
   -- the mover's busy follows its phase
-  busy-at : (p : ℕ) → s .phase i ≡ p → s .busy i ≡ busyFor p
-  busy-at p e = z .busies i l ∙ ap busyFor e
+  busy-at : (p : ℕ) → s .phase i ≡ p → s .busy i ≡ busyIn p
+  busy-at p e = z .busies i l ∙ ap busyIn e
 
-  fits-after : (v b m g : ℕ) (φ β F : ℕ → ℕ) → v ≤ lastPhase → b ≡ busyFor v → Put (s .phase) i v φ → Put (s .busy) i b β → All s (λ j. F j ≤ 1) → Fits (after s m g φ β F)
+  fits-after : (v b m g : ℕ) (φ β F : ℕ → ℕ) → v ≤ lastPhase → b ≡ busyIn v → Column (s .phase) i v φ → Column (s .busy) i b β → All s (λ j. F j ≤ 1)
+      → Fits (after s m g φ β F)
   fits-after v b m g φ β F fit e wφ wβ flags =
       record {
         phases = λ j k. put-all (λ x p. p ≤ lastPhase) (s .phase) φ i v wφ fit j (z .phases j k);
@@ -89,36 +99,37 @@ module _ (s : Table) (z : Sound s) (i : ℕ) (l : i < s .threads) where
         busies = λ j k. by j k (same? j i);
       }
     where
-      by : (j : ℕ) → j < s .threads → (j ≡ i) ⊎ (j ≡ i → ⊥) → β j ≡ busyFor (φ j)
-      by j k (inl q) = ap β q ∙ (wβ .here ∙ (e ∙ ap busyFor (sym (ap φ q ∙ wφ .here))))
-      by j k (inr h) = wβ .others j h ∙ (z .busies j k ∙ ap busyFor (sym (wφ .others j h)))
+      by : (j : ℕ) → j < s .threads → (j ≡ i) ⊎ (j ≡ i → ⊥) → β j ≡ busyIn (φ j)
+      by j k (inl q) = ap β q ∙ (wβ .here ∙ (e ∙ ap busyIn (sym (ap φ q ∙ wφ .here))))
+      by j k (inr h) = wβ .others j h ∙ (z .busies j k ∙ ap busyIn (sym (wφ .others j h)))
 
-  -- ---- a thread that stays outside 10 to 16
+  -- ---- a thread that is not the holder and stays so
 
-  module _ (p v : ℕ) (φ : ℕ → ℕ) (e : s .phase i ≡ p) (w : Put (s .phase) i v φ) (np : T (not (between 10 16 p))) (nv : T (not (between 10 16 v))) where
-    -- the threads in phases a to b, of 10 to 16, are the same
-    back : (a b : ℕ) → 10 ≤ a → b ≤ 16 → (x : ℕ) → T (between a b (φ x)) → In a b s x
-    back a b low high x t =
-        put-back (λ q. T (between a b q)) (s .phase) φ i v w (λ u. no-both (between 10 16 v) (widen 10 16 a b v low high u) nv) x t .1
+  module _ (p v : ℕ) (φ : ℕ → ℕ) (e : s .phase i ≡ p) (w : Column (s .phase) i v φ) (np : T (not (holds p))) (nv : T (not (holds v))) where
+    -- the threads in phases that only the holder can be in are the same
+    module _ (f : ℕ → Bool) (only : (q : ℕ) → T (f q) → T (holds q)) where
+      back : (x : ℕ) → T (f (φ x)) → T (f (s .phase x))
+      back x t = put-back (λ q. T (f q)) (s .phase) φ i v w (λ u. no-both (holds v) (only v u) nv) x t .1
 
-    forth : (a b : ℕ) → 10 ≤ a → b ≤ 16 → ((x : ℕ) → x < s .threads → T (between a b (φ x)) → ⊥) → All s (λ x. In a b s x → ⊥)
-    forth a b low high none x k t = by (same? x i)
-      where
-        by : (x ≡ i) ⊎ (x ≡ i → ⊥) → ⊥
-        by (inl q) = no-both (between 10 16 p) (widen 10 16 a b p low high (subst (λ (y : ℕ). T (between a b y)) (ap (s .phase) q ∙ e) t)) np
-        by (inr h) = none x k (subst (λ (y : ℕ). T (between a b y)) (sym (w .others x h)) t)
+      forth : ((x : ℕ) → x < s .threads → T (f (φ x)) → ⊥) → All s (λ x. T (f (s .phase x)) → ⊥)
+      forth none x k t = by (same? x i)
+        where
+          by : (x ≡ i) ⊎ (x ≡ i → ⊥) → ⊥
+          by (inl q) = no-both (holds p) (only p (subst (λ (y : ℕ). T (f y)) (ap (s .phase) q ∙ e) t)) np
+          by (inr h) = none x k (subst (λ (y : ℕ). T (f y)) (sym (w .others x h)) t)
 
     -- a thread in 5 to 7 was there before, or its forbidden is 0
-    read : (T (between 5 7 v) → T (between 5 7 p) ⊎ (s .forbidden i ≡ 0)) → (j : ℕ) → T (between 5 7 (φ j)) → In 5 7 s j ⊎ (s .forbidden j ≡ 0)
+    read : (T (reading v) → T (reading p) ⊎ (s .forbidden i ≡ 0)) → (j : ℕ) → T (reading (φ j)) → Reads s j ⊎ (s .forbidden j ≡ 0)
     read reads j t = by (same? j i)
       where
-        by : (j ≡ i) ⊎ (j ≡ i → ⊥) → In 5 7 s j ⊎ (s .forbidden j ≡ 0)
+        by : (j ≡ i) ⊎ (j ≡ i → ⊥) → Reads s j ⊎ (s .forbidden j ≡ 0)
         by (inl q) =
-            ⊎-elim (λ u. inl (subst (λ (y : ℕ). T (between 5 7 y)) (sym (ap (s .phase) q ∙ e)) u)) (λ f. inr (ap (s .forbidden) q ∙ f))
-            (reads (subst (λ (y : ℕ). T (between 5 7 y)) (ap φ q ∙ w .here) t))
-        by (inr h) = inl (subst (λ (y : ℕ). T (between 5 7 y)) (w .others j h) t)
+            ⊎-elim (λ u. inl (subst (λ (y : ℕ). T (reading y)) (sym (ap (s .phase) q ∙ e)) u)) (λ f. inr (ap (s .forbidden) q ∙ f))
+            (reads (subst (λ (y : ℕ). T (reading y)) (ap φ q ∙ w .here) t))
+        by (inr h) = inl (subst (λ (y : ℕ). T (reading y)) (w .others j h) t)
 
-    outside-sound : (b : ℕ) (β : ℕ → ℕ) → (T (between 5 7 v) → T (between 5 7 p) ⊎ (s .forbidden i ≡ 0)) → v ≤ lastPhase → b ≡ busyFor v → Put (s .busy) i b β → T (sound (after s (s .mutex) (s .target) φ β (s .forbidden)))
+    outside-sound : (b : ℕ) (β : ℕ → ℕ) → (T (reading v) → T (reading p) ⊎ (s .forbidden i ≡ 0)) → v ≤ lastPhase → b ≡ busyIn v → Column (s .busy) i b β
+        → T (sound (after s (s .mutex) (s .target) φ β (s .forbidden)))
     outside-sound b β reads fit eb wβ =
         let fits = fits-after v b (s .mutex) (s .target) φ β (s .forbidden) fit eb w wβ (z .flags) in
         sound-i (after s (s .mutex) (s .target) φ β (s .forbidden))
@@ -126,49 +137,52 @@ module _ (s : Table) (z : Sound s) (i : ℕ) (l : i < s .threads) where
           phases = fits .phases;
           flags = fits .flags;
           busies = fits .busies;
-          one-holder = λ x k y m t u. z .one-holder x k y m (back 10 16 (omega arith) (omega arith) x t) (back 10 16 (omega arith) (omega arith) y u);
-          held = λ x k t. z .held x k (back 10 16 (omega arith) (omega arith) x t);
-          free = λ none. z .free (forth 10 16 (omega arith) (omega arith) none);
-          has-target = λ x k t. z .has-target x k (back 11 12 (omega arith) (omega arith) x t);
-          no-target = λ none. z .no-target (forth 11 12 (omega arith) (omega arith) none);
-          open-free = λ none. z .open-free (forth 10 16 (omega arith) (omega arith) none);
-          open-16 = λ x k t. z .open-16 x k (back 16 16 (omega arith) (omega arith) x t);
-          some-clear = λ x k t. z .some-clear x k (back 10 10 (omega arith) (omega arith) x t);
-          guarded-10 = λ x k t j n f r. ⊎-elim (z .guarded-10 x k (back 10 10 (omega arith) (omega arith) x t) j n f) (λ c. clear j c f) (read reads j r);
-          guarded-11 = λ x k t j n h f r. ⊎-elim (z .guarded-11 x k (back 11 12 (omega arith) (omega arith) x t) j n h f) (λ c. clear j c f) (read reads j r);
-          all-forbidden = λ x k t. z .all-forbidden x k (back 13 14 (omega arith) (omega arith) x t);
-          no-reader = λ x k t j n r. ⊎-elim (z .no-reader x k (back 13 14 (omega arith) (omega arith) x t) j n) (λ c. clear j c (z .all-forbidden x k (back 13 14 (omega arith) (omega arith) x t) j n)) (read reads j r);
-          some-forbidden = λ x k t. z .some-forbidden x k (back 15 15 (omega arith) (omega arith) x t);
+          one-holder = λ x k y m t u. z .one-holder x k y m (back holds (λ q u. u) x t) (back holds (λ q u. u) y u);
+          held = λ x k t. z .held x k (back holds (λ q u. u) x t);
+          free = λ none. z .free (forth holds (λ q u. u) none);
+          has-target = λ x k t. z .has-target x k (back (between 11 12) (range-holds 11 12 (omega arith) (omega arith)) x t);
+          no-target = λ none. z .no-target (forth (between 11 12) (range-holds 11 12 (omega arith) (omega arith)) none);
+          open-free = λ none. z .open-free (forth holds (λ q u. u) none);
+          open-16 = λ x k t. z .open-16 x k (back (between 16 16) (range-holds 16 16 (omega arith) (omega arith)) x t);
+          some-clear = λ x k t. z .some-clear x k (back (between 10 10) (range-holds 10 10 (omega arith) (omega arith)) x t);
+          guarded-10 = λ x k t j n f r. ⊎-elim (z .guarded-10 x k (back (between 10 10) (range-holds 10 10 (omega arith) (omega arith)) x t) j n f) (λ c. clear j c f) (read reads j r);
+          guarded-11 = λ x k t j n h f r. ⊎-elim (z .guarded-11 x k (back (between 11 12) (range-holds 11 12 (omega arith) (omega arith)) x t) j n h f) (λ c. clear j c f) (read reads j r);
+          all-forbidden = λ x k t. z .all-forbidden x k (back (between 13 14) (range-holds 13 14 (omega arith) (omega arith)) x t);
+          no-reader = λ x k t j n r.
+              let stage = back (between 13 14) (range-holds 13 14 (omega arith) (omega arith)) x t in
+              ⊎-elim (z .no-reader x k stage j n) (λ c. clear j c (z .all-forbidden x k stage j n)) (read reads j r);
+          some-forbidden = λ x k t. z .some-forbidden x k (back (between 15 15) (range-holds 15 15 (omega arith) (omega arith)) x t);
         }
       where
         clear : (j : ℕ) → s .forbidden j ≡ 0 → s .forbidden j ≡ 1 → ⊥
         clear j a b = omega arith
 
   -- one that writes its phase alone, and one that writes its busy too
-  phase-moves : (p v : ℕ) → s .phase i ≡ p → T (not (between 10 16 p)) → T (not (between 10 16 v)) → (T (between 5 7 v) → T (between 5 7 p) ⊎ (s .forbidden i ≡ 0)) → v ≤ lastPhase
-      → busyFor p ≡ busyFor v → T (sound (applied s (phase≔ i v ∷ [])))
+  phase-moves : (p v : ℕ) → s .phase i ≡ p → T (not (holds p)) → T (not (holds v)) → (T (reading v) → T (reading p) ⊎ (s .forbidden i ≡ 0)) → v ≤ lastPhase
+      → busyIn p ≡ busyIn v → T (sound (applied s (phase≔ i v ∷ [])))
   phase-moves p v e np nv reads fit eb =
       outside-sound p v (update (s .phase) i v) e (put (s .phase) i v) np nv (s .busy i) (s .busy) reads fit (busy-at p e ∙ eb) (keep (s .busy) i (s .busy i) refl)
 
-  busy-moves : (p v b : ℕ) → s .phase i ≡ p → T (not (between 10 16 p)) → T (not (between 10 16 v)) → (T (between 5 7 v) → T (between 5 7 p) ⊎ (s .forbidden i ≡ 0)) → v ≤ lastPhase
-      → b ≡ busyFor v → T (sound (applied s (phase≔ i v ∷ busy≔ i b ∷ [])))
+  busy-moves : (p v b : ℕ) → s .phase i ≡ p → T (not (holds p)) → T (not (holds v)) → (T (reading v) → T (reading p) ⊎ (s .forbidden i ≡ 0)) → v ≤ lastPhase
+      → b ≡ busyIn v → T (sound (applied s (phase≔ i v ∷ busy≔ i b ∷ [])))
   busy-moves p v b e np nv reads fit eb =
       outside-sound p v (update (s .phase) i v) e (put (s .phase) i v) np nv b (update (s .busy) i b) reads fit eb (put (s .busy) i b)
 
   -- ---- the holder's moves
 
-  -- thread i, alone in 10 to 16 if anyone is, goes to phase v of them
-  goes-to : (p v m g : ℕ) (φ F : ℕ → ℕ) → s .phase i ≡ p → All s (λ j. In 10 16 s j → j ≡ i) → Put (s .phase) i v φ → T (between 10 16 v) → busyFor p ≡ busyFor v → m ≡ 1 → All s (λ j. F j ≤ 1)
+  -- thread i, the holder if anyone is, goes to a phase v of the holder
+  goes-to : (p v m g : ℕ) (φ F : ℕ → ℕ) → s .phase i ≡ p → All s (λ j. Holds s j → j ≡ i) → Column (s .phase) i v φ
+      → T (holds v) → busyIn p ≡ busyIn v → m ≡ 1 → All s (λ j. F j ≤ 1)
       → Stage (after s m g φ (s .busy) F) v → T (sound (after s m g φ (s .busy) F))
   goes-to p v m g φ F e alone w t eb em flags stage =
       held-sound (after s m g φ (s .busy) F) i v
       record { is-thread = l; phase-is = w .here; holding = t; alone = λ j k u. by j k u (same? j i); locked = em }
-      (fits-after v (s .busy i) m g φ (s .busy) F (let x = between-e 10 16 v t in omega arith) (busy-at p e ∙ eb) w (keep (s .busy) i (s .busy i) refl) flags)
+      (fits-after v (s .busy i) m g φ (s .busy) F (holder-phase v t) (busy-at p e ∙ eb) w (keep (s .busy) i (s .busy i) refl) flags)
       stage
     where
-      by : (j : ℕ) → j < s .threads → T (between 10 16 (φ j)) → (j ≡ i) ⊎ (j ≡ i → ⊥) → j ≡ i
+      by : (j : ℕ) → j < s .threads → T (holds (φ j)) → (j ≡ i) ⊎ (j ≡ i → ⊥) → j ≡ i
       by j k u (inl q) = q
-      by j k u (inr h) = alone j k (subst (λ (y : ℕ). T (between 10 16 y)) (w .others j h) u)
+      by j k u (inr h) = alone j k (subst (λ (y : ℕ). T (holds y)) (w .others j h) u)
 
   -- writing a flag keeps the flags 0 or 1
   flags-after : (t v : ℕ) → v ≤ 1 → All s (λ j. update (s .forbidden) t v j ≤ 1)
@@ -176,112 +190,124 @@ module _ (s : Table) (z : Sound s) (i : ℕ) (l : i < s .threads) where
       put-all (λ x f. f ≤ 1) (s .forbidden) (update (s .forbidden) t v) t v (put (s .forbidden) t v) fit j (z .flags j k)
 
   -- a thread in 5 to 7 was there before
-  read-before : (v : ℕ) → T (not (between 5 7 v)) → (j : ℕ) → T (between 5 7 (update (s .phase) i v j)) → In 5 7 s j
+  read-before : (v : ℕ) → T (not (reading v)) → (j : ℕ) → T (reading (update (s .phase) i v j)) → Reads s j
   read-before v nv j t =
-      put-back (λ q. T (between 5 7 q)) (s .phase) (update (s .phase) i v) i v (put (s .phase) i v) (λ u. no-both (between 5 7 v) u nv) j t .1
+      put-back (λ q. T (reading q)) (s .phase) (update (s .phase) i v) i v (put (s .phase) i v) (λ u. no-both (reading v) u nv) j t .1
 
-  module _ (p : ℕ) (e : s .phase i ≡ p) (hp : T (between 10 16 p)) where
+  module _ (p : ℕ) (e : s .phase i ≡ p) (hp : T (holds p)) where
     in-phase : (a b : ℕ) → T (between a b p) → In a b s i
     in-phase a b t = subst (λ (y : ℕ). T (between a b y)) (sym e) t
 
-    holder-alone : All s (λ j. In 10 16 s j → j ≡ i)
-    holder-alone j k u = z .one-holder j k i l u (in-phase 10 16 hp)
+    at-mutex : Holds s i
+    at-mutex = subst (λ (y : ℕ). T (holds y)) (sym e) hp
+
+    holder-alone : All s (λ j. Holds s j → j ≡ i)
+    holder-alone j k u = z .one-holder j k i l u at-mutex
 
     holder-locked : s .mutex ≡ 1
-    holder-locked = z .held i l (in-phase 10 16 hp)
+    holder-locked = z .held i l at-mutex
 
     -- outside 11 and 12 there is no target
     idle-target : T (not (between 11 12 p)) → s .target ≡ noTarget
     idle-target np =
-        z .no-target (λ j k t. no-both (between 11 12 p) (subst (λ (y : ℕ). T (between 11 12 y)) (ap (s .phase) (holder-alone j k (widen 10 16 11 12 (s .phase j) (omega arith) (omega arith) t)) ∙ e) t) np)
+        z .no-target (λ j k t.
+        let own = holder-alone j k (range-holds 11 12 (omega arith) (omega arith) (s .phase j) t) in
+        no-both (between 11 12 p) (subst (λ (y : ℕ). T (between 11 12 y)) (ap (s .phase) own ∙ e) t) np)
 
     -- the holder's move that writes phase v, a column of flags and the target
-    holds-on : (v g : ℕ) (φ F : ℕ → ℕ) → Put (s .phase) i v φ → T (between 10 16 v) → busyFor p ≡ busyFor v → All s (λ j. F j ≤ 1)
+    holds-on : (v g : ℕ) (φ F : ℕ → ℕ) → Column (s .phase) i v φ → T (holds v) → busyIn p ≡ busyIn v → All s (λ j. F j ≤ 1)
         → Stage (after s (s .mutex) g φ (s .busy) F) v → T (sound (after s (s .mutex) g φ (s .busy) F))
     holds-on v g φ F w t eb flags stage = goes-to p v (s .mutex) g φ F e holder-alone w t eb holder-locked flags stage
 
   -- the target's busy isn't 1: then no thread with forbidden 1 is in 5 to 7
-  pub settled : s .phase i ≡ 11 → (s .busy (s .target) ≡ 1 → ⊥) → All s (λ j. s .forbidden j ≡ 1 → In 5 7 s j → ⊥)
+  pub settled : s .phase i ≡ 11 → (s .busy (s .target) ≡ 1 → ⊥) → All s (λ j. s .forbidden j ≡ 1 → Reads s j → ⊥)
+  unfolding rows
   settled e quiet j k f r = by (same? j (s .target))
     where
       by : (j ≡ s .target) ⊎ (j ≡ s .target → ⊥) → ⊥
-      by (inl q) = quiet (ap (s .busy) (sym q) ∙ (z .busies j k ∙ cond-yes (busyIn (s .phase j)) 1 0 (reading-busy (s .phase j) r)))
+      by (inl q) = quiet (ap (s .busy) (sym q) ∙ (z .busies j k ∙ reading-busy (s .phase j) (z .phases j k) r))
       by (inr h) = z .guarded-11 i l (in-phase 11 e tt 11 12 tt) j k h f r
 
   takes-mutex : s .phase i ≡ 9 → (s .mutex ≡ 1 → ⊥) → T (sound (applied s (phase≔ i 10 ∷ mutex≔ 1 ∷ [])))
-  unfolding among
+  unfolding rows
   takes-mutex e f =
-      let none : All s (λ j. In 10 16 s j → ⊥) = λ j k u. f (z .held j k u) in
+      let none : All s (λ j. Holds s j → ⊥) = λ j k u. f (z .held j k u) in
       let clear = z .open-free none in
       let s′ = applied s (phase≔ i 10 ∷ mutex≔ 1 ∷ []) in
       goes-to 9 10 1 (s .target) (update (s .phase) i 10) (s .forbidden) e (λ j k u. absurd (none j k u)) (put (s .phase) i 10) tt refl refl (z .flags)
-      (stage-10 s′ (z .no-target (λ j k u. none j k (widen 10 16 11 12 (s .phase j) (omega arith) (omega arith) u))) (i, l, clear i l) (λ j k o r. let c = clear j k in omega arith))
+      (stage-10 s′ (z .no-target (λ j k u. none j k (range-holds 11 12 (omega arith) (omega arith) (s .phase j) u))) (i, l, clear i l) (λ j k o r. let c = clear j k in omega arith))
 
   to-12 : s .phase i ≡ 11 → T (sound (applied s (phase≔ i 12 ∷ [])))
-  unfolding among
+  unfolding rows
   to-12 e =
       let r = z .has-target i l (in-phase 11 e tt 11 12 tt) in
       holds-on 11 e tt 12 (s .target) (update (s .phase) i 12) (s .forbidden) (put (s .phase) i 12) tt refl (z .flags)
       (stage-11 (applied s (phase≔ i 12 ∷ [])) 12 tt (r .0) (r .1) (λ j k h f u. z .guarded-11 i l (in-phase 11 e tt 11 12 tt) j k h f (read-before 12 tt j u)))
 
   to-13 : s .phase i ≡ 11 → (s .busy (s .target) ≡ 1 → ⊥) → T (allForbidden s) → T (sound (applied s (phase≔ i 13 ∷ target≔ noTarget ∷ [])))
-  unfolding among
+  unfolding rows
   to-13 e quiet a =
       let one : All s (λ j. s .forbidden j ≡ 1) = λ j k. eqb→eq (s .forbidden j) 1 (every-at (λ x. eqb (s .forbidden x) 1) (s .threads) a j k) in
       holds-on 11 e tt 13 noTarget (update (s .phase) i 13) (s .forbidden) (put (s .phase) i 13) tt refl (z .flags)
       (stage-13 (applied s (phase≔ i 13 ∷ target≔ noTarget ∷ [])) 13 tt refl one (λ j k u. settled e quiet j k (one j k) (read-before 13 tt j u)))
 
   to-10 : s .phase i ≡ 11 → (s .busy (s .target) ≡ 1 → ⊥) → T (not (allForbidden s)) → T (sound (applied s (phase≔ i 10 ∷ target≔ noTarget ∷ [])))
-  unfolding among
+  unfolding rows
   to-10 e quiet a =
       let r = not-every (λ x. eqb (s .forbidden x) 1) (s .threads) a in
       holds-on 11 e tt 10 noTarget (update (s .phase) i 10) (s .forbidden) (put (s .phase) i 10) tt refl (z .flags)
-      (stage-10 (applied s (phase≔ i 10 ∷ target≔ noTarget ∷ [])) refl (r .0, r .1, bit-0 (s .forbidden (r .0)) (z .flags (r .0) (r .1)) (T-ne (s .forbidden (r .0)) 1 (r .2))) (λ j k f u. settled e quiet j k f (read-before 10 tt j u)))
+      (stage-10 (applied s (phase≔ i 10 ∷ target≔ noTarget ∷ [])) refl
+      (r .0, r .1, bit-0 (s .forbidden (r .0)) (z .flags (r .0) (r .1)) (T-ne (s .forbidden (r .0)) 1 (r .2)))
+      (λ j k f u. settled e quiet j k f (read-before 10 tt j u)))
 
   gives-up : s .phase i ≡ 12 → T (sound (applied s (phase≔ i 10 ∷ forbidden≔ (s .target) 0 ∷ target≔ noTarget ∷ [])))
-  unfolding among
+  unfolding rows
   gives-up e =
       let r = z .has-target i l (in-phase 12 e tt 11 12 tt) in
       let w = put (s .forbidden) (s .target) 0 in
       holds-on 12 e tt 10 noTarget (update (s .phase) i 10) (update (s .forbidden) (s .target) 0) (put (s .phase) i 10) tt refl (flags-after (s .target) 0 (omega arith))
       (stage-10 (applied s (phase≔ i 10 ∷ forbidden≔ (s .target) 0 ∷ target≔ noTarget ∷ [])) refl (s .target, r .0, w .here)
-      (λ j k f u. let b = put-back (λ x. x ≡ 1) (s .forbidden) (update (s .forbidden) (s .target) 0) (s .target) 0 w (λ o. omega arith) j f in z .guarded-11 i l (in-phase 12 e tt 11 12 tt) j k (b .0) (b .1) (read-before 10 tt j u)))
+      (λ j k f u.
+      let b = put-back (λ x. x ≡ 1) (s .forbidden) (update (s .forbidden) (s .target) 0) (s .target) 0 w (λ o. omega arith) j f in
+      z .guarded-11 i l (in-phase 12 e tt 11 12 tt) j k (b .0) (b .1) (read-before 10 tt j u)))
 
   to-14 : s .phase i ≡ 13 → T (sound (applied s (phase≔ i 14 ∷ [])))
-  unfolding among
+  unfolding rows
   to-14 e =
       let at = in-phase 13 e tt 13 14 tt in
       holds-on 13 e tt 14 (s .target) (update (s .phase) i 14) (s .forbidden) (put (s .phase) i 14) tt refl (z .flags)
       (stage-13 (applied s (phase≔ i 14 ∷ [])) 14 tt (idle-target 13 e tt tt) (z .all-forbidden i l at) (λ j k u. z .no-reader i l at j k (read-before 14 tt j u)))
 
   to-15 : s .phase i ≡ 14 → T (sound (applied s (phase≔ i 15 ∷ [])))
-  unfolding among
+  unfolding rows
   to-15 e =
       holds-on 14 e tt 15 (s .target) (update (s .phase) i 15) (s .forbidden) (put (s .phase) i 15) tt refl (z .flags)
       (stage-15 (applied s (phase≔ i 15 ∷ [])) (idle-target 14 e tt tt) (i, l, z .all-forbidden i l (in-phase 14 e tt 13 14 tt) i l))
 
   releases : s .phase i ≡ 16 → T (sound (applied s (phase≔ i 17 ∷ mutex≔ 0 ∷ [])))
-  unfolding among
+  unfolding rows
   releases e =
       nobody-sound (applied s (phase≔ i 17 ∷ mutex≔ 0 ∷ []))
       (fits-after 17 (s .busy i) 0 (s .target) (update (s .phase) i 17) (s .busy) (s .forbidden) (omega arith) (busy-at 16 e) (put (s .phase) i 17) (keep (s .busy) i (s .busy i) refl) (z .flags))
-      (λ j k u. let b = put-back (λ q. T (between 10 16 q)) (s .phase) (update (s .phase) i 17) i 17 (put (s .phase) i 17) (λ o. o) j u in b .0 (holder-alone 16 e tt j k (b .1)))
+      (λ j k u. let b = put-back (λ q. T (holds q)) (s .phase) (update (s .phase) i 17) i 17 (put (s .phase) i 17) (λ o. o) j u in b .0 (holder-alone 16 e tt j k (b .1)))
       refl (idle-target 16 e tt tt) (z .open-16 i l (in-phase 16 e tt 16 16 tt))
 
   sets : (t : ℕ) → s .phase i ≡ 10 → t < s .threads → T (sound (applied s (phase≔ i 11 ∷ forbidden≔ t 1 ∷ target≔ t ∷ [])))
-  unfolding among
+  unfolding rows
   sets t e f =
       let w = put (s .forbidden) t 1 in
       holds-on 10 e tt 11 t (update (s .phase) i 11) (update (s .forbidden) t 1) (put (s .phase) i 11) tt refl (flags-after t 1 (omega arith))
-      (stage-11 (applied s (phase≔ i 11 ∷ forbidden≔ t 1 ∷ target≔ t ∷ [])) 11 tt f (w .here) (λ j k h o u. z .guarded-10 i l (in-phase 10 e tt 10 10 tt) j k (sym (w .others j h) ∙ o) (read-before 11 tt j u)))
+      (stage-11 (applied s (phase≔ i 11 ∷ forbidden≔ t 1 ∷ target≔ t ∷ [])) 11 tt f (w .here)
+      (λ j k h o u. z .guarded-10 i l (in-phase 10 e tt 10 10 tt) j k (sym (w .others j h) ∙ o) (read-before 11 tt j u)))
 
   sets-again : (t : ℕ) → s .phase i ≡ 15 → t < s .threads → T (sound (applied s (forbidden≔ t 1 ∷ [])))
+  unfolding rows
   sets-again t e f =
       holds-on 15 e tt 15 (s .target) (s .phase) (update (s .forbidden) t 1) (keep (s .phase) i 15 e) tt refl (flags-after t 1 (omega arith))
       (stage-15 (applied s (forbidden≔ t 1 ∷ [])) (idle-target 15 e tt tt) (t, f, put (s .forbidden) t 1 .here))
 
   clears-last : (t : ℕ) → s .phase i ≡ 15 → t < s .threads → T (noneForbiddenBut t s) → T (sound (applied s (forbidden≔ t 0 ∷ phase≔ i 16 ∷ [])))
-  unfolding among
+  unfolding rows
   clears-last t e f a =
       holds-on 15 e tt 16 (s .target) (update (s .phase) i 16) (update (s .forbidden) t 0) (put (s .phase) i 16) tt refl (flags-after t 0 (omega arith))
       (stage-16 (applied s (forbidden≔ t 0 ∷ phase≔ i 16 ∷ [])) (idle-target 15 e tt tt) (λ j k. clear j k (same? j t)))
@@ -294,6 +320,7 @@ module _ (s : Table) (z : Sound s) (i : ℕ) (l : i < s .threads) where
           (or-e (eqb j t) (eqb (s .forbidden j) 0) (every-at (λ x. eqb x t || eqb (s .forbidden x) 0) (s .threads) a j k))
 
   clears : (t : ℕ) → s .phase i ≡ 15 → t < s .threads → T (not (noneForbiddenBut t s)) → T (sound (applied s (forbidden≔ t 0 ∷ [])))
+  unfolding rows
   clears t e f a =
       let r = not-every (λ x. eqb x t || eqb (s .forbidden x) 0) (s .threads) a in
       let j = r .0 in
@@ -305,7 +332,7 @@ module _ (s : Table) (z : Sound s) (i : ℕ) (l : i < s .threads) where
   -- ---- the ways
 
   kept : (t : ℕ) {x : Effect} → Way s i t x → T (sound (applied s (x .writes)))
-  unfolding among
+  unfolding rows
   kept t (call-shared e) = phase-moves 0 1 e tt tt (λ r. absurd r) (omega arith) refl
   kept t (call-exclusive e) = phase-moves 0 9 e tt tt (λ r. absurd r) (omega arith) refl
   kept t (raise-busy e) = busy-moves 1 2 1 e tt tt (λ r. absurd r) (omega arith) refl
@@ -332,21 +359,21 @@ module _ (s : Table) (z : Sound s) (i : ℕ) (l : i < s .threads) where
   kept t (clear-last e f a) = clears-last t e f a
   kept t (clear-flag e f a) = clears t e f a
 
-pub kept-sound : (s : Table) (r : Request) → refusalOn s r ≡ 0 → T (sound (applied s (effect s r .writes)))
+pub kept-sound : (s : Table) (r : Request) → T (accepts s r) → T (sound (applied s (effect s r .writes)))
 kept-sound s r e = let a = accepted-e s r e in kept s (sound-e s (a .is-sound)) (r .thread) (a .thread-fits) (r .target) (way s r a)
 
-pub step-sound : (s : Table) (r : Request) → T (sound s) → T (sound (stepOn s r))
-unfolding stepOn
-step-sound s r z = by (decided (eqb (refusalOn s r) 0))
+pub step-sound : (s : Table) (r : Request) → T (sound s) → T (sound (step s r))
+unfolding step
+step-sound s r z = by (decided (accepts s r))
   where
-    by : T (eqb (refusalOn s r) 0) ⊎ T (not (eqb (refusalOn s r) 0)) → T (sound (cond (eqb (refusalOn s r) 0) (applied s (effect s r .writes)) s))
-    by (inl t) =
-        subst (λ (x : Table). T (sound x)) (sym (cond-yes (eqb (refusalOn s r) 0) (applied s (effect s r .writes)) s t)) (kept-sound s r (eqb→eq (refusalOn s r) 0 t))
-    by (inr t) = subst (λ (x : Table). T (sound x)) (sym (cond-no (eqb (refusalOn s r) 0) (applied s (effect s r .writes)) s t)) z
+    by : T (accepts s r) ⊎ T (not (accepts s r)) → T (sound (leaves (stepReply s r) (applied s (effect s r .writes)) s))
+    by (inl t) = subst (λ (x : Table). T (sound x)) (sym (leaves-yes (applied s (effect s r .writes)) s (stepReply s r) t)) (kept-sound s r t)
+    by (inr t) = subst (λ (x : Table). T (sound x)) (sym (leaves-no (applied s (effect s r .writes)) s (stepReply s r) t)) z
 
 -- ---- where a move writes
 
 fit-ways : (s : Table) → Sound s → (i : ℕ) → i < s .threads → (t : ℕ) {x : Effect} → Way s i t x → WritesFit (s .threads) (x .writes)
+unfolding rows
 fit-ways s z i l t (call-shared e) = (l, tt)
 fit-ways s z i l t (call-exclusive e) = (l, tt)
 fit-ways s z i l t (raise-busy e) = (l, (l, tt))
@@ -373,5 +400,5 @@ fit-ways s z i l t (clear-last e f a) = (f, (l, tt))
 fit-ways s z i l t (clear-flag e f a) = (f, tt)
 fit-ways s z i l t (relents e) = (l, tt)
 
-pub writes-fit : (s : Table) (r : Request) → refusalOn s r ≡ 0 → WritesFit (s .threads) (effect s r .writes)
+pub writes-fit : (s : Table) (r : Request) → T (accepts s r) → WritesFit (s .threads) (effect s r .writes)
 writes-fit s r e = let a = accepted-e s r e in fit-ways s (sound-e s (a .is-sound)) (r .thread) (a .thread-fits) (r .target) (way s r a)

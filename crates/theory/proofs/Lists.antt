@@ -1,20 +1,19 @@
 -- Laws of `listOf`, the list of one entry for each thread below n: its length, its entries, one entry written, and what `anyIn` says of it; and a list from an index on. For every n.
--- Assumes nothing.
 use Prim.Native.Nat.{ℕ, zero, suc, _+_, _-_, _<_}
-use native.Mathlib.Omega.{arith}
 use native.Mathlib.Nat.{not-suc-le-zero}
 use native.Mathlib.Numerals.{add-one}
-use mathlib.Core.Path.{_≡_, refl, sym, subst, ap, _∙_}
-use mathlib.Core.Logic.{_⊎_, inl, inr, ⊎-elim}
+use native.Mathlib.Omega.{arith}
 use mathlib.Core.Bool.{not, _||_}
 use mathlib.Core.List.{List, [], _∷_, _++_}
+use mathlib.Core.Logic.{_⊎_, inl, inr, ⊎-elim}
+use mathlib.Core.Path.{_≡_, refl, sym, subst, ap, _∙_}
 use lib.Dec.{T}
 use lib.ListN.{length, getD, set, take, drop, length-append, length-set, length-drop, List·getD-append}
 use lib.Seq.{getD-at, getD-set-same, getD-set-other, ext-getD, take-all}
-use Rattle.definitions.specs.Threads.{listOf, among}
 use Rattle.definitions.specs.Nodes.{anyIn}
-use Rattle.theory.proofs.Tests.{or-e, no-both, not-i, same?}
+use Rattle.definitions.specs.Threads.{listOf, among}
 use Rattle.theory.proofs.Quantifiers.{below-suc}
+use Rattle.theory.proofs.Tests.{or-e, no-both, not-i, same?}
 
 pub length-listOf {ℓ} : {A : Type ℓ} (n : ℕ) (f : ℕ → A) → length (listOf n f) ≡ n
 unfolding listOf

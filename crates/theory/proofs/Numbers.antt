@@ -1,13 +1,12 @@
 -- Numbers as they are printed, for every n: by their last digit, and how many digits they take.
--- Assumes nothing.
 use Prim.Native.Nat.{ℕ, zero, suc, _+_, _*_, _/_, _%_, _≤_, _<_}
 use native.Mathlib.Omega.{arith}
-use mathlib.Core.Path.{_≡_, sym, ap, _∙_}
-use mathlib.Core.Logic.{_⊎_, inl, inr, ⊎-elim}
 use mathlib.Core.List.{List, [], _∷_, _++_}
+use mathlib.Core.Logic.{_⊎_, inl, inr, ⊎-elim}
+use mathlib.Core.Path.{_≡_, sym, ap, _∙_}
 use borrow.Author.Tests.{lt-ltb, le-ltb}
 use lib.ListN.{length, length-append}
-use Rattle.definitions.specs.Script.{decimalWithin, decimal}
+use Rattle.definitions.specs.Texts.{decimalWithin, decimal}
 use Rattle.theory.proofs.Tests.{below?}
 
 -- ---- the last digit

@@ -1,33 +1,28 @@
--- The theorem on open moves: the list holds exactly the moves that a request would have accepted. It is a list of pairs, move then target, and a pair stands in it if and only if the move accepts that request.
--- For every table, and every thread, move and target (any numbers). Assumes nothing.
-use Prim.Native.Nat.{ℕ, zero, suc, _+_, _*_, _<_}
+-- The theorem on open moves: the list holds exactly the moves that a request would have accepted.
+-- It is a list of pairs, move then target, and a pair stands in it if and only if the move accepts that request; it has at most 4N bytes.
+-- For every table, and every thread, move and target (any numbers).
+use Prim.Native.Nat.{ℕ, zero, suc, _+_, _*_, _≤_, _<_}
+use native.Mathlib.Nat.{not-suc-le-zero, mul-le-mul-left}
 use native.Mathlib.Omega.{arith}
-use native.Mathlib.Nat.{not-suc-le-zero}
-use mathlib.Core.Path.{_≡_, refl, sym, subst, ap, _∙_, fun-ext}
-use mathlib.Core.Logic.{⊎-elim, _↔_}
-use mathlib.Core.Bool.{Bool, true, false, cond, _||_}
+use mathlib.Core.Bool.{Bool, true, false, cond, not}
 use mathlib.Core.List.{List, [], _∷_, _++_, List·Memᴰ, List·Memᴰ·head, List·Memᴰ·tail, List·Memᴰ·not-nil, List·Memᴰ·append-cases, List·Memᴰ·eq-of-singleton, Memᴰ·append-left, Memᴰ·append-right}
-use lib.Dec.{T, eqb, ltb, eqb→eq, ltb→lt}
+use mathlib.Core.Logic.{_⊎_, inl, inr, ⊎-elim, _↔_}
+use mathlib.Core.Path.{_≡_, refl, sym, subst, ap, _∙_, fun-ext}
+use lib.Dec.{T, leb, eqb, ltb, leb→le, eqb→eq, ltb→lt}
 use lib.ListN.{length, getD}
-use Rattle.definitions.specs.Bounds.{lastMove}
-use Rattle.definitions.specs.Threads.{gather}
-use Rattle.definitions.specs.Table.{Table, tableOf}
-use Rattle.definitions.specs.Moves.{Request, accepts, setMove, clearMove}
+use Rattle.definitions.specs.Bounds.{lastPhase, lastMove}
+use Rattle.definitions.specs.Moves.{ask, namesThread, accepts}
 use Rattle.definitions.specs.OpenMoves.{openMoves}
-use Rattle.theory.proofs.Quantifiers.{below-suc}
+use Rattle.definitions.specs.Phases.{Row, rows, hasMove}
+use Rattle.definitions.specs.Table.{Table}
+use Rattle.definitions.specs.Threads.{every, howMany, gather, among}
+use Rattle.definitions.specs.declared.Request.{Request}
+use Rattle.theory.specs.Statements.{StandsAt, Stands}
+use Rattle.theory.proofs.Cases.{no-row}
+use Rattle.theory.proofs.Lengths.{gather-most, gather-counted}
+use Rattle.theory.proofs.Quantifiers.{below-suc, every-at}
+use Rattle.theory.proofs.Tests.{T-true, T-false, decided, no-both, cond-either, below?}
 use Rattle.theory.proofs.Ways.{Accepted, accepted-e}
-use Rattle.theory.proofs.Steps.{accepts-e}
-
--- ---- the statement's words
-
--- the pair of move and target stands at places 2k and 2k + 1 of a list
-pub record StandsAt (bytes : List ℕ) (move target k : ℕ) : Type 0 where
-  pub within : 2 * k + 1 < length bytes
-  pub move-is : getD bytes (2 * k) 0 ≡ move
-  pub target-is : getD bytes (2 * k + 1) 0 ≡ target
-
-abbrev pub Stands : List ℕ → ℕ → ℕ → Type 0
-Stands bytes move target = (k : ℕ) × StandsAt bytes move target k
 
 -- ---- lists of pairs and their bytes
 
@@ -114,7 +109,7 @@ flat-cond false c = refl
 
 -- the target of an accepted request is below N
 target-below : (s : Table) (r : Request) → Accepted s r → r .target < s .threads
-target-below s r a = by (eqb (r .move) setMove || eqb (r .move) clearMove) (a .target-fits)
+target-below s r a = by (namesThread (r .mv)) (a .target-fits)
   where
     by : (b : Bool) → T (cond b (ltb (r .target) (s .threads)) (eqb (r .target) 0)) → r .target < s .threads
     by true t = ltb→lt (r .target) (s .threads) t
@@ -122,50 +117,88 @@ target-below s r a = by (eqb (r .move) setMove || eqb (r .move) clearMove) (a .t
 
 -- ---- the open moves as choices
 
-module _ (bytes : List ℕ) (thread : ℕ) where
-  abbrev asked : ℕ → ℕ → Request
-  asked m t = record { thread = thread; move = m; target = t }
-
+module _ (s : Table) (thread : ℕ) where
   abbrev choicesAt : ℕ → ℕ → List Choice
-  choicesAt m t = cond (accepts bytes (asked m t)) (choice m t ∷ []) []
+  choicesAt m t = cond (accepts s (ask thread m t)) (choice m t ∷ []) []
 
   abbrev choicesOf : ℕ → List Choice
-  choicesOf m = gather (tableOf bytes .threads) (choicesAt m)
+  choicesOf m = gather (s .threads) (choicesAt m)
 
   abbrev choices : List Choice
   choices = gather (suc lastMove) choicesOf
 
-  open-flat : openMoves bytes thread ≡ flat choices
+  open-flat : openMoves s thread ≡ flat choices
   unfolding openMoves
   open-flat =
       sym (flat-gather (suc lastMove) choicesOf
-      ∙ ap (gather (suc lastMove)) (fun-ext (λ m. flat-gather (tableOf bytes .threads) (choicesAt m)
-      ∙ ap (gather (tableOf bytes .threads)) (fun-ext (λ t. flat-cond (accepts bytes (asked m t)) (choice m t))))))
+      ∙ ap (gather (suc lastMove)) (fun-ext (λ m. flat-gather (s .threads) (choicesAt m)
+      ∙ ap (gather (s .threads)) (fun-ext (λ t. flat-cond (accepts s (ask thread m t)) (choice m t))))))
 
   -- ---- the theorem
 
-  pub open-exact : (move target : ℕ) → Stands (openMoves bytes thread) move target ↔ T (accepts bytes (record { thread = thread; move = move; target = target }))
+  pub open-exact : (mv target : ℕ) → Stands (openMoves s thread) mv target ↔ T (accepts s (ask thread mv target))
   open-exact m t = (only, complete)
     where
-      found : (j : ℕ) × (j < suc lastMove) × List·Memᴰ (choice m t) (choicesOf j) → T (accepts bytes (asked m t))
+      found : (j : ℕ) × (j < suc lastMove) × List·Memᴰ (choice m t) (choicesOf j) → T (accepts s (ask thread m t))
       found h =
-          let g = gather-member (choice m t) (choicesAt (h .0)) (tableOf bytes .threads) (h .2) in
-          let c = cond-member (accepts bytes (asked (h .0) (g .0))) (choice m t) (choice (h .0) (g .0)) (g .2) in
-          subst (λ (x : Choice). T (accepts bytes (asked (x .move) (x .target)))) (sym (c .1)) (c .0)
+          let g = gather-member (choice m t) (choicesAt (h .0)) (s .threads) (h .2) in
+          let c = cond-member (accepts s (ask thread (h .0) (g .0))) (choice m t) (choice (h .0) (g .0)) (g .2) in
+          subst (λ (x : Choice). T (accepts s (ask thread (x .move) (x .target)))) (sym (c .1)) (c .0)
 
-      only : Stands (openMoves bytes thread) m t → T (accepts bytes (asked m t))
+      only : Stands (openMoves s thread) m t → T (accepts s (ask thread m t))
       only h =
           let k : Stands (flat choices) m t = subst (λ (l : List ℕ). Stands l m t) open-flat h in
           found (gather-member (choice m t) choicesOf (suc lastMove) (stands-member choices m t (k .0) (k .1)))
 
-      complete : T (accepts bytes (asked m t)) → Stands (openMoves bytes thread) m t
+      complete : T (accepts s (ask thread m t)) → Stands (openMoves s thread) m t
       complete u =
-          let a = accepted-e (tableOf bytes) (asked m t) (accepts-e bytes (asked m t) u .1) in
+          let a = accepted-e s (ask thread m t) u in
           let below : m < suc lastMove = let f = a .move-fits in omega arith in
           subst (λ (l : List ℕ). Stands l m t) (sym open-flat)
           (member-stands m t (member-gather (choice m t) choicesOf (suc lastMove) m below
-          (member-gather (choice m t) (choicesAt m) (tableOf bytes .threads) t (target-below (tableOf bytes) (asked m t) a) (member-cond (accepts bytes (asked m t)) (choice m t) u))))
+          (member-gather (choice m t) (choicesAt m) (s .threads) t (target-below s (ask thread m t) a) (member-cond (accepts s (ask thread m t)) (choice m t) u))))
 
   -- the list is made of pairs
-  pub open-paired : (n : ℕ) × (length (openMoves bytes thread) ≡ 2 * n)
+  pub open-paired : (n : ℕ) × (length (openMoves s thread) ≡ 2 * n)
   open-paired = (length choices, ap length open-flat ∙ flat-length choices)
+
+  -- ---- how long it is
+
+  -- no phase has more than two moves, by trying the phases; another number has none
+  two-moves : howMany (suc lastMove) (λ mv. hasMove mv (s .phase thread)) ≤ 2
+  unfolding rows every howMany among
+  two-moves =
+      ⊎-elim
+      (λ l. leb→le (howMany (suc lastMove) (λ mv. hasMove mv (s .phase thread))) 2
+      (every-at (λ p. leb (howMany (suc lastMove) (λ mv. hasMove mv p)) 2) (suc lastPhase) tt (s .phase thread) l))
+      (λ l. subst (λ (row : Row). howMany (suc lastMove) (λ mv. among mv (row .moves)) ≤ 2) (sym (no-row (s .phase thread) l)) (omega arith))
+      (below? (suc lastPhase) (s .phase thread))
+
+  -- the pairs of one move
+  abbrev pairsOf : ℕ → List ℕ
+  pairsOf mv = gather (s .threads) (λ t. cond (accepts s (ask thread mv t)) (mv ∷ t ∷ []) [])
+
+  -- a move that the phase has is open with at most every thread, another with none
+  move-short : (mv : ℕ) → length (pairsOf mv) ≤ cond (hasMove mv (s .phase thread)) (2 * s .threads) 0
+  move-short mv = by (decided (hasMove mv (s .phase thread)))
+    where
+      pair : ℕ → List ℕ
+      pair t = cond (accepts s (ask thread mv t)) (mv ∷ t ∷ []) []
+
+      two : (t : ℕ) → length (pair t) ≤ 2
+      two t = cond-either (λ (l : List ℕ). length l ≤ 2) (accepts s (ask thread mv t)) (mv ∷ t ∷ []) [] (λ u. omega arith) (λ u. omega arith)
+
+      none : T (not (hasMove mv (s .phase thread))) → (t : ℕ) → length (pair t) ≤ 0
+      none h t =
+          cond-either (λ (l : List ℕ). length l ≤ 0) (accepts s (ask thread mv t)) (mv ∷ t ∷ []) []
+          (λ u. absurd (no-both (hasMove mv (s .phase thread)) (accepted-e s (ask thread mv t) u .has-move) h)) (λ u. omega arith)
+
+      by : T (hasMove mv (s .phase thread)) ⊎ T (not (hasMove mv (s .phase thread))) → length (gather (s .threads) pair) ≤ cond (hasMove mv (s .phase thread)) (2 * s .threads) 0
+      by (inl t) = rw (T-true (hasMove mv (s .phase thread)) t) (omega (arith, gather-most pair 2 (s .threads) two))
+      by (inr t) = rw (T-false (hasMove mv (s .phase thread)) t) (omega (arith, gather-most pair 0 (s .threads) (none t)))
+
+  -- 4N bytes suffice for the open moves of a thread
+  pub open-short : length (openMoves s thread) ≤ 4 * s .threads
+  unfolding openMoves
+  open-short =
+      omega (arith, gather-counted pairsOf (2 * s .threads) (λ mv. hasMove mv (s .phase thread)) (suc lastMove) move-short, mul-le-mul-left (2 * s .threads) two-moves)

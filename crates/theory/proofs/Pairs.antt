@@ -1,8 +1,8 @@
--- The pairs of a history's bytes, from a pair on. Assumes nothing.
+-- The pairs of a history's bytes, from a pair on.
 use Prim.Native.Nat.{ℕ, suc, _+_, _*_, _/_, _≤_, _<_}
 use native.Mathlib.Omega.{arith}
-use mathlib.Core.Path.{_≡_, refl}
 use mathlib.Core.List.{List, [], _∷_}
+use mathlib.Core.Path.{_≡_, refl}
 use lib.ListN.{length, getD, drop, length-drop}
 use lib.Seq.{drop-cons}
 use Rattle.definitions.specs.PlainLock.{Pair, pairsOf}

@@ -1,14 +1,13 @@
 -- Laws of `every`, `some`, `howMany` and `first` over the threads below n: what they say of each thread, how to show them, and how a count changes with one thread. For every n.
--- Assumes nothing.
 use Prim.Native.Nat.{ℕ, zero, suc, _+_, _≤_, _<_}
-use native.Mathlib.Omega.{arith}
 use native.Mathlib.Nat.{add-zero, not-suc-le-zero, le-of-suc-le-suc}
 use native.Mathlib.Numerals.{add-one}
-use mathlib.Core.Path.{_≡_, refl, sym, subst, ap, _∙_}
-use mathlib.Core.Logic.{_⊎_, inl, inr, ⊎-elim}
+use native.Mathlib.Omega.{arith}
 use mathlib.Core.Bool.{Bool, true, false, cond, not, _&&_, _||_}
+use mathlib.Core.Logic.{_⊎_, inl, inr, ⊎-elim}
+use mathlib.Core.Path.{_≡_, refl, sym, subst, ap, _∙_}
 use lib.Dec.{T, eqb, eqb·suc-zero}
-use Rattle.definitions.specs.Threads.{every, some, howMany, first}
+use Rattle.definitions.specs.Threads.{every, some, howMany}
 use Rattle.theory.proofs.Tests.{and-l, and-r, and-i, or-e, or-l, or-r, T-true, T-false, decided, no-both, not-i}
 
 -- below suc n: below n, or n itself
@@ -122,16 +121,6 @@ module _ (f : ℕ → Bool) where
           let z = howMany-none n (λ i l. not-i (f i) (λ u. let e = h i n (omega arith) (omega arith) u t in absurd (omega arith))) in
           rw (z, T-true (f n) t) (omega arith)
       go rec (inr t) = rw (T-false (f n) t) (omega arith)
-
-  pub first-most : (n : ℕ) → first n f ≤ n
-  unfolding first
-  first-most zero = omega arith
-  first-most (suc n) = choose (some n f) (f n) (first-most n)
-    where
-      choose : (a b : Bool) → first n f ≤ n → cond a (first n f) (cond b n (suc n)) ≤ suc n
-      choose true b h = omega arith
-      choose false true h = omega arith
-      choose false false h = omega arith
 
 module _ (f g : ℕ → Bool) where
   pub howMany-same : (n : ℕ) → ((i : ℕ) → i < n → f i ≡ g i) → howMany n f ≡ howMany n g

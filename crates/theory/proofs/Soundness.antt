@@ -1,18 +1,18 @@
--- Soundness as statements of all threads. `Sound` says what the rules say of a thread in a phase, and `sound-e`, `sound-i` go between it and the test `sound`; `Stage` says the same by the holder's phase, which is how a table is shown to be sound (`stage-sound`).
--- Assumes nothing.
-use Prim.Native.Nat.{ℕ, _≤_, _<_}
+-- Soundness as statements of all threads. `Sound` says what the rules say of a thread in a phase, and `sound-e`, `sound-i` go between it and the test `sound`.
+use Prim.Native.Nat.{ℕ, suc, _≤_, _<_}
 use native.Mathlib.Omega.{arith}
-use mathlib.Core.Path.{_≡_, sym, subst, _∙_}
-use mathlib.Core.Logic.{_⊎_, inl, inr, ⊎-elim}
-use mathlib.Core.Bool.{Bool, true, false, cond, not, _&&_, _||_}
+use mathlib.Core.Bool.{Bool, cond, not, _&&_, _||_}
 use mathlib.Core.List.{List, [], _∷_}
+use mathlib.Core.Logic.{_⊎_, inl, inr, ⊎-elim}
+use mathlib.Core.Path.{_≡_, sym, subst, _∙_}
 use lib.Dec.{T, leb, ltb, eqb, leb→le, le→leb, ltb→lt, lt→ltb, eqb→eq}
 use Rattle.definitions.specs.Bounds.{lastPhase, noTarget}
-use Rattle.definitions.specs.Threads.{every, some, howMany, between, allOf, implies}
+use Rattle.definitions.specs.Phases.{rows, busyIn, holds, reading}
+use Rattle.definitions.specs.Sound.{sound, anyHolder, holderIn, phaseRule, flagRule, busyRule, holderRule, mutexRule, targetRule, openRule, rule10, rule11, rule13, rule15}
 use Rattle.definitions.specs.Table.{Table}
-use Rattle.definitions.specs.Sound.{sound, holds, busyIn, reading, holderIn, phaseRule, flagRule, busyRule, holderRule, mutexRule, targetRule, openRule, rule10, rule11, rule13, rule15}
-use Rattle.theory.proofs.Tests.{and-l, and-r, and-i, or-e, or-l, or-r, decided, no-both, not-i, implies-e, implies-i, cond-yes, cond-no, eq-T, T-ne}
+use Rattle.definitions.specs.Threads.{every, some, howMany, between, allOf, implies}
 use Rattle.theory.proofs.Quantifiers.{every-at, every-i, some-i, some-e, at-most-one, one-at-most}
+use Rattle.theory.proofs.Tests.{and-l, and-r, and-i, or-e, or-l, or-r, decided, no-both, not-i, implies-e, implies-i, cond-yes, cond-no, eq-T, T-ne}
 
 -- of every thread of a table, and of some thread
 abbrev pub All : Table → (ℕ → Type 0) → Type 0
@@ -21,50 +21,61 @@ All s P = (j : ℕ) → j < s .threads → P j
 abbrev pub Some : Table → (ℕ → Type 0) → Type 0
 Some s P = (j : ℕ) × (j < s .threads) × P j
 
--- thread j is in phases a to b
+-- thread j is in phases a to b; it is the holder; it is in 5 to 7
 abbrev pub In : ℕ → ℕ → Table → ℕ → Type 0
 In a b s j = T (between a b (s .phase j))
+
+abbrev pub Holds : Table → ℕ → Type 0
+Holds s j = T (holds (s .phase j))
+
+abbrev pub Reads : Table → ℕ → Type 0
+Reads s j = T (reading (s .phase j))
 
 -- the rules, each of a thread in its phases: "the holder is in a to b" is that some thread is
 pub record Sound (s : Table) : Type 0 where
   pub phases : All s (λ j. s .phase j ≤ lastPhase)
   pub flags : All s (λ j. s .forbidden j ≤ 1)
-  pub busies : All s (λ j. s .busy j ≡ cond (busyIn (s .phase j)) 1 0)
-  pub one-holder : All s (λ i. All s (λ j. In 10 16 s i → In 10 16 s j → i ≡ j))
-  pub held : All s (λ i. In 10 16 s i → s .mutex ≡ 1)
-  pub free : All s (λ i. In 10 16 s i → ⊥) → s .mutex ≡ 0
+  pub busies : All s (λ j. s .busy j ≡ busyIn (s .phase j))
+  pub one-holder : All s (λ i. All s (λ j. Holds s i → Holds s j → i ≡ j))
+  pub held : All s (λ i. Holds s i → s .mutex ≡ 1)
+  pub free : All s (λ i. Holds s i → ⊥) → s .mutex ≡ 0
   pub has-target : All s (λ i. In 11 12 s i → (s .target < s .threads) × (s .forbidden (s .target) ≡ 1))
   pub no-target : All s (λ i. In 11 12 s i → ⊥) → s .target ≡ noTarget
-  pub open-free : All s (λ i. In 10 16 s i → ⊥) → All s (λ j. s .forbidden j ≡ 0)
+  pub open-free : All s (λ i. Holds s i → ⊥) → All s (λ j. s .forbidden j ≡ 0)
   pub open-16 : All s (λ i. In 16 16 s i → All s (λ j. s .forbidden j ≡ 0))
   pub some-clear : All s (λ i. In 10 10 s i → Some s (λ j. s .forbidden j ≡ 0))
-  pub guarded-10 : All s (λ i. In 10 10 s i → All s (λ j. s .forbidden j ≡ 1 → In 5 7 s j → ⊥))
-  pub guarded-11 : All s (λ i. In 11 12 s i → All s (λ j. (j ≡ s .target → ⊥) → s .forbidden j ≡ 1 → In 5 7 s j → ⊥))
+  pub guarded-10 : All s (λ i. In 10 10 s i → All s (λ j. s .forbidden j ≡ 1 → Reads s j → ⊥))
+  pub guarded-11 : All s (λ i. In 11 12 s i → All s (λ j. (j ≡ s .target → ⊥) → s .forbidden j ≡ 1 → Reads s j → ⊥))
   pub all-forbidden : All s (λ i. In 13 14 s i → All s (λ j. s .forbidden j ≡ 1))
-  pub no-reader : All s (λ i. In 13 14 s i → All s (λ j. In 5 7 s j → ⊥))
+  pub no-reader : All s (λ i. In 13 14 s i → All s (λ j. Reads s j → ⊥))
   pub some-forbidden : All s (λ i. In 15 15 s i → Some s (λ j. s .forbidden j ≡ 1))
 
 -- ---- rules of the form "the holder is in a to b", and tests of all threads
 
+module _ (s : Table) (f : ℕ → Bool) where
+  -- some thread is in a phase of which f holds
+  abbrev someone : Bool
+  someone = some (s .threads) (λ k. f (s .phase k))
+
+  in-some : (i : ℕ) → i < s .threads → T (f (s .phase i)) → T someone
+  in-some i l h = some-i (λ k. f (s .phase k)) (s .threads) i l h
+
+  some-in : T someone → Some s (λ i. T (f (s .phase i)))
+  some-in t = some-e (λ k. f (s .phase k)) (s .threads) t
+
+  in-none : All s (λ i. T (f (s .phase i)) → ⊥) → T (not someone)
+  in-none h = not-i someone (λ t. let r = some-in t in h (r .0) (r .1) (r .2))
+
+  none-in : T (not someone) → All s (λ i. T (f (s .phase i)) → ⊥)
+  none-in t i l h = no-both someone (in-some i l h) t
+
+  rule-e : (q : Bool) → T (implies someone q) → All s (λ i. T (f (s .phase i)) → T q)
+  rule-e q t i l h = implies-e someone q t (in-some i l h)
+
+  rule-i : (q : Bool) → All s (λ i. T (f (s .phase i)) → T q) → T (implies someone q)
+  rule-i q g = implies-i someone q (λ t. let r = some-in t in g (r .0) (r .1) (r .2))
+
 module _ (s : Table) where
-  in-some : (a b i : ℕ) → i < s .threads → In a b s i → T (holderIn a b s)
-  in-some a b i l h = some-i (λ k. between a b (s .phase k)) (s .threads) i l h
-
-  some-in : (a b : ℕ) → T (holderIn a b s) → Some s (In a b s)
-  some-in a b t = some-e (λ k. between a b (s .phase k)) (s .threads) t
-
-  in-none : (a b : ℕ) → All s (λ i. In a b s i → ⊥) → T (not (holderIn a b s))
-  in-none a b h = not-i (holderIn a b s) (λ t. let r = some-in a b t in h (r .0) (r .1) (r .2))
-
-  none-in : (a b : ℕ) → T (not (holderIn a b s)) → All s (λ i. In a b s i → ⊥)
-  none-in a b t i l h = no-both (holderIn a b s) (in-some a b i l h) t
-
-  rule-e : (a b : ℕ) (q : Bool) → T (implies (holderIn a b s) q) → All s (λ i. In a b s i → T q)
-  rule-e a b q t i l h = implies-e (holderIn a b s) q t (in-some a b i l h)
-
-  rule-i : (a b : ℕ) (q : Bool) → All s (λ i. In a b s i → T q) → T (implies (holderIn a b s) q)
-  rule-i a b q f = implies-i (holderIn a b s) q (λ t. let r = some-in a b t in f (r .0) (r .1) (r .2))
-
   -- every thread's number of a column is k
   column-e : (f : ℕ → ℕ) (k : ℕ) → T (every (s .threads) (λ j. eqb (f j) k)) → All s (λ j. f j ≡ k)
   column-e f k t j l = eqb→eq (f j) k (every-at (λ j. eqb (f j) k) (s .threads) t j l)
@@ -82,10 +93,10 @@ module _ (s : Table) where
 abbrev clash : Table → ℕ → Bool
 clash s j = eqb (s .forbidden j) 1 && reading (s .phase j)
 
-clash-e : (s : Table) (j : ℕ) → T (not (clash s j)) → s .forbidden j ≡ 1 → In 5 7 s j → ⊥
+clash-e : (s : Table) (j : ℕ) → T (not (clash s j)) → s .forbidden j ≡ 1 → Reads s j → ⊥
 clash-e s j t e h = no-both (clash s j) (and-i (eqb (s .forbidden j) 1) (reading (s .phase j)) (eq-T (s .forbidden j) 1 e) h) t
 
-clash-i : (s : Table) (j : ℕ) → (s .forbidden j ≡ 1 → In 5 7 s j → ⊥) → T (not (clash s j))
+clash-i : (s : Table) (j : ℕ) → (s .forbidden j ≡ 1 → Reads s j → ⊥) → T (not (clash s j))
 clash-i s j h =
     not-i (clash s j) (λ t. h (eqb→eq (s .forbidden j) 1 (and-l (eqb (s .forbidden j) 1) (reading (s .phase j)) t)) (and-r (eqb (s .forbidden j) 1) (reading (s .phase j)) t))
 
@@ -120,44 +131,44 @@ module _ (s : Table) where
       every-i (λ i. leb (s .busy i) 1 && leb (s .forbidden i) 1) (s .threads)
       (λ j l. and-i (leb (s .busy j) 1) (leb (s .forbidden j) 1) (le→leb (s .busy j) 1 (b j l)) (le→leb (s .forbidden j) 1 (f j l)))
 
-  busies-e : T (busyRule s) → All s (λ j. s .busy j ≡ cond (busyIn (s .phase j)) 1 0)
+  busies-e : T (busyRule s) → All s (λ j. s .busy j ≡ busyIn (s .phase j))
   unfolding busyRule
   busies-e t j l =
-      eqb→eq (s .busy j) (cond (busyIn (s .phase j)) 1 0) (every-at (λ i. eqb (s .busy i) (cond (busyIn (s .phase i)) 1 0)) (s .threads) t j l)
+      eqb→eq (s .busy j) (busyIn (s .phase j)) (every-at (λ i. eqb (s .busy i) (busyIn (s .phase i))) (s .threads) t j l)
 
-  busies-i : All s (λ j. s .busy j ≡ cond (busyIn (s .phase j)) 1 0) → T (busyRule s)
+  busies-i : All s (λ j. s .busy j ≡ busyIn (s .phase j)) → T (busyRule s)
   unfolding busyRule
   busies-i h =
-      every-i (λ i. eqb (s .busy i) (cond (busyIn (s .phase i)) 1 0)) (s .threads)
-      (λ j l. eq-T (s .busy j) (cond (busyIn (s .phase j)) 1 0) (h j l))
+      every-i (λ i. eqb (s .busy i) (busyIn (s .phase i))) (s .threads)
+      (λ j l. eq-T (s .busy j) (busyIn (s .phase j)) (h j l))
 
-  holder-e : T (holderRule s) → All s (λ i. All s (λ j. In 10 16 s i → In 10 16 s j → i ≡ j))
+  holder-e : T (holderRule s) → All s (λ i. All s (λ j. Holds s i → Holds s j → i ≡ j))
   unfolding holderRule
   holder-e t i k j l a b =
       let f : ℕ → Bool = λ i. holds (s .phase i) in
       at-most-one f (s .threads) (leb→le (howMany (s .threads) f) 1 t) i j k l a b
 
-  holder-i : All s (λ i. All s (λ j. In 10 16 s i → In 10 16 s j → i ≡ j)) → T (holderRule s)
+  holder-i : All s (λ i. All s (λ j. Holds s i → Holds s j → i ≡ j)) → T (holderRule s)
   unfolding holderRule
   holder-i h =
       let f : ℕ → Bool = λ i. holds (s .phase i) in
       le→leb (howMany (s .threads) f) 1 (one-at-most f (s .threads) (λ i j k l a b. h i k j l a b))
 
-  mutex-e : T (mutexRule s) → All s (λ i. In 10 16 s i → s .mutex ≡ 1) × (All s (λ i. In 10 16 s i → ⊥) → s .mutex ≡ 0)
+  mutex-e : T (mutexRule s) → All s (λ i. Holds s i → s .mutex ≡ 1) × (All s (λ i. Holds s i → ⊥) → s .mutex ≡ 0)
   unfolding mutexRule
   mutex-e t =
-      let e = eqb→eq (s .mutex) (cond (holderIn 10 16 s) 1 0) t in (
-        (λ i l h. e ∙ cond-yes (holderIn 10 16 s) 1 0 (in-some s 10 16 i l h)),
-        (λ h. e ∙ cond-no (holderIn 10 16 s) 1 0 (in-none s 10 16 h)),
+      let e = eqb→eq (s .mutex) (cond (anyHolder s) 1 0) t in (
+        (λ i l h. e ∙ cond-yes (anyHolder s) 1 0 (in-some s holds i l h)),
+        (λ h. e ∙ cond-no (anyHolder s) 1 0 (in-none s holds h)),
       )
 
-  mutex-i : All s (λ i. In 10 16 s i → s .mutex ≡ 1) → (All s (λ i. In 10 16 s i → ⊥) → s .mutex ≡ 0) → T (mutexRule s)
+  mutex-i : All s (λ i. Holds s i → s .mutex ≡ 1) → (All s (λ i. Holds s i → ⊥) → s .mutex ≡ 0) → T (mutexRule s)
   unfolding mutexRule
-  mutex-i f g = eq-T (s .mutex) (cond (holderIn 10 16 s) 1 0) (by (decided (holderIn 10 16 s)))
+  mutex-i f g = eq-T (s .mutex) (cond (anyHolder s) 1 0) (by (decided (anyHolder s)))
     where
-      by : T (holderIn 10 16 s) ⊎ T (not (holderIn 10 16 s)) → s .mutex ≡ cond (holderIn 10 16 s) 1 0
-      by (inl t) = let r = some-in s 10 16 t in f (r .0) (r .1) (r .2) ∙ sym (cond-yes (holderIn 10 16 s) 1 0 t)
-      by (inr t) = g (none-in s 10 16 t) ∙ sym (cond-no (holderIn 10 16 s) 1 0 t)
+      by : T (anyHolder s) ⊎ T (not (anyHolder s)) → s .mutex ≡ cond (anyHolder s) 1 0
+      by (inl t) = let r = some-in s holds t in f (r .0) (r .1) (r .2) ∙ sym (cond-yes (anyHolder s) 1 0 t)
+      by (inr t) = g (none-in s holds t) ∙ sym (cond-no (anyHolder s) 1 0 t)
 
   abbrev target-set : Bool
   target-set = ltb (s .target) (s .threads) && eqb (s .forbidden (s .target)) 1
@@ -169,8 +180,8 @@ module _ (s : Table) where
       → All s (λ i. In 11 12 s i → (s .target < s .threads) × (s .forbidden (s .target) ≡ 1)) × (All s (λ i. In 11 12 s i → ⊥) → s .target ≡ noTarget)
   unfolding targetRule
   target-e t = (
-    (λ i l h. taken (subst T (cond-yes (holderIn 11 12 s) target-set target-none (in-some s 11 12 i l h)) t)),
-    (λ h. eqb→eq (s .target) noTarget (subst T (cond-no (holderIn 11 12 s) target-set target-none (in-none s 11 12 h)) t)),
+    (λ i l h. taken (subst T (cond-yes (holderIn 11 12 s) target-set target-none (in-some s (between 11 12) i l h)) t)),
+    (λ h. eqb→eq (s .target) noTarget (subst T (cond-no (holderIn 11 12 s) target-set target-none (in-none s (between 11 12) h)) t)),
   )
     where
       taken : T target-set → (s .target < s .threads) × (s .forbidden (s .target) ≡ 1)
@@ -189,31 +200,31 @@ module _ (s : Table) where
 
       by : T (holderIn 11 12 s) ⊎ T (not (holderIn 11 12 s)) → T (cond (holderIn 11 12 s) target-set target-none)
       by (inl t) =
-          let r = some-in s 11 12 t in subst T (sym (cond-yes (holderIn 11 12 s) target-set target-none t)) (taken (f (r .0) (r .1) (r .2)))
+          let r = some-in s (between 11 12) t in subst T (sym (cond-yes (holderIn 11 12 s) target-set target-none t)) (taken (f (r .0) (r .1) (r .2)))
       by (inr t) =
-          subst T (sym (cond-no (holderIn 11 12 s) target-set target-none t)) (eq-T (s .target) noTarget (g (none-in s 11 12 t)))
+          subst T (sym (cond-no (holderIn 11 12 s) target-set target-none t)) (eq-T (s .target) noTarget (g (none-in s (between 11 12) t)))
 
   abbrev all-clear : Bool
   all-clear = every (s .threads) (λ i. eqb (s .forbidden i) 0)
 
-  open-e : T (openRule s) → (All s (λ i. In 10 16 s i → ⊥) → All s (λ j. s .forbidden j ≡ 0)) × All s (λ i. In 16 16 s i → All s (λ j. s .forbidden j ≡ 0))
+  open-e : T (openRule s) → (All s (λ i. Holds s i → ⊥) → All s (λ j. s .forbidden j ≡ 0)) × All s (λ i. In 16 16 s i → All s (λ j. s .forbidden j ≡ 0))
   unfolding openRule
   open-e t = (
-    (λ h. clear (or-l (not (holderIn 10 16 s)) (holderIn 16 16 s) (in-none s 10 16 h))),
-    (λ i l h. clear (or-r (not (holderIn 10 16 s)) (holderIn 16 16 s) (in-some s 16 16 i l h))),
+    (λ h. clear (or-l (not (anyHolder s)) (holderIn 16 16 s) (in-none s holds h))),
+    (λ i l h. clear (or-r (not (anyHolder s)) (holderIn 16 16 s) (in-some s (between 16 16) i l h))),
   )
     where
-      clear : T (not (holderIn 10 16 s) || holderIn 16 16 s) → All s (λ j. s .forbidden j ≡ 0)
-      clear u = column-e s (s .forbidden) 0 (implies-e (not (holderIn 10 16 s) || holderIn 16 16 s) all-clear t u)
+      clear : T (not (anyHolder s) || holderIn 16 16 s) → All s (λ j. s .forbidden j ≡ 0)
+      clear u = column-e s (s .forbidden) 0 (implies-e (not (anyHolder s) || holderIn 16 16 s) all-clear t u)
 
-  open-i : (All s (λ i. In 10 16 s i → ⊥) → All s (λ j. s .forbidden j ≡ 0)) → All s (λ i. In 16 16 s i → All s (λ j. s .forbidden j ≡ 0)) → T (openRule s)
+  open-i : (All s (λ i. Holds s i → ⊥) → All s (λ j. s .forbidden j ≡ 0)) → All s (λ i. In 16 16 s i → All s (λ j. s .forbidden j ≡ 0)) → T (openRule s)
   unfolding openRule
   open-i f g =
-      implies-i (not (holderIn 10 16 s) || holderIn 16 16 s) all-clear (λ u. column-i s (s .forbidden) 0 (by (or-e (not (holderIn 10 16 s)) (holderIn 16 16 s) u)))
+      implies-i (not (anyHolder s) || holderIn 16 16 s) all-clear (λ u. column-i s (s .forbidden) 0 (by (or-e (not (anyHolder s)) (holderIn 16 16 s) u)))
     where
-      by : T (not (holderIn 10 16 s)) ⊎ T (holderIn 16 16 s) → All s (λ j. s .forbidden j ≡ 0)
-      by (inl t) = f (none-in s 10 16 t)
-      by (inr t) = let r = some-in s 16 16 t in g (r .0) (r .1) (r .2)
+      by : T (not (anyHolder s)) ⊎ T (holderIn 16 16 s) → All s (λ j. s .forbidden j ≡ 0)
+      by (inl t) = f (none-in s holds t)
+      by (inr t) = let r = some-in s (between 16 16) t in g (r .0) (r .1) (r .2)
 
   abbrev some-0 : Bool
   some-0 = some (s .threads) (λ i. eqb (s .forbidden i) 0)
@@ -221,34 +232,37 @@ module _ (s : Table) where
   abbrev no-clash : Bool
   no-clash = every (s .threads) (λ i. not (clash s i))
 
-  rule10-e : T (rule10 s) → All s (λ i. In 10 10 s i → Some s (λ j. s .forbidden j ≡ 0) × All s (λ j. s .forbidden j ≡ 1 → In 5 7 s j → ⊥))
+  rule10-e : T (rule10 s) → All s (λ i. In 10 10 s i → Some s (λ j. s .forbidden j ≡ 0) × All s (λ j. s .forbidden j ≡ 1 → Reads s j → ⊥))
   unfolding rule10
   rule10-e t i l h =
-      let u = rule-e s 10 10 (some-0 && no-clash) t i l h in (
+      let u = rule-e s (between 10 10) (some-0 && no-clash) t i l h in (
         some-column-e s (s .forbidden) 0 (and-l some-0 no-clash u),
         (λ j k. clash-e s j (every-at (λ i. not (clash s i)) (s .threads) (and-r some-0 no-clash u) j k)),
       )
 
-  rule10-i : All s (λ i. In 10 10 s i → Some s (λ j. s .forbidden j ≡ 0)) → All s (λ i. In 10 10 s i → All s (λ j. s .forbidden j ≡ 1 → In 5 7 s j → ⊥)) → T (rule10 s)
+  rule10-i : All s (λ i. In 10 10 s i → Some s (λ j. s .forbidden j ≡ 0)) → All s (λ i. In 10 10 s i → All s (λ j. s .forbidden j ≡ 1 → Reads s j → ⊥)) → T (rule10 s)
   unfolding rule10
   rule10-i f g =
-      rule-i s 10 10 (some-0 && no-clash)
+      rule-i s (between 10 10) (some-0 && no-clash)
       (λ i l h. and-i some-0 no-clash (some-column-i s (s .forbidden) 0 (f i l h)) (every-i (λ i. not (clash s i)) (s .threads) (λ j k. clash-i s j (g i l h j k))))
 
   abbrev clash-but : ℕ → Bool
   clash-but j = eqb j (s .target) || not (clash s j)
 
-  rule11-e : T (rule11 s) → All s (λ i. In 11 12 s i → All s (λ j. (j ≡ s .target → ⊥) → s .forbidden j ≡ 1 → In 5 7 s j → ⊥))
+  rule11-e : T (rule11 s) → All s (λ i. In 11 12 s i → All s (λ j. (j ≡ s .target → ⊥) → s .forbidden j ≡ 1 → Reads s j → ⊥))
   unfolding rule11
   rule11-e t i l h j k other =
       ⊎-elim (λ u. absurd (other (eqb→eq j (s .target) u))) (λ u. clash-e s j u)
-      (or-e (eqb j (s .target)) (not (clash s j)) (every-at clash-but (s .threads) (rule-e s 11 12 (every (s .threads) clash-but) t i l h) j k))
+      (or-e (eqb j (s .target)) (not (clash s j)) (every-at clash-but (s .threads) (rule-e s (between 11 12) (every (s .threads) clash-but) t i l h) j k))
 
-  rule11-i : All s (λ i. In 11 12 s i → All s (λ j. (j ≡ s .target → ⊥) → s .forbidden j ≡ 1 → In 5 7 s j → ⊥)) → T (rule11 s)
+  rule11-i : All s (λ i. In 11 12 s i → All s (λ j. (j ≡ s .target → ⊥) → s .forbidden j ≡ 1 → Reads s j → ⊥)) → T (rule11 s)
   unfolding rule11
   rule11-i f =
-      rule-i s 11 12 (every (s .threads) clash-but)
-      (λ i l h. every-i clash-but (s .threads) (λ j k. ⊎-elim (or-l (eqb j (s .target)) (not (clash s j))) (λ other. or-r (eqb j (s .target)) (not (clash s j)) (clash-i s j (f i l h j k (T-ne j (s .target) other)))) (decided (eqb j (s .target)))))
+      rule-i s (between 11 12) (every (s .threads) clash-but)
+      (λ i l h. every-i clash-but (s .threads) (λ j k.
+      ⊎-elim (or-l (eqb j (s .target)) (not (clash s j)))
+      (λ other. or-r (eqb j (s .target)) (not (clash s j)) (clash-i s j (f i l h j k (T-ne j (s .target) other))))
+      (decided (eqb j (s .target)))))
 
   abbrev all-1 : Bool
   all-1 = every (s .threads) (λ i. eqb (s .forbidden i) 1)
@@ -256,18 +270,18 @@ module _ (s : Table) where
   abbrev none-reads : Bool
   none-reads = every (s .threads) (λ i. not (reading (s .phase i)))
 
-  rule13-e : T (rule13 s) → All s (λ i. In 13 14 s i → All s (λ j. s .forbidden j ≡ 1) × All s (λ j. In 5 7 s j → ⊥))
+  rule13-e : T (rule13 s) → All s (λ i. In 13 14 s i → All s (λ j. s .forbidden j ≡ 1) × All s (λ j. Reads s j → ⊥))
   unfolding rule13
   rule13-e t i l h =
-      let u = rule-e s 13 14 (all-1 && none-reads) t i l h in (
+      let u = rule-e s (between 13 14) (all-1 && none-reads) t i l h in (
         column-e s (s .forbidden) 1 (and-l all-1 none-reads u),
         (λ j k r. no-both (reading (s .phase j)) r (every-at (λ i. not (reading (s .phase i))) (s .threads) (and-r all-1 none-reads u) j k)),
       )
 
-  rule13-i : All s (λ i. In 13 14 s i → All s (λ j. s .forbidden j ≡ 1)) → All s (λ i. In 13 14 s i → All s (λ j. In 5 7 s j → ⊥)) → T (rule13 s)
+  rule13-i : All s (λ i. In 13 14 s i → All s (λ j. s .forbidden j ≡ 1)) → All s (λ i. In 13 14 s i → All s (λ j. Reads s j → ⊥)) → T (rule13 s)
   unfolding rule13
   rule13-i f g =
-      rule-i s 13 14 (all-1 && none-reads)
+      rule-i s (between 13 14) (all-1 && none-reads)
       (λ i l h. and-i all-1 none-reads (column-i s (s .forbidden) 1 (f i l h)) (every-i (λ i. not (reading (s .phase i))) (s .threads) (λ j k. not-i (reading (s .phase j)) (g i l h j k))))
 
   abbrev some-1 : Bool
@@ -275,17 +289,18 @@ module _ (s : Table) where
 
   rule15-e : T (rule15 s) → All s (λ i. In 15 15 s i → Some s (λ j. s .forbidden j ≡ 1))
   unfolding rule15
-  rule15-e t i l h = some-column-e s (s .forbidden) 1 (rule-e s 15 15 some-1 t i l h)
+  rule15-e t i l h = some-column-e s (s .forbidden) 1 (rule-e s (between 15 15) some-1 t i l h)
 
   rule15-i : All s (λ i. In 15 15 s i → Some s (λ j. s .forbidden j ≡ 1)) → T (rule15 s)
   unfolding rule15
-  rule15-i f = rule-i s 15 15 some-1 (λ i l h. some-column-i s (s .forbidden) 1 (f i l h))
+  rule15-i f = rule-i s (between 15 15) some-1 (λ i l h. some-column-i s (s .forbidden) 1 (f i l h))
 
 -- ---- all of them
 
-flag-bit : (b : Bool) → cond b 1 0 ≤ 1
-flag-bit true = omega arith
-flag-bit false = omega arith
+-- a busy flag of the table of phases is 0 or 1, by trying the phases
+busy-bit : (p : ℕ) → p ≤ lastPhase → busyIn p ≤ 1
+unfolding rows every
+busy-bit p l = leb→le (busyIn p) 1 (every-at (λ q. leb (busyIn q) 1) (suc lastPhase) tt p (omega arith))
 
 none-left : T (allOf [])
 unfolding allOf
@@ -328,7 +343,7 @@ pub sound-i : (s : Table) → Sound s → T (sound s)
 unfolding sound
 sound-i s z =
     add-rule _ _ (phases-i s (z .phases))
-    (add-rule _ _ (flags-i s (λ j l. subst (λ (b : ℕ). b ≤ 1) (sym (z .busies j l)) (flag-bit (busyIn (s .phase j)))) (z .flags))
+    (add-rule _ _ (flags-i s (λ j l. subst (λ (b : ℕ). b ≤ 1) (sym (z .busies j l)) (busy-bit (s .phase j) (z .phases j l))) (z .flags))
     (add-rule _ _ (busies-i s (z .busies))
     (add-rule _ _ (holder-i s (z .one-holder))
     (add-rule _ _ (mutex-i s (z .held) (z .free))

@@ -1,17 +1,18 @@
--- How a table is shown to be sound: its threads' own bytes fit (`Fits`), and either no thread is in 10 to 16 (`nobody-sound`) or thread h alone is, in phase p, with what p's rule says (`held-sound`).
--- Assumes nothing.
+-- How a table is shown to be sound: its threads' own bytes fit (`Fits`), and either no thread is the holder (`nobody-sound`) or thread h alone is, in phase p, with what p's rule says (`held-sound`).
 use Prim.Native.Nat.{ℕ, _≤_, _<_}
 use native.Mathlib.Omega.{arith}
+use mathlib.Core.Bool.{not}
 use mathlib.Core.Path.{_≡_, refl, sym, subst, ap, _∙_}
-use mathlib.Core.Bool.{cond, not}
 use lib.Dec.{T, leb, leb→le, le→leb}
 use Rattle.definitions.specs.Bounds.{lastPhase, noTarget}
-use Rattle.definitions.specs.Threads.{between, among}
-use Rattle.definitions.specs.Table.{Table, tableOf, fresh}
-use Rattle.definitions.specs.Sound.{sound, busyIn}
-use Rattle.theory.proofs.Tests.{and-l, and-r, and-i, no-both, not-i}
-use Rattle.theory.proofs.Views.{freshTable, fresh-table}
-use Rattle.theory.proofs.Soundness.{All, Some, In, sound-i}
+use Rattle.definitions.specs.Phases.{rows, busyIn, holds}
+use Rattle.definitions.specs.Sound.{sound}
+use Rattle.definitions.specs.Table.{Table, freshTable, tableOf, fresh}
+use Rattle.definitions.specs.Threads.{every, between, implies}
+use Rattle.theory.proofs.Bytes.{fresh-table}
+use Rattle.theory.proofs.Quantifiers.{every-at}
+use Rattle.theory.proofs.Soundness.{All, Some, In, Holds, Reads, sound-i}
+use Rattle.theory.proofs.Tests.{and-l, and-r, and-i, no-both, not-i, implies-e}
 
 -- ---- phases from a to b
 
@@ -25,9 +26,12 @@ between-i a b p k l = and-i (leb a p) (leb p b) (le→leb a p k) (le→leb p b l
 pub apart : (a b c d p : ℕ) → b < c → T (between a b p) → T (between c d p) → ⊥
 apart a b c d p k t u = let x = between-e a b p t in let y = between-e c d p u in omega arith
 
--- a range inside another
-pub widen : (a b c d p : ℕ) → a ≤ c → d ≤ b → T (between c d p) → T (between a b p)
-widen a b c d p k l t = let x = between-e c d p t in between-i a b p (omega arith) (omega arith)
+-- the holder's phases from 10 to 16, by trying the phases
+pub range-holds : (a b : ℕ) → 10 ≤ a → b ≤ 16 → (p : ℕ) → T (between a b p) → T (holds p)
+unfolding rows every
+range-holds a b low high p t =
+    let x = between-e a b p t in
+    implies-e (between 10 16 p) (holds p) (every-at (λ q. implies (between 10 16 q) (holds q)) 17 tt p (omega arith)) (between-i 10 16 p (omega arith) (omega arith))
 
 -- ---- what is to be shown
 
@@ -35,22 +39,22 @@ widen a b c d p k l t = let x = between-e c d p t in between-i a b p (omega arit
 pub record Fits (s : Table) : Type 0 where
   pub phases : All s (λ j. s .phase j ≤ lastPhase)
   pub flags : All s (λ j. s .forbidden j ≤ 1)
-  pub busies : All s (λ j. s .busy j ≡ cond (busyIn (s .phase j)) 1 0)
+  pub busies : All s (λ j. s .busy j ≡ busyIn (s .phase j))
 
 -- thread h, in phase p, is the holder
 pub record Holder (s : Table) (h p : ℕ) : Type 0 where
   pub is-thread : h < s .threads
   pub phase-is : s .phase h ≡ p
-  pub holding : T (between 10 16 p)
-  pub alone : All s (λ j. In 10 16 s j → j ≡ h)
+  pub holding : T (holds p)
+  pub alone : All s (λ j. Holds s j → j ≡ h)
   pub locked : s .mutex ≡ 1
 
 -- the rules by the holder's phase p
 pub record Stage (s : Table) (p : ℕ) : Type 0 where
   pub untargeted : T (not (between 11 12 p)) → s .target ≡ noTarget
-  pub in-10 : T (between 10 10 p) → Some s (λ j. s .forbidden j ≡ 0) × All s (λ j. s .forbidden j ≡ 1 → In 5 7 s j → ⊥)
-  pub in-11 : T (between 11 12 p) → (s .target < s .threads) × (s .forbidden (s .target) ≡ 1) × All s (λ j. (j ≡ s .target → ⊥) → s .forbidden j ≡ 1 → In 5 7 s j → ⊥)
-  pub in-13 : T (between 13 14 p) → All s (λ j. s .forbidden j ≡ 1) × All s (λ j. In 5 7 s j → ⊥)
+  pub in-10 : T (between 10 10 p) → Some s (λ j. s .forbidden j ≡ 0) × All s (λ j. s .forbidden j ≡ 1 → Reads s j → ⊥)
+  pub in-11 : T (between 11 12 p) → (s .target < s .threads) × (s .forbidden (s .target) ≡ 1) × All s (λ j. (j ≡ s .target → ⊥) → s .forbidden j ≡ 1 → Reads s j → ⊥)
+  pub in-13 : T (between 13 14 p) → All s (λ j. s .forbidden j ≡ 1) × All s (λ j. Reads s j → ⊥)
   pub in-15 : T (between 15 15 p) → Some s (λ j. s .forbidden j ≡ 1)
   pub in-16 : T (between 16 16 p) → All s (λ j. s .forbidden j ≡ 0)
 
@@ -58,7 +62,7 @@ module _ (s : Table) (h p : ℕ) (holder : Holder s h p) where
   -- a thread in phases that only the holder can be in is the holder
   at-holder : (a b : ℕ) → 10 ≤ a → b ≤ 16 → All s (λ i. In a b s i → T (between a b p))
   at-holder a b low high i l m =
-      let e = holder .alone i l (widen 10 16 a b (s .phase i) low high m) in
+      let e = holder .alone i l (range-holds a b low high (s .phase i) m) in
       subst (λ (x : ℕ). T (between a b x)) (ap (s .phase) e ∙ holder .phase-is) m
 
   holder-in : (a b : ℕ) → T (between a b p) → In a b s h
@@ -67,7 +71,7 @@ module _ (s : Table) (h p : ℕ) (holder : Holder s h p) where
   pub held-sound : Fits s → Stage s p → T (sound s)
   held-sound fits stage =
       let at : (a b : ℕ) → 10 ≤ a → b ≤ 16 → All s (λ i. In a b s i → T (between a b p)) = at-holder in
-      let here : In 10 16 s h = holder-in 10 16 (holder .holding) in
+      let here : Holds s h = subst (λ (x : ℕ). T (holds x)) (sym (holder .phase-is)) (holder .holding) in
       sound-i s
       record {
         phases = fits .phases;
@@ -88,9 +92,9 @@ module _ (s : Table) (h p : ℕ) (holder : Holder s h p) where
         some-forbidden = λ i l m. stage .in-15 (at 15 15 (omega arith) (omega arith) i l m);
       }
 
-pub nobody-sound : (s : Table) → Fits s → All s (λ j. In 10 16 s j → ⊥) → s .mutex ≡ 0 → s .target ≡ noTarget → All s (λ j. s .forbidden j ≡ 0) → T (sound s)
+pub nobody-sound : (s : Table) → Fits s → All s (λ j. Holds s j → ⊥) → s .mutex ≡ 0 → s .target ≡ noTarget → All s (λ j. s .forbidden j ≡ 0) → T (sound s)
 nobody-sound s fits none m g f =
-    let no : (a b : ℕ) → 10 ≤ a → b ≤ 16 → All s (λ j. In a b s j → ⊥) = λ a b low high j l t. none j l (widen 10 16 a b (s .phase j) low high t) in
+    let no : (a b : ℕ) → 10 ≤ a → b ≤ 16 → All s (λ j. In a b s j → ⊥) = λ a b low high j l t. none j l (range-holds a b low high (s .phase j) t) in
     sound-i s
     record {
       phases = fits .phases;
@@ -114,12 +118,12 @@ nobody-sound s fits none m g f =
 -- ---- each stage
 
 module _ (s : Table) where
-  pub stage-10 : s .target ≡ noTarget → Some s (λ j. s .forbidden j ≡ 0) → All s (λ j. s .forbidden j ≡ 1 → In 5 7 s j → ⊥) → Stage s 10
+  pub stage-10 : s .target ≡ noTarget → Some s (λ j. s .forbidden j ≡ 0) → All s (λ j. s .forbidden j ≡ 1 → Reads s j → ⊥) → Stage s 10
   stage-10 g f r =
       record { untargeted = λ t. g; in-10 = λ t. (f, r); in-11 = λ t. absurd t; in-13 = λ t. absurd t; in-15 = λ t. absurd t; in-16 = λ t. absurd t }
 
   pub stage-11 : (p : ℕ) → T (between 11 12 p) → s .target < s .threads → s .forbidden (s .target) ≡ 1
-      → All s (λ j. (j ≡ s .target → ⊥) → s .forbidden j ≡ 1 → In 5 7 s j → ⊥) → Stage s p
+      → All s (λ j. (j ≡ s .target → ⊥) → s .forbidden j ≡ 1 → Reads s j → ⊥) → Stage s p
   stage-11 p m l f r =
       record {
         untargeted = λ t. absurd (no-both (between 11 12 p) m t);
@@ -130,7 +134,7 @@ module _ (s : Table) where
         in-16 = λ t. absurd (apart 11 12 16 16 p (omega arith) m t);
       }
 
-  pub stage-13 : (p : ℕ) → T (between 13 14 p) → s .target ≡ noTarget → All s (λ j. s .forbidden j ≡ 1) → All s (λ j. In 5 7 s j → ⊥) → Stage s p
+  pub stage-13 : (p : ℕ) → T (between 13 14 p) → s .target ≡ noTarget → All s (λ j. s .forbidden j ≡ 1) → All s (λ j. Reads s j → ⊥) → Stage s p
   stage-13 p m g f r =
       record {
         untargeted = λ t. g;
@@ -152,7 +156,7 @@ module _ (s : Table) where
 -- ---- the fresh table
 
 pub fresh-fits : (n : ℕ) → T (sound (freshTable n))
-unfolding among
+unfolding rows
 fresh-fits n =
     nobody-sound (freshTable n) record { phases = λ j l. omega arith; flags = λ j l. omega arith; busies = λ j l. refl }
     (λ j l t. t) refl refl (λ j l. refl)

@@ -1,10 +1,10 @@
--- Tests as statements: taking `&&`, `not` and `cond` apart, going between `T b` and an equation of `b`, and comparing numbers. Assumes nothing.
-use mathlib.Core.Path.{_≡_, refl, sym, subst}
-use mathlib.Core.Logic.{_⊎_, inl, inr}
-use mathlib.Core.Bool.{Bool, true, false, cond, not, _&&_, _||_}
+-- Tests as statements: taking `&&`, `not` and `cond` apart, going between `T b` and an equation of `b`, and comparing numbers.
 use Prim.Native.Nat.{ℕ, _≤_, _<_}
 use native.Mathlib.Decide.{decLt}
 use native.Mathlib.Omega.{arith}
+use mathlib.Core.Bool.{Bool, true, false, cond, not, _&&_, _||_}
+use mathlib.Core.Logic.{_⊎_, inl, inr}
+use mathlib.Core.Path.{_≡_, refl, sym, subst}
 use lib.Dec.{T, eqb, eqb→eq, eqb-refl}
 
 pub and-l : (a b : Bool) → T (a && b) → T a

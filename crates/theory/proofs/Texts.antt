@@ -1,14 +1,13 @@
 -- Texts as lists of bytes: `same` holds of equal texts alone, and a text that starts with another is no shorter.
--- Assumes nothing.
 use Prim.Native.Nat.{ℕ, _≤_}
 use native.Mathlib.Omega.{arith}
-use mathlib.Core.Path.{_≡_, refl, ap}
 use mathlib.Core.Bool.{true, false≢true}
 use mathlib.Core.List.{List, [], _∷_}
+use mathlib.Core.Path.{_≡_, refl, ap}
 use borrow.Author.Tests.{eq-eqb, eqb-true}
 use lib.Dec.{eqb}
 use lib.ListN.{length, take, length-take}
-use Rattle.definitions.specs.Script.{same, starts}
+use Rattle.definitions.specs.Texts.{same, starts}
 use Rattle.theory.proofs.Tests.{and-both}
 
 pub same-refl : (xs : List ℕ) → same xs xs ≡ true

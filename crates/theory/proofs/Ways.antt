@@ -1,91 +1,63 @@
--- The case analysis that every theorem on moves uses: an accepted request passed all its tests (`Accepted`), and goes one of 24 ways (`Way`), each with what is known of the mover's phase and with the move's whole effect.
--- Table 1 of the source paper, by phase: a reader raises busy (1), reads forbidden (2), goes in (5, 6), leaves (7, 8), or lowers busy (3) and tries again (4); a writer takes the mutex (9), sets flag by flag (10) and reads the target's busy (11), gives a flag up (12), goes in (13, 14), clears flag by flag (15), lets the mutex go (16) and is done (17).
--- Assumes nothing.
-use Prim.Native.Nat.{ℕ, zero, suc, _≤_, _<_}
+-- The case analysis that every theorem on moves uses.
+-- An accepted request passed all its tests (`Accepted`), and goes one of 25 ways (`Way`), each with what is known of the mover's phase and with the move's whole effect.
+-- Table 1 of the source paper, by phase. A reader raises busy (1), reads forbidden (2), goes in (5, 6), leaves (7, 8), or lowers busy (3) and tries again (4).
+-- A writer takes the mutex (9), sets flag by flag (10) and reads the target's busy (11), gives a flag up (12), goes in (13, 14), clears flag by flag (15), lets the mutex go (16) and is done (17).
+use Prim.Native.Nat.{ℕ, suc, _≤_, _<_}
 use native.Mathlib.Omega.{arith}
-use mathlib.Core.Path.{_≡_, refl, sym, subst, _∙_}
-use mathlib.Core.Logic.{_⊎_, inl, inr, ⊎-elim}
 use mathlib.Core.Bool.{cond, not, _&&_}
 use mathlib.Core.List.{List, [], _∷_}
+use mathlib.Core.Logic.{_⊎_, inl, inr}
+use mathlib.Core.Path.{_≡_, refl, sym, subst}
 use lib.Dec.{T, eqb, leb→le, le→leb, ltb→lt, lt→ltb, eqb→eq}
 use Rattle.definitions.specs.Bounds.{lastMove, noTarget}
-use Rattle.definitions.specs.Threads.{among}
-use Rattle.definitions.specs.Answers.{Test, firstRefusal}
-use Rattle.definitions.specs.Table.{Table, mutex≔, target≔, phase≔, busy≔, forbidden≔}
+use Rattle.definitions.specs.Codes.{go}
+use Rattle.definitions.specs.Moves.{Effect, quietly, showing, allForbidden, noneForbiddenBut, goEffect, setEffect, clearEffect, effect, targetFits, mustWait, moveTests, stepReply, accepts}
+use Rattle.definitions.specs.Phases.{rows, hasMove}
 use Rattle.definitions.specs.Sound.{sound}
-use Rattle.definitions.specs.Moves.{Request, Effect, quietly, showing, go, allForbidden, noneForbiddenBut, goEffect, setEffect, clearEffect, effect, phasesOf, targetFits, hasMove, mutexFits}
-use Rattle.theory.proofs.Tests.{T-true, T-false, or-e, or-l, and-i, eq-T, decided, no-both, cond-yes, cond-no}
-use Rattle.theory.proofs.Views.{refusalOn}
+use Rattle.definitions.specs.Table.{Table, mutex≔, target≔, phase≔, busy≔, forbidden≔}
+use Rattle.definitions.specs.Threads.{listOf, gather, among}
+use Rattle.definitions.specs.declared.Request.{Request}
+use Rattle.theory.proofs.Cases.{or-at, none-of, among-list, phasesWith, has-phase}
+use Rattle.theory.proofs.Replies.{accepted-is, peel, pass, no-test}
+use Rattle.theory.proofs.Tests.{T-true, T-false, and-i, eq-T, decided, no-both}
 
 -- ---- the tests of a request
-
--- no refusal: the first test is passed, and none of the others refuses
-pub peel : (t : Test) (ts : List Test) → (t .number ≡ 0 → ⊥) → firstRefusal (t ∷ ts) ≡ 0 → T (t .passed) × (firstRefusal ts ≡ 0)
-unfolding firstRefusal
-peel t ts h e = choose (decided (t .passed))
-  where
-    choose : T (t .passed) ⊎ T (not (t .passed)) → T (t .passed) × (firstRefusal ts ≡ 0)
-    choose (inl p) = (p, sym (cond-yes (t .passed) (firstRefusal ts) (t .number) p) ∙ e)
-    choose (inr p) = absurd (h (sym (cond-no (t .passed) (firstRefusal ts) (t .number) p) ∙ e))
-
-pub passes : (t : Test) (ts : List Test) → T (t .passed) → firstRefusal ts ≡ 0 → firstRefusal (t ∷ ts) ≡ 0
-unfolding firstRefusal
-passes t ts p e = cond-yes (t .passed) (firstRefusal ts) (t .number) p ∙ e
 
 -- what the tests 2 to 7 say of a request that passes them all
 pub record Accepted (s : Table) (r : Request) : Type 0 where
   pub is-sound : T (sound s)
   pub thread-fits : r .thread < s .threads
-  pub move-fits : r .move ≤ lastMove
-  pub target-fits : T (targetFits (s .threads) (r .move) (r .target))
-  pub has-move : T (hasMove (r .move) (s .phase (r .thread)))
-  pub mutex-fits : T (mutexFits s r)
+  pub move-fits : r .mv ≤ lastMove
+  pub target-fits : T (targetFits (s .threads) (r .mv) (r .target))
+  pub has-move : T (hasMove (r .mv) (s .phase (r .thread)))
+  pub may-go : T (not (mustWait (s .phase (r .thread)) (s .mutex) (r .mv)))
 
-pub accepted-e : (s : Table) (r : Request) → refusalOn s r ≡ 0 → Accepted s r
-unfolding refusalOn
-accepted-e s r e =
-    let a = peel _ _ (λ z. omega arith) e in
-    let b = peel _ _ (λ z. omega arith) (a .1) in
-    let c = peel _ _ (λ z. omega arith) (b .1) in
-    let d = peel _ _ (λ z. omega arith) (c .1) in
-    let f = peel _ _ (λ z. omega arith) (d .1) in
-    let g = peel _ _ (λ z. omega arith) (f .1) in
+pub accepted-e : (s : Table) (r : Request) → T (accepts s r) → Accepted s r
+unfolding stepReply
+accepted-e s r t =
+    let a = peel _ _ (subst T (accepted-is (effect s r .shows) (moveTests s r)) t) in
+    let b = peel _ _ (a .1) in
+    let c = peel _ _ (b .1) in
+    let d = peel _ _ (c .1) in
+    let e = peel _ _ (d .1) in
+    let f = peel _ _ (e .1) in
     record {
       is-sound = a .0;
       thread-fits = ltb→lt (r .thread) (s .threads) (b .0);
-      move-fits = leb→le (r .move) lastMove (c .0);
+      move-fits = leb→le (r .mv) lastMove (c .0);
       target-fits = d .0;
-      has-move = f .0;
-      mutex-fits = g .0;
+      has-move = e .0;
+      may-go = f .0;
     }
 
-pub none : firstRefusal [] ≡ 0
-unfolding firstRefusal
-none = refl
-
-pub accepted-i : (s : Table) (r : Request) → Accepted s r → refusalOn s r ≡ 0
-unfolding refusalOn
+pub accepted-i : (s : Table) (r : Request) → Accepted s r → T (accepts s r)
+unfolding stepReply
 accepted-i s r a =
-    passes _ _ (a .is-sound)
-    (passes _ _ (lt→ltb (r .thread) (s .threads) (a .thread-fits))
-    (passes _ _ (le→leb (r .move) lastMove (a .move-fits))
-    (passes _ _ (a .target-fits) (passes _ _ (a .has-move) (passes _ _ (a .mutex-fits) none)))))
-
--- ---- cases of a number in a list
-
--- a proof of P for each number of a list that x can be
-abbrev pub Each : ℕ → Type 0 → List ℕ → Type 0
-Each x P [] = Unit {0}
-Each x P (y ∷ ys) = (x ≡ y → P) × Each x P ys
-
-pub pick : (x : ℕ) (P : Type 0) (ys : List ℕ) → T (among x ys) → Each x P ys → P
-unfolding among
-pick x P [] t h = absurd t
-pick x P (y ∷ ys) t h = ⊎-elim (λ u. h .0 (eqb→eq x y u)) (λ u. pick x P ys u (h .1)) (or-e (eqb x y) (among x ys) t)
-
-pub among-here : (x y : ℕ) (ys : List ℕ) → x ≡ y → T (among x (y ∷ ys))
-unfolding among
-among-here x y ys e = or-l (eqb x y) (among x ys) (eq-T x y e)
+    subst T (sym (accepted-is (effect s r .shows) (moveTests s r)))
+    (pass _ _ (a .is-sound)
+    (pass _ _ (lt→ltb (r .thread) (s .threads) (a .thread-fits))
+    (pass _ _ (le→leb (r .mv) lastMove (a .move-fits))
+    (pass _ _ (a .target-fits) (pass _ _ (a .has-move) (pass _ _ (a .may-go) no-test))))))
 
 -- ---- the ways
 
@@ -117,6 +89,31 @@ pub data Way (s : Table) (i t : ℕ) : Effect → Type 0 where
   clear-flag : s .phase i ≡ 15 → t < s .threads → T (not (noneForbiddenBut t s)) → Way s i t (quietly (forbidden≔ t 0 ∷ []))
   relents : s .phase i ≡ 11 → Way s i t (quietly (phase≔ i 12 ∷ []))
 
+-- the phases of each move
+phases-0 : phasesWith 0 ≡ 1 ∷ 2 ∷ 3 ∷ 4 ∷ 5 ∷ 6 ∷ 7 ∷ 8 ∷ 9 ∷ 11 ∷ 12 ∷ 13 ∷ 14 ∷ 16 ∷ 17 ∷ []
+unfolding rows gather among phasesWith
+phases-0 = refl
+
+pub phases-1 : phasesWith 1 ≡ 0 ∷ []
+unfolding rows gather among phasesWith
+phases-1 = refl
+
+phases-2 : phasesWith 2 ≡ 0 ∷ []
+unfolding rows gather among phasesWith
+phases-2 = refl
+
+phases-3 : phasesWith 3 ≡ 10 ∷ 15 ∷ []
+unfolding rows gather among phasesWith
+phases-3 = refl
+
+phases-4 : phasesWith 4 ≡ 15 ∷ []
+unfolding rows gather among phasesWith
+phases-4 = refl
+
+phases-5 : phasesWith 5 ≡ 11 ∷ []
+unfolding rows gather among phasesWith
+phases-5 = refl
+
 -- the ways of phase 2: what the reader finds in its forbidden
 go-2 : (s : Table) (i t : ℕ) → s .phase i ≡ 2 → Way s i t (quietly (phase≔ i (cond (eqb (s .forbidden i) 0) 5 3) ∷ []))
 go-2 s i t e = choose (decided (eqb (s .forbidden i) 0))
@@ -141,56 +138,33 @@ go-11 s i t e = choose (decided (eqb (s .busy (s .target)) 1)) (decided (allForb
         (next-flag e (λ z. no-both (eqb (s .busy (s .target)) 1) (eq-T (s .busy (s .target)) 1 z) u) v)
 
 go-way : (s : Table) (i t : ℕ) → T (hasMove 0 (s .phase i)) → (s .phase i ≡ 9 → s .mutex ≡ 1 → ⊥) → Way s i t (goEffect s i)
-unfolding goEffect phasesOf
+unfolding goEffect
 go-way s i t has free =
-    pick (s .phase i) (Way s i t (goEffect s i)) (phasesOf 0) has (
-      (λ e. rw e (raise-busy e)),
-      (
-        (λ e. rw e (go-2 s i t e)),
-        (
-          (λ e. rw e (back-off e)),
-          (
-            (λ e. rw e (try-again e)),
-            (
-              (λ e. rw e (enter-shared e)),
-              (
-                (λ e. rw e (leave-shared e)),
-                (
-                  (λ e. rw e (lower-busy e)),
-                  (
-                    (λ e. rw e (return-shared e)),
-                    (
-                      (λ e. rw e (take-mutex e (free e))),
-                      (
-                        (λ e. rw e (go-11 s i t e)),
-                        (
-                          (λ e. rw e (give-up e)),
-                          (
-                            (λ e. rw e (enter-exclusive e)),
-                            (
-                              (λ e. rw e (leave-exclusive e)),
-                              (
-                                (λ e. rw e (release-mutex e)),
-                                ((λ e. rw e (return-exclusive e)), tt),
-                              ),
-                            ),
-                          ),
-                        ),
-                      ),
-                    ),
-                  ),
-                ),
-              ),
-            ),
-          ),
-        ),
-      ),
-    )
+    at 1 _ (λ e. rw e (raise-busy e))
+    (at 2 _ (λ e. rw e (go-2 s i t e))
+    (at 3 _ (λ e. rw e (back-off e))
+    (at 4 _ (λ e. rw e (try-again e))
+    (at 5 _ (λ e. rw e (enter-shared e))
+    (at 6 _ (λ e. rw e (leave-shared e))
+    (at 7 _ (λ e. rw e (lower-busy e))
+    (at 8 _ (λ e. rw e (return-shared e))
+    (at 9 _ (λ e. rw e (take-mutex e (free e)))
+    (at 11 _ (λ e. rw e (go-11 s i t e))
+    (at 12 _ (λ e. rw e (give-up e))
+    (at 13 _ (λ e. rw e (enter-exclusive e))
+    (at 14 _ (λ e. rw e (leave-exclusive e))
+    (at 16 _ (λ e. rw e (release-mutex e)) (at 17 _ (λ e. rw e (return-exclusive e)) (none-of (s .phase i))))))))))))))))
+    (has-phase 0 (s .phase i) _ phases-0 has)
+  where
+    at : (y : ℕ) (ys : List ℕ) → (s .phase i ≡ y → Way s i t (goEffect s i)) → (T (among (s .phase i) ys) → Way s i t (goEffect s i))
+        → T (among (s .phase i) (y ∷ ys)) → Way s i t (goEffect s i)
+    at = or-at (s .phase i)
 
 set-way : (s : Table) (i t : ℕ) → T (hasMove 3 (s .phase i)) → t < s .threads → Way s i t (setEffect s i t)
-unfolding setEffect phasesOf
+unfolding setEffect
 set-way s i t has fits =
-    pick (s .phase i) (Way s i t (setEffect s i t)) (phasesOf 3) has ((λ e. rw e (set-flag e fits)), ((λ e. rw e (set-again e fits)), tt))
+    or-at (s .phase i) 10 _ (λ e. rw e (set-flag e fits)) (or-at (s .phase i) 15 _ (λ e. rw e (set-again e fits)) (none-of (s .phase i)))
+    (has-phase 3 (s .phase i) _ phases-3 has)
 
 clear-way : (s : Table) (i t : ℕ) → s .phase i ≡ 15 → t < s .threads → Way s i t (clearEffect s i t)
 unfolding clearEffect
@@ -201,37 +175,42 @@ clear-way s i t e fits = choose (decided (noneForbiddenBut t s))
     choose (inr u) = rw (T-false (noneForbiddenBut t s) u) (clear-flag e fits u)
 
 -- the only phase of a move that exists in one phase
-only : (s : Table) (i k : ℕ) → T (among (s .phase i) (k ∷ [])) → s .phase i ≡ k
-only s i k h = pick (s .phase i) (s .phase i ≡ k) (k ∷ []) h ((λ e. e), tt)
+only : (mv p k : ℕ) → phasesWith mv ≡ k ∷ [] → T (hasMove mv p) → p ≡ k
+only mv p k e has = or-at p k [] (λ q. q) (none-of p) (has-phase mv p (k ∷ []) e has)
 
--- the mutex test of a go in phase 9
-free : (s : Table) (r : Request) → r .move ≡ go → T (mutexFits s r) → s .phase (r .thread) ≡ 9 → s .mutex ≡ 1 → ⊥
+-- a go in phase 9 finds the mutex free
+free : (s : Table) (r : Request) → r .mv ≡ go → T (not (mustWait (s .phase (r .thread)) (s .mutex) (r .mv))) → s .phase (r .thread) ≡ 9 → s .mutex ≡ 1 → ⊥
 free s r e t p q =
     let at-9 = eqb (s .phase (r .thread)) 9 in
     let taken = eqb (s .mutex) 1 in
-    no-both (eqb (r .move) go && (at-9 && taken))
-    (and-i (eqb (r .move) go) (at-9 && taken) (eq-T (r .move) go e) (and-i at-9 taken (eq-T (s .phase (r .thread)) 9 p) (eq-T (s .mutex) 1 q)))
+    no-both (eqb (r .mv) go && (at-9 && taken))
+    (and-i (eqb (r .mv) go) (at-9 && taken) (eq-T (r .mv) go e) (and-i at-9 taken (eq-T (s .phase (r .thread)) 9 p) (eq-T (s .mutex) 1 q)))
     t
-
--- the tests of a request whose move is m
-has : (s : Table) (r : Request) (m : ℕ) → Accepted s r → r .move ≡ m → T (hasMove m (s .phase (r .thread)))
-has s r m a e = subst (λ (k : ℕ). T (hasMove k (s .phase (r .thread)))) e (a .has-move)
-
-fits : (s : Table) (r : Request) (m : ℕ) → Accepted s r → r .move ≡ m → T (targetFits (s .threads) m (r .target))
-fits s r m a e = subst (λ (k : ℕ). T (targetFits (s .threads) k (r .target))) e (a .target-fits)
-
-by-move : (s : Table) (r : Request) → Accepted s r → (m : ℕ) → r .move ≡ m → Way s (r .thread) (r .target) (effect s r)
-unfolding effect phasesOf
-by-move s r a zero e = rw e (go-way s (r .thread) (r .target) (has s r 0 a e) (free s r e (a .mutex-fits)))
-by-move s r a (suc zero) e = rw e (call-shared (only s (r .thread) 0 (has s r 1 a e)))
-by-move s r a (suc (suc zero)) e = rw e (call-exclusive (only s (r .thread) 0 (has s r 2 a e)))
-by-move s r a (suc (suc (suc zero))) e =
-    rw e (set-way s (r .thread) (r .target) (has s r 3 a e) (ltb→lt (r .target) (s .threads) (fits s r 3 a e)))
-by-move s r a (suc (suc (suc (suc zero)))) e =
-    rw e (clear-way s (r .thread) (r .target) (only s (r .thread) 15 (has s r 4 a e)) (ltb→lt (r .target) (s .threads) (fits s r 4 a e)))
-by-move s r a (suc (suc (suc (suc (suc zero))))) e = rw e (relents (only s (r .thread) 11 (has s r 5 a e)))
-by-move s r a (suc (suc (suc (suc (suc (suc m)))))) e = absurd (let h = a .move-fits in omega arith)
 
 -- an accepted request goes one of the ways
 pub way : (s : Table) (r : Request) → Accepted s r → Way s (r .thread) (r .target) (effect s r)
-way s r a = by-move s r a (r .move) refl
+unfolding effect listOf
+way s r a =
+    at 0 _ (λ e. rw e (go-way s i t (has 0 e) (free s r e (a .may-go))))
+    (at 1 _ (λ e. rw e (call-shared (only 1 (s .phase i) 0 phases-1 (has 1 e))))
+    (at 2 _ (λ e. rw e (call-exclusive (only 2 (s .phase i) 0 phases-2 (has 2 e))))
+    (at 3 _ (λ e. rw e (set-way s i t (has 3 e) (ltb→lt t (s .threads) (fits 3 e))))
+    (at 4 _ (λ e. rw e (clear-way s i t (only 4 (s .phase i) 15 phases-4 (has 4 e)) (ltb→lt t (s .threads) (fits 4 e))))
+    (at 5 _ (λ e. rw e (relents (only 5 (s .phase i) 11 phases-5 (has 5 e)))) (none-of (r .mv)))))))
+    (among-list (λ j. j) (suc lastMove) (r .mv) (let h = a .move-fits in omega arith))
+  where
+    i : ℕ
+    i = r .thread
+
+    t : ℕ
+    t = r .target
+
+    at : (y : ℕ) (ys : List ℕ) → (r .mv ≡ y → Way s i t (effect s r)) → (T (among (r .mv) ys) → Way s i t (effect s r)) → T (among (r .mv) (y ∷ ys)) → Way s i t (effect s r)
+    at = or-at (r .mv)
+
+    -- the tests of a request whose move is m
+    has : (m : ℕ) → r .mv ≡ m → T (hasMove m (s .phase i))
+    has m e = subst (λ (k : ℕ). T (hasMove k (s .phase i))) e (a .has-move)
+
+    fits : (m : ℕ) → r .mv ≡ m → T (targetFits (s .threads) m t)
+    fits m e = subst (λ (k : ℕ). T (targetFits (s .threads) k t)) e (a .target-fits)

@@ -1,2 +1,4 @@
--- What contracts of several crates cite of a lent output.
-pub mod Put
+-- What contracts of several crates cite besides the definitions of the scope paper, and the words of the theorems' statements.
+pub mod Outputs
+pub mod Tables
+pub mod Statements

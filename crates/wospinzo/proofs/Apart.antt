@@ -1,59 +1,72 @@
--- No two answers of an entry have the same number: the number tells the reply. Assumes nothing.
-use Prim.Native.Nat.{ℕ, _≤_}
+-- No two answers of an entry have the same number: the number tells the reply. One law for every encoding whose values tell what is answered, then the two that there are.
+use Prim.Native.Nat.{ℕ, _≤_, _<_}
 use native.Mathlib.Omega.{arith}
-use mathlib.Core.Path.{_≡_, refl, ap₂, ap}
+use mathlib.Core.Path.{_≡_, refl, ap, ap₂}
 use lib.Dec.{lit≤}
-use Rattle.definitions.specs.Answers.{shown, done, refused, codeOf, numberOf, replyOf, replyOfAnswer}
-use Rattle.definitions.specs.declared.Event.{Event}
-use Rattle.definitions.specs.declared.Event.the-variants.{EnterSharedCall, EnterSharedReturn, LeaveSharedCall, LeaveSharedReturn, EnterExclusiveCall, EnterExclusiveReturn, LeaveExclusiveCall, LeaveExclusiveReturn}
-use Rattle.definitions.specs.declared.Refusal.{Refusal}
-use Rattle.definitions.specs.declared.Refusal.the-variants.{BadSize, Unsound, NoThread, NoMove, BadTarget, NotInPhase, MutexHeld, BadForm, UnknownPair, NotNext, Occupied, NoRoom}
-use Rattle.definitions.specs.declared.Outcome.{Outcome}
-use Rattle.definitions.specs.declared.Outcome.the-variants as outcome
+use Rattle.definitions.specs.Answers.{Reply, accepted, refused, shown, codeOf, numberOf, outcomeReply, answerReply}
 use Rattle.definitions.specs.declared.Answer.{Answer}
 use Rattle.definitions.specs.declared.Answer.the-variants as answer
-use Rattle.wospinzo.specs.Encoding.{encoded}
+use Rattle.definitions.specs.declared.Event.{Event}
+use Rattle.definitions.specs.declared.Event.the-variants.{EnterSharedCall, EnterSharedReturn, LeaveSharedCall, LeaveSharedReturn}
+use Rattle.definitions.specs.declared.Event.the-variants.{EnterExclusiveCall, EnterExclusiveReturn, LeaveExclusiveCall, LeaveExclusiveReturn}
+use Rattle.definitions.specs.declared.Outcome.{Outcome}
+use Rattle.definitions.specs.declared.Outcome.the-variants as outcome
+use Rattle.definitions.specs.declared.Refusal.{Refusal}
+use Rattle.definitions.specs.declared.Refusal.the-variants.{BadSize, Unsound, NoThread, NoMove, BadTarget, NotInPhase, MutexHeld, BadForm, UnknownPair, NotNext, Occupied, NoRoom}
+use Rattle.wospinzo.specs.Encoding.{encoded, countValue, moveNumber, countNumber}
 
--- a number is from a to b
-pub record Within (a b k : ℕ) : Type 0 where
-  pub least : a ≤ k
-  pub most : k ≤ b
+-- a refusal's number is from 1 to 255
+abbrev Numbered : {A : Type 0} → Reply A → Type 0
+Numbered (accepted a) = Unit {0}
+Numbered (refused number place) = (1 ≤ number) × (number < 256)
 
-pub numbers : (r : Refusal) → Within 1 12 (numberOf r)
-numbers BadSize = record { least = lit≤ tt; most = lit≤ tt }
-numbers Unsound = record { least = lit≤ tt; most = lit≤ tt }
-numbers NoThread = record { least = lit≤ tt; most = lit≤ tt }
-numbers NoMove = record { least = lit≤ tt; most = lit≤ tt }
-numbers BadTarget = record { least = lit≤ tt; most = lit≤ tt }
-numbers NotInPhase = record { least = lit≤ tt; most = lit≤ tt }
-numbers MutexHeld = record { least = lit≤ tt; most = lit≤ tt }
-numbers BadForm = record { least = lit≤ tt; most = lit≤ tt }
-numbers UnknownPair = record { least = lit≤ tt; most = lit≤ tt }
-numbers NotNext = record { least = lit≤ tt; most = lit≤ tt }
-numbers Occupied = record { least = lit≤ tt; most = lit≤ tt }
-numbers NoRoom = record { least = lit≤ tt; most = lit≤ tt }
+module _ {A : Type 0} (value : A → ℕ) (tells : (a b : A) → value a ≡ value b → a ≡ b) where
+  -- what is answered is told by its value, so the reply is told by its number
+  pub apart : (x y : Reply A) → Numbered x → Numbered y → encoded value x ≡ encoded value y → x ≡ y
+  unfolding encoded
+  apart (accepted a) (accepted b) m n e = ap accepted (tells a b (omega arith))
+  apart (accepted a) (refused l q) m n e = absurd (omega arith)
+  apart (refused k p) (accepted b) m n e = absurd (omega arith)
+  apart (refused k p) (refused l q) m n e = ap₂ refused (omega arith) (omega arith)
 
-codes : (e : Event) → Within 1 8 (codeOf e)
-codes EnterSharedCall = record { least = lit≤ tt; most = lit≤ tt }
-codes EnterSharedReturn = record { least = lit≤ tt; most = lit≤ tt }
-codes LeaveSharedCall = record { least = lit≤ tt; most = lit≤ tt }
-codes LeaveSharedReturn = record { least = lit≤ tt; most = lit≤ tt }
-codes EnterExclusiveCall = record { least = lit≤ tt; most = lit≤ tt }
-codes EnterExclusiveReturn = record { least = lit≤ tt; most = lit≤ tt }
-codes LeaveExclusiveCall = record { least = lit≤ tt; most = lit≤ tt }
-codes LeaveExclusiveReturn = record { least = lit≤ tt; most = lit≤ tt }
+-- ---- the refusals' numbers and the events' codes
 
-pub answers-apart : (a b : Answer) → encoded (replyOfAnswer a) ≡ encoded (replyOfAnswer b) → replyOfAnswer a ≡ replyOfAnswer b
+pub numbers : (r : Refusal) → (1 ≤ numberOf r) × (numberOf r < 256)
+numbers BadSize = (lit≤ tt, lit≤ tt)
+numbers Unsound = (lit≤ tt, lit≤ tt)
+numbers NoThread = (lit≤ tt, lit≤ tt)
+numbers NoMove = (lit≤ tt, lit≤ tt)
+numbers BadTarget = (lit≤ tt, lit≤ tt)
+numbers NotInPhase = (lit≤ tt, lit≤ tt)
+numbers MutexHeld = (lit≤ tt, lit≤ tt)
+numbers BadForm = (lit≤ tt, lit≤ tt)
+numbers UnknownPair = (lit≤ tt, lit≤ tt)
+numbers NotNext = (lit≤ tt, lit≤ tt)
+numbers Occupied = (lit≤ tt, lit≤ tt)
+numbers NoRoom = (lit≤ tt, lit≤ tt)
+
+codes : (e : Event) → 1 ≤ codeOf e
+codes EnterSharedCall = lit≤ tt
+codes EnterSharedReturn = lit≤ tt
+codes LeaveSharedCall = lit≤ tt
+codes LeaveSharedReturn = lit≤ tt
+codes EnterExclusiveCall = lit≤ tt
+codes EnterExclusiveReturn = lit≤ tt
+codes LeaveExclusiveCall = lit≤ tt
+codes LeaveExclusiveReturn = lit≤ tt
+
+-- ---- the two encodings
+
+answer-numbered : (a : Answer) → Numbered (answerReply a)
+answer-numbered (answer.Done n) = tt
+answer-numbered (answer.Refused r p) = numbers r
+
+pub answers-apart : (a b : Answer) → countNumber (answerReply a) ≡ countNumber (answerReply b) → answerReply a ≡ answerReply b
+answers-apart a b e = apart countValue (λ m n d. d) (answerReply a) (answerReply b) (answer-numbered a) (answer-numbered b) e
+
+pub outcomes-apart : (a b : Outcome) → moveNumber (outcomeReply a) ≡ moveNumber (outcomeReply b) → outcomeReply a ≡ outcomeReply b
 unfolding encoded
-answers-apart (answer.Done m) (answer.Done n) e = ap done (omega arith)
-answers-apart (answer.Done m) (answer.Refused r p) e = absurd (omega (arith, numbers r))
-answers-apart (answer.Refused r p) (answer.Done n) e = absurd (omega (arith, numbers r))
-answers-apart (answer.Refused r p) (answer.Refused s q) e =
-    ap₂ refused (omega (arith, numbers r, numbers s)) (omega (arith, numbers r, numbers s))
-
-pub outcomes-apart : (a b : Outcome) → encoded (replyOf a) ≡ encoded (replyOf b) → replyOf a ≡ replyOf b
-unfolding encoded
-outcomes-apart (outcome.Shown d) (outcome.Shown e) h = ap shown (omega arith)
+outcomes-apart (outcome.Shown d) (outcome.Shown e) h = ap (λ (k : ℕ). accepted (shown k)) (omega arith)
 outcomes-apart (outcome.Shown d) outcome.Quiet h = absurd (omega (arith, codes d))
 outcomes-apart (outcome.Shown d) (outcome.Refused s) h = absurd (omega (arith, numbers s))
 outcomes-apart outcome.Quiet (outcome.Shown e) h = absurd (omega (arith, codes e))

@@ -1,140 +1,181 @@
 -- The values of every entry's answer are small, so that the answer fits 64 bits with its refusal's number beside it.
--- Assumes nothing.
-use Prim.Native.Nat.{ℕ, suc, _*_, _%_, _≤_, _<_}
+-- An answer's value is the place of one of the entry's tests, or what is answered where all are passed.
+use Prim.Native.Nat.{ℕ, zero, suc, _*_, _%_, _≤_, _<_}
 use native.Mathlib.Omega.{arith}
-use mathlib.Core.Path.{_≡_}
-use mathlib.Core.Logic.{_⊎_, inl, inr}
-use mathlib.Core.Bool.{Bool, true, false, cond, not}
-use mathlib.Core.List.{List, [], _∷_}
-use lib.Dec.{T, leb, eqb, leb→le, eqb→eq}
-use lib.ListN.{length, getD, length-append, length-replicate}
-use Rattle.definitions.specs.Bounds.{mostThreads, lastMove, mostHistory, mostScript}
+use mathlib.Core.Bool.{Bool, true, false, cond, _&&_}
+use mathlib.Core.List.{List, [], _∷_, _++_}
+use mathlib.Core.Path.{_≡_, refl, sym, subst}
+use lib.Dec.{T, leb, eqb, leb→le}
+use lib.ListN.{length, getD, length-append}
+use Rattle.definitions.specs.Answers.{Test, test, Reply, refused, answered, passesAll, Delivery, roomTest, deliveryReply}
+use Rattle.definitions.specs.Bounds.{mostThreads, mostHistory, mostScript}
+use Rattle.definitions.specs.Codes.{go, setMove, clearMove}
+use Rattle.definitions.specs.Moves.{ask}
+use Rattle.definitions.specs.Nodes.{nodesOf, nodesEntry}
+use Rattle.definitions.specs.OpenMoves.{openEntry}
+use Rattle.definitions.specs.Phases.{nodeOf}
+use Rattle.definitions.specs.PlainLock.{Pair, pairsOf, testsOf, checkTests, checkReply}
+use Rattle.definitions.specs.Plan.{planRows, planOf, plan, planEntry}
+use Rattle.definitions.specs.Run.{runEntry}
+use Rattle.definitions.specs.Table.{sized, freshEntry, tableOf}
 use Rattle.definitions.specs.Threads.{gather}
-use Rattle.definitions.specs.Answers.{Reply, shown, quiet, done, refused, unlessRefused}
-use Rattle.definitions.specs.Table.{sized, fresh, tableOf}
-use Rattle.definitions.specs.Nodes.{nodeOf, nodesOf, nodesRefusal, nodesReply}
-use Rattle.definitions.specs.Moves.{accepts}
-use Rattle.definitions.specs.OpenMoves.{openMoves, openRefusal, openReply, freshRefusal, freshReply}
-use Rattle.definitions.specs.PlainLock.{Pair, pairsOf, permitted, refusalAt, firstBad, historyRefusal, historyReply, checkReply}
-use Rattle.definitions.specs.Plan.{planOf, plan, planned, planAnswer, planReply}
-use Rattle.definitions.specs.Script.{runOutputOf, runRefusal, runReply}
-use Rattle.runs.proofs.Suffices.{suffices}
-use Rattle.plan.proofs.PlanLaws.{plan-length}
-use Rattle.plan.proofs.LoopLaws.{moves-few}
-use Rattle.theory.proofs.Tests.{decided, and-r, T-true, T-false}
-use Rattle.theory.proofs.Quantifiers.{first-most}
-use Rattle.theory.proofs.Lists.{length-listOf}
-use Rattle.theory.proofs.Lengths.{gather-most, pairs-length}
-use Rattle.theory.proofs.Views.{sized-e}
-use Rattle.theory.proofs.Ways.{peel}
+use Rattle.definitions.specs.declared.Request.{Request}
 use Rattle.wospinzo.specs.Encoding.{valueIn, valueBound}
+use Rattle.history.proofs.CheckLaws.{tests-e}
+use Rattle.runs.proofs.Suffices.{suffices}
+use Rattle.theory.proofs.Bytes.{sized-e}
+use Rattle.theory.proofs.Lengths.{gather-length, pairs-length, fresh-length}
+use Rattle.theory.proofs.Lists.{length-listOf}
+use Rattle.theory.proofs.OpenMovesExact.{open-short}
+use Rattle.theory.proofs.Replies.{peel, pass}
+use Rattle.theory.proofs.TestLists.{passes-append}
+use Rattle.theory.proofs.Tests.{and-l, and-r}
 
--- the answer of an entry that writes a list where no test refuses
-small-unless : (k : ℕ) (count : ℕ) → (k ≡ 0 → count < valueBound) → valueIn (unlessRefused k (done count) (refused k 0)) < valueBound
-small-unless k count h = choose (decided (eqb k 0))
+-- ---- by an entry's tests
+
+-- the place of every test that is come to is below a bound
+abbrev PlacesBelow : ℕ → List Test → Type 0
+PlacesBelow bound [] = Unit {0}
+PlacesBelow bound (t ∷ ts) = (t .place < bound) × (T (t .passed) → PlacesBelow bound ts)
+
+places-append : (bound : ℕ) (ts us : List Test) → PlacesBelow bound ts → PlacesBelow bound us → PlacesBelow bound (ts ++ us)
+places-append bound [] us h k = k
+places-append bound (t ∷ ts) us h k = (h .0, λ p. places-append bound ts us (h .1 p) k)
+
+places-gather : (bound : ℕ) (f : ℕ → List Test) (n : ℕ) → ((k : ℕ) → k < n → PlacesBelow bound (f k)) → PlacesBelow bound (gather n f)
+unfolding gather
+places-gather bound f zero h = tt
+places-gather bound f (suc n) h = places-append bound (gather n f) (f n) (places-gather bound f n (λ k l. h k (omega arith))) (h n (omega arith))
+
+-- the value of what is answered
+small-answer : (ts : List Test) (count bound : ℕ) → PlacesBelow bound ts → (T (passesAll ts) → count < bound) → valueIn (answered ts count) < bound
+unfolding answered passesAll
+small-answer [] count bound h k = k tt
+small-answer (t ∷ ts) count bound h k = by (t .passed) refl (λ p. small-answer ts count bound (h .1 p) (λ q. k (pass t ts p q)))
   where
-    choose : T (eqb k 0) ⊎ T (not (eqb k 0)) → valueIn (unlessRefused k (done count) (refused k 0)) < valueBound
-    choose (inl t) = rw (T-true (eqb k 0) t) (h (eqb→eq k 0 t))
-    choose (inr t) = rw (T-false (eqb k 0) t) (omega arith)
+    by : (b : Bool) → t .passed ≡ b → (T (t .passed) → valueIn (answered ts count) < bound) → valueIn (cond b (answered ts count) (refused (t .number) (t .place))) < bound
+    by true e rest = rest (subst T (sym e) tt)
+    by false e rest = h .0
 
-pub fresh-small : (n : ℕ) (out : List ℕ) → n < 65536 → valueIn (freshReply n out) < valueBound
-unfolding freshReply fresh
-fresh-small n out h = small-unless (freshRefusal n out) (length (fresh n)) (λ e. omega (arith, length-replicate {A = ℕ} (3 * n) 0))
+-- a reply to what is delivered has a small value
+abbrev pub SmallReply : Delivery ℕ → Type 0
+SmallReply d = (out : List ℕ) (r : Reply ℕ) → r ≡ deliveryReply d out → valueIn r < valueBound
+
+small-delivery : (d : Delivery ℕ) → PlacesBelow valueBound (d .tests) → (T (passesAll (d .tests)) → d .answer < valueBound) → SmallReply d
+unfolding deliveryReply
+small-delivery d h k out r e =
+    let room = roomTest (d .text) out ∷ [] in
+    rw e (small-answer (d .tests ++ room) (d .answer) valueBound (places-append valueBound (d .tests) room h (omega arith, λ p. tt))
+    (λ p. k (and-l (passesAll (d .tests)) (passesAll room) (subst T (passes-append (d .tests) room) p))))
+
+-- ---- tables
+
+pub fresh-small : (n : ℕ) → SmallReply (freshEntry n)
+fresh-small n =
+    small-delivery (freshEntry n) (omega arith, λ p. tt)
+    (λ p. omega (arith, fresh-length n, leb→le n mostThreads (and-r (leb 1 n) (leb n mostThreads) (peel _ [] p .0))))
 
 -- a table that passed test 1 has at most 200 threads
-few : (bytes : List ℕ) → T (sized bytes) → getD bytes 0 0 ≤ 200
-few bytes t = sized-e bytes t .most
+few : (bytes : List ℕ) (ts : List Test) → T (passesAll (test 1 (sized bytes) ∷ ts)) → tableOf bytes .threads ≤ mostThreads
+few bytes ts p = sized-e bytes (peel _ ts p .0) .most
 
-pub nodes-small : (bytes out : List ℕ) → valueIn (nodesReply bytes out) < valueBound
-unfolding nodesReply nodesRefusal nodesOf
-nodes-small bytes out =
-    small-unless (nodesRefusal bytes out) (length (nodesOf (tableOf bytes)))
-    (λ e. let a = few bytes (peel _ _ (λ z. omega arith) e .0) in let l = length-listOf (getD bytes 0 0) (λ i. nodeOf (tableOf bytes .phase i)) in omega arith)
+pub nodes-small : (bytes : List ℕ) → SmallReply (nodesEntry bytes)
+unfolding nodesOf
+nodes-small bytes =
+    small-delivery (nodesEntry bytes) (omega arith, λ p. (omega arith, λ q. tt))
+    (λ p. omega (arith, few bytes _ p, length-listOf (tableOf bytes .threads) (λ i. nodeOf (tableOf bytes .phase i))))
 
--- a list that is there or not
-length-cond {ℓ} : {A : Type ℓ} (b : Bool) (l : List A) → length (cond b l []) ≤ length l
-length-cond true l = omega arith
-length-cond false l = omega arith
-
--- a move's open pairs number at most N
-open-of : (bytes : List ℕ) (thread move : ℕ) → length (gather (getD bytes 0 0) (λ target. cond (accepts bytes (record { thread = thread; move = move; target = target })) (move ∷ target ∷ []) [])) ≤ getD bytes 0 0 * 2
-open-of bytes thread move =
-    gather-most _ 2 (getD bytes 0 0) (λ target. length-cond (accepts bytes (record { thread = thread; move = move; target = target })) (move ∷ target ∷ []))
-
-open-all : (bytes : List ℕ) (thread : ℕ) → length (openMoves bytes thread) ≤ suc lastMove * (getD bytes 0 0 * 2)
-unfolding openMoves
-open-all bytes thread = gather-most _ (getD bytes 0 0 * 2) (suc lastMove) (open-of bytes thread)
-
-pub open-small : (bytes : List ℕ) (thread : ℕ) (out : List ℕ) → valueIn (openReply bytes thread out) < valueBound
-unfolding openReply openRefusal
-open-small bytes thread out =
-    small-unless (openRefusal bytes thread out) (length (openMoves bytes thread))
-    (λ e. omega (arith, open-all bytes thread, few bytes (peel _ _ (λ z. omega arith) e .0)))
+pub open-small : (bytes : List ℕ) (thread : ℕ) → SmallReply (openEntry bytes thread)
+open-small bytes thread =
+    small-delivery (openEntry bytes thread) (omega arith, λ p. (omega arith, λ q. (omega arith, λ r. tt)))
+    (λ p. omega (arith, few bytes _ p, open-short (tableOf bytes) thread))
 
 -- ---- check and plan
 
-history-small : (n : ℕ) (h : List Pair) (b : ℕ) → length h ≤ b → valueIn (historyReply n h) ≤ b
-unfolding historyReply firstBad
-history-small n h b l = choose (permitted n h)
+-- a history that passed test 8 has at most 60,000 bytes, so that its pairs' places are small
+check-places : (n : ℕ) (bytes : List ℕ) → PlacesBelow valueBound (checkTests n bytes)
+unfolding testsOf
+check-places n bytes = (omega arith, λ p. (omega arith, λ q. places-gather valueBound (testsOf n (pairsOf bytes)) (length (pairsOf bytes)) (pair q)))
   where
-    choose : (p : Bool) → valueIn (cond p (done (length h)) (refused (refusalAt n h (firstBad n h)) (firstBad n h))) ≤ b
-    choose true = l
-    choose false = omega (arith, first-most (λ k. not (eqb (refusalAt n h k) 0)) (length h))
+    pair : T (eqb (length bytes % 2) 0 && leb (length bytes) mostHistory) → (k : ℕ) → k < length (pairsOf bytes) → PlacesBelow valueBound (testsOf n (pairsOf bytes) k)
+    pair q k l =
+        let short = leb→le (length bytes) mostHistory (and-r (eqb (length bytes % 2) 0) (leb (length bytes) mostHistory) q) in
+        let below : k < valueBound = omega (arith, pairs-length bytes) in
+        (below, λ u. (below, λ v. (below, λ w. tt)))
 
--- an accepted length is at most 60,000 bytes
-short : (n : ℕ) (bytes : List ℕ) → historyRefusal n bytes ≡ 0 → (n ≤ mostThreads) × (length bytes ≤ mostHistory)
-unfolding historyRefusal
-short n bytes e =
-    let a = peel _ _ (λ z. omega arith) e in
-    let b = peel _ _ (λ z. omega arith) (a .1) in
-    (leb→le n mostThreads (and-r (leb 1 n) (leb n mostThreads) (a .0)), leb→le (length bytes) mostHistory (and-r (eqb (length bytes % 2) 0) (leb (length bytes) mostHistory) (b .0)))
+-- what the check shows of a history
+checked : (n : ℕ) (bytes : List ℕ) → T (passesAll (checkTests n bytes)) → (n ≤ mostThreads) × (length (pairsOf bytes) ≤ 30_000)
+checked n bytes p = let f = tests-e n bytes p .0 in (f .most, omega (arith, f .short, pairs-length bytes))
 
-pub check-small : (n : ℕ) (bytes : List ℕ) → valueIn (checkReply n bytes) < valueBound
+pub check-small : (n : ℕ) (bytes : List ℕ) (r : Reply ℕ) → r ≡ checkReply n bytes → valueIn r < valueBound
 unfolding checkReply
-check-small n bytes = choose (decided (eqb (historyRefusal n bytes) 0))
+check-small n bytes r e =
+    rw e (small-answer (checkTests n bytes) (length (pairsOf bytes)) valueBound (check-places n bytes) (λ p. omega (arith, checked n bytes p .1)))
+
+-- all lists of a table of lists are short
+abbrev AllShort : {A : Type 0} → ℕ → List (List A) → Type 0
+AllShort bound [] = Unit {0}
+AllShort bound (xs ∷ xss) = (length xs ≤ bound) × AllShort bound xss
+
+short-at : {A : Type 0} (bound : ℕ) (xss : List (List A)) (k : ℕ) → AllShort bound xss → length (getD xss k []) ≤ bound
+short-at bound [] k h = omega arith
+short-at bound (xs ∷ xss) zero h = h .0
+short-at bound (xs ∷ xss) (suc k) h = short-at bound xss k (h .1)
+
+-- an event takes at most 402 moves, event 6 for 200 threads
+event-moves : (n : ℕ) (x : Pair) → n ≤ mostThreads → length (planOf n x) ≤ 402
+unfolding planOf
+event-moves n x l = short-at 402 (planRows n i) (x .event) rows
   where
-    k : ℕ
-    k = historyRefusal n bytes
+    i : ℕ
+    i = x .thread
 
-    choose : T (eqb k 0) ⊎ T (not (eqb k 0)) → valueIn (unlessRefused k (historyReply n (pairsOf bytes)) (refused k 0)) < valueBound
-    choose (inl t) =
-        rw (T-true (eqb k 0) t)
-        (let a = history-small n (pairsOf bytes) (length bytes) (omega (arith, pairs-length bytes)) in let b = short n bytes (eqb→eq k 0 t) .1 in omega arith)
-    choose (inr t) = rw (T-false (eqb k 0) t) (omega arith)
+    last : List Request
+    last = ask i go 0 ∷ []
 
-plan-each : (n : ℕ) (h : List Pair) → n ≤ mostThreads → length (plan n h) ≤ 402 * length h
+    sets : ℕ → List Request
+    sets t = ask i setMove t ∷ ask i go 0 ∷ []
+
+    clears : ℕ → List Request
+    clears t = ask i clearMove t ∷ []
+
+    rows : AllShort 402 (planRows n i)
+    rows = (
+      omega arith,
+      (
+        omega arith,
+        (
+          omega arith,
+          (
+            omega arith,
+            (
+              omega arith,
+              (
+                omega arith,
+                (
+                  omega (arith, length-append (gather n sets) last, gather-length sets 2 n (λ t. refl)),
+                  (omega (arith, length-append (gather n clears) last, gather-length clears 1 n (λ t. refl)), (omega arith, tt)),
+                ),
+              ),
+            ),
+          ),
+        ),
+      ),
+    )
+
+plan-moves : (n : ℕ) (h : List Pair) → n ≤ mostThreads → length (plan n h) ≤ 402 * length h
 unfolding plan
-plan-each n [] l = omega arith
-plan-each n (x ∷ xs) l =
-    omega (arith, length-append (planOf n x) (plan n xs), plan-length n x, moves-few n (x .event) l, plan-each n xs l)
+plan-moves n [] l = omega arith
+plan-moves n (x ∷ xs) l = omega (arith, length-append (planOf n x) (plan n xs), event-moves n x l, plan-moves n xs l)
 
--- the plan's value is the check's where the check refuses, else its number of moves
-answer-small : (r : Reply) (moves : ℕ) (room : Bool) → valueIn r < valueBound → moves < valueBound → valueIn (planAnswer r moves room) < valueBound
-answer-small (done events) moves true a b = b
-answer-small (done events) moves false a b = omega arith
-answer-small (refused number place) moves room a b = a
-answer-small (shown event) moves room a b = a
-answer-small quiet moves room a b = a
-
--- at most 30,000 events of at most 402 moves, where the check passes
-plan-count : (n : ℕ) (bytes : List ℕ) → n ≤ mostThreads → length bytes ≤ mostHistory → length (planned n bytes) < valueBound
-plan-count n bytes a b = omega (arith, plan-each n (pairsOf bytes) a, pairs-length bytes)
-
-pub plan-small : (n : ℕ) (bytes out : List ℕ) → valueIn (planReply n bytes out) < valueBound
-unfolding planReply checkReply
-plan-small n bytes out = choose (decided (eqb (historyRefusal n bytes) 0))
-  where
-    choose : T (eqb (historyRefusal n bytes) 0) ⊎ T (not (eqb (historyRefusal n bytes) 0)) → valueIn (planReply n bytes out) < valueBound
-    choose (inl t) =
-        let a = short n bytes (eqb→eq (historyRefusal n bytes) 0 t) in
-        answer-small (checkReply n bytes) _ _ (check-small n bytes) (plan-count n bytes (a .0) (a .1))
-    choose (inr t) = rw (T-false (eqb (historyRefusal n bytes) 0) t) (omega arith)
+pub plan-small : (n : ℕ) (bytes : List ℕ) → SmallReply (planEntry n bytes)
+plan-small n bytes =
+    small-delivery (planEntry n bytes) (check-places n bytes)
+    (λ p. let c = checked n bytes p in omega (arith, plan-moves n (pairsOf bytes) (c .0), c .1))
 
 -- ---- the run
 
--- its output is at most 65,536 bytes, where the script isn't too long
-pub run-small : (script out : List ℕ) → valueIn (runReply script out) < valueBound
-unfolding runReply runRefusal
-run-small script out =
-    small-unless (runRefusal script out) (length (runOutputOf script))
-    (λ e. omega (arith, suffices script (leb→le (length script) mostScript (peel _ _ (λ z. omega arith) e .0))))
+pub run-small : (script : List ℕ) → SmallReply (runEntry script)
+run-small script =
+    small-delivery (runEntry script) (omega arith, λ p. tt)
+    (λ p. omega (arith, suffices script (leb→le (length script) mostScript (peel _ [] p .0))))

@@ -1,21 +1,38 @@
--- An answer as one number, for C: the low byte is the refusal's number, 0 where the request is accepted; the rest is the refusal's place, or the count, or the event's code (0 for quiet).
--- Of the answers that one entry can give no two have the same number. Assumes nothing.
+-- An answer as one number, for C: the low byte is the refusal's number, 0 where the request is accepted; the rest is the value of what is answered, or the refusal's place.
+-- Of the answers that one entry can give no two have the same number (proofs/Apart).
 use Prim.Native.Nat.{ℕ, _+_, _*_}
-use Rattle.definitions.specs.Answers.{Reply, shown, quiet, done, refused}
+use Rattle.definitions.specs.Answers.{Reply, accepted, refused, Seen, shown, quiet}
 
-unfoldable pub encoded : Reply → ℕ
-encoded (shown event) = 256 * event
-encoded quiet = 0
-encoded (done count) = 256 * count
-encoded (refused number place) = 256 * place + number
+-- one rule for every entry, given the value of what it answers
+unfoldable pub encoded : {A : Type 0} → (A → ℕ) → Reply A → ℕ
+encoded value (accepted a) = 256 * value a
+encoded value (refused number place) = 256 * place + number
 
--- an answer's value: the event's code, the count, or the place
-abbrev pub valueIn : Reply → ℕ
-valueIn (shown event) = event
-valueIn quiet = 0
-valueIn (done count) = count
+-- the value of what is seen of a move: the event's code, 0 for quiet
+abbrev pub seenValue : Seen → ℕ
+seenValue (shown event) = event
+seenValue quiet = 0
+
+-- of a count, the count
+abbrev pub countValue : ℕ → ℕ
+countValue count = count
+
+-- what the move entry answers for its reply, and every other entry for its own
+abbrev pub moveNumber : Reply Seen → ℕ
+moveNumber = encoded seenValue
+
+abbrev pub countNumber : Reply ℕ → ℕ
+countNumber = encoded countValue
+
+-- an answer's value: the count, or the place
+abbrev pub valueIn : Reply ℕ → ℕ
+valueIn (accepted count) = count
 valueIn (refused number place) = place
 
 -- values stay below this, so that an answer fits 64 bits
 abbrev pub valueBound : ℕ
 valueBound = 36_028_797_018_963_968
+
+-- the version, as the header has it: 65,536 times the major number, 256 times the minor one, and the patch number
+abbrev pub version : ℕ
+version = 65_536 * 1 + 256 * 0 + 0

@@ -3,20 +3,29 @@
 // refusal's place, the count, or the event's code.
 use definitions::Answer;
 use definitions::Outcome;
-ghost use mathlib.Core.Path.{_≡_};
+use definitions::Request;
 ghost use Prim.Native.Nat.{_<_};
-ghost use Rattle.definitions.specs.Answers.{replyOf, replyOfAnswer};
-ghost use Rattle.definitions.specs.Nodes.{nodesReply, nodesOutput};
-ghost use Rattle.definitions.specs.Moves.{moveReply, moveTable};
-ghost use Rattle.definitions.specs.OpenMoves.{openReply, openOutput, freshReply, freshOutput};
+ghost use mathlib.Core.Path.{_≡_};
+ghost use Rattle.definitions.specs.Answers.{outcomeReply, answerReply, deliveryReply, deliveryOutput};
+ghost use Rattle.definitions.specs.Moves.{ask, moveReply, moveTable};
+ghost use Rattle.definitions.specs.Nodes.{nodesEntry};
+ghost use Rattle.definitions.specs.OpenMoves.{openEntry};
 ghost use Rattle.definitions.specs.PlainLock.{checkReply};
-ghost use Rattle.definitions.specs.Plan.{planReply, planOutput};
-ghost use Rattle.definitions.specs.Script.{runReply, runOutput};
-ghost use Rattle.wospinzo.specs.Encoding.{encoded, valueIn, valueBound};
+ghost use Rattle.definitions.specs.Plan.{planEntry};
+ghost use Rattle.definitions.specs.Run.{runEntry};
+ghost use Rattle.definitions.specs.Table.{freshEntry};
+ghost use Rattle.wospinzo.specs.Encoding.{moveNumber, countNumber, valueIn, valueBound, version};
+
+// The part's version: major, minor and patch number. The major number changes with a promise or with the header.
+const MAJOR: u32 = 1;
+
+const MINOR: u32 = 0;
+
+const PATCH: u32 = 0;
 
 // The number of an outcome of the move.
 fn outcome_number(outcome: Outcome) -> u64
-    ensures { λ r. ⌜ r ≡ encoded (replyOf outcome) ⌝ }
+    ensures { λ r. ⌜ r ≡ moveNumber (outcomeReply outcome) ⌝ }
 {
     match outcome {
         Outcome::Shown(event) => 256 * (event.code() as u64),
@@ -27,8 +36,8 @@ fn outcome_number(outcome: Outcome) -> u64
 
 // The number of any other entry's answer, whose value is small.
 fn answer_number(answer: Answer) -> u64
-    requires { ⌜ valueIn (replyOfAnswer answer) < valueBound ⌝ }
-    ensures { λ r. ⌜ r ≡ encoded (replyOfAnswer answer) ⌝ }
+    requires { ⌜ valueIn (answerReply answer) < valueBound ⌝ }
+    ensures { λ r. ⌜ r ≡ countNumber (answerReply answer) ⌝ }
 {
     match answer {
         Answer::Done(count) => 256 * (count as u64),
@@ -39,8 +48,8 @@ fn answer_number(answer: Answer) -> u64
 // A fresh table for N threads.
 #[no_mangle]
 pub extern "C" fn wospinzo_fresh(threads: u16, out: &mut [u8]) -> u64
-    ensures { λ r. ⌜ r ≡ encoded (freshReply threads (now (out .entry))) ⌝ }
-    ensures { λ r. ⌜ now (out .exit) ≡ freshOutput threads (now (out .entry)) ⌝ }
+    ensures { λ r. ⌜ r ≡ countNumber (deliveryReply (freshEntry threads) (now (out .entry))) ⌝ }
+    ensures { λ r. ⌜ now (out .exit) ≡ deliveryOutput (freshEntry threads) (now (out .entry)) ⌝ }
 {
     let answer = table::fresh(threads, out);
     answer_number(answer)
@@ -49,28 +58,28 @@ pub extern "C" fn wospinzo_fresh(threads: u16, out: &mut [u8]) -> u64
 // One move of one thread; the table stays in the lent bytes.
 #[no_mangle]
 pub extern "C" fn wospinzo_move(table: &mut [u8], thread: u16, mv: u16, target: u16) -> u64
-    ensures { λ r. ⌜ r ≡ encoded (moveReply (now (table .entry)) (record { thread = thread; move = mv; target = target })) ⌝ }
-    ensures { λ r. ⌜ now (table .exit) ≡ moveTable (now (table .entry)) (record { thread = thread; move = mv; target = target }) ⌝ }
+    ensures { λ r. ⌜ r ≡ moveNumber (moveReply (now (table .entry)) (ask thread mv target)) ⌝ }
+    ensures { λ r. ⌜ now (table .exit) ≡ moveTable (now (table .entry)) (ask thread mv target) ⌝ }
 {
-    let outcome = lock::make_move(table, thread, mv, target);
+    let outcome = lock::make_move(table, Request { thread, mv, target });
     outcome_number(outcome)
 }
 
 // The nodes of all threads.
 #[no_mangle]
 pub extern "C" fn wospinzo_nodes(table: &[u8], out: &mut [u8]) -> u64
-    ensures { λ r. ⌜ r ≡ encoded (nodesReply (now (table .entry)) (now (out .entry))) ⌝ }
-    ensures { λ r. ⌜ now (out .exit) ≡ nodesOutput (now (table .entry)) (now (out .entry)) ⌝ }
+    ensures { λ r. ⌜ r ≡ countNumber (deliveryReply (nodesEntry (now (table .entry))) (now (out .entry))) ⌝ }
+    ensures { λ r. ⌜ now (out .exit) ≡ deliveryOutput (nodesEntry (now (table .entry))) (now (out .entry)) ⌝ }
 {
-    let answer = table::nodes(table, out);
+    let answer = nodes::nodes(table, out);
     answer_number(answer)
 }
 
 // The moves that a thread's requests would have accepted.
 #[no_mangle]
 pub extern "C" fn wospinzo_open_moves(table: &[u8], thread: u16, out: &mut [u8]) -> u64
-    ensures { λ r. ⌜ r ≡ encoded (openReply (now (table .entry)) thread (now (out .entry))) ⌝ }
-    ensures { λ r. ⌜ now (out .exit) ≡ openOutput (now (table .entry)) thread (now (out .entry)) ⌝ }
+    ensures { λ r. ⌜ r ≡ countNumber (deliveryReply (openEntry (now (table .entry)) thread) (now (out .entry))) ⌝ }
+    ensures { λ r. ⌜ now (out .exit) ≡ deliveryOutput (openEntry (now (table .entry)) thread) (now (out .entry)) ⌝ }
 {
     let answer = listing::open_moves(table, thread, out);
     answer_number(answer)
@@ -79,7 +88,7 @@ pub extern "C" fn wospinzo_open_moves(table: &[u8], thread: u16, out: &mut [u8])
 // Whether the plain lock permits a history.
 #[no_mangle]
 pub extern "C" fn wospinzo_check(threads: u16, history: &[u8]) -> u64
-    ensures { λ r. ⌜ r ≡ encoded (checkReply threads (now (history .entry))) ⌝ }
+    ensures { λ r. ⌜ r ≡ countNumber (checkReply threads (now (history .entry))) ⌝ }
 {
     let answer = history::check(threads, history);
     answer_number(answer)
@@ -88,8 +97,8 @@ pub extern "C" fn wospinzo_check(threads: u16, history: &[u8]) -> u64
 // The requests that make a permitted history happen.
 #[no_mangle]
 pub extern "C" fn wospinzo_plan(threads: u16, history: &[u8], out: &mut [u8]) -> u64
-    ensures { λ r. ⌜ r ≡ encoded (planReply threads (now (history .entry)) (now (out .entry))) ⌝ }
-    ensures { λ r. ⌜ now (out .exit) ≡ planOutput threads (now (history .entry)) (now (out .entry)) ⌝ }
+    ensures { λ r. ⌜ r ≡ countNumber (deliveryReply (planEntry threads (now (history .entry))) (now (out .entry))) ⌝ }
+    ensures { λ r. ⌜ now (out .exit) ≡ deliveryOutput (planEntry threads (now (history .entry))) (now (out .entry)) ⌝ }
 {
     let answer = plan::plan(threads, history, out);
     answer_number(answer)
@@ -98,9 +107,17 @@ pub extern "C" fn wospinzo_plan(threads: u16, history: &[u8], out: &mut [u8]) ->
 // The run of a script.
 #[no_mangle]
 pub extern "C" fn wospinzo_run(script: &[u8], out: &mut [u8]) -> u64
-    ensures { λ r. ⌜ r ≡ encoded (runReply (now (script .entry)) (now (out .entry))) ⌝ }
-    ensures { λ r. ⌜ now (out .exit) ≡ runOutput (now (script .entry)) (now (out .entry)) ⌝ }
+    ensures { λ r. ⌜ r ≡ countNumber (deliveryReply (runEntry (now (script .entry))) (now (out .entry))) ⌝ }
+    ensures { λ r. ⌜ now (out .exit) ≡ deliveryOutput (runEntry (now (script .entry))) (now (out .entry)) ⌝ }
 {
     let answer = script::run(script, out);
     answer_number(answer)
+}
+
+// The version, for a maker's program to compare with the header's that it was built with.
+#[no_mangle]
+pub extern "C" fn wospinzo_version() -> u32
+    ensures { λ r. ⌜ r ≡ version ⌝ }
+{
+    65_536 * MAJOR + 256 * MINOR + PATCH
 }

@@ -7,7 +7,9 @@
 
 use std::process::ExitCode;
 
-use wospinzo::{fresh, make_move, table_size, Event, Move, Outcome, Refusal};
+use wospinzo::{
+    forbidden, fresh, make_move, phase, table_size, Event, Move, Outcome, Phase, Refusal,
+};
 
 const READERS: usize = 6;
 const PANELS: usize = 2;
@@ -61,19 +63,21 @@ impl Executive {
         })
     }
 
-    /// The first task whose forbidden flag has this value.
-    fn first_with(&self, forbidden: u8) -> u16 {
-        let mut flags = self.table[5..].iter().step_by(3);
-        flags.position(|&flag| flag == forbidden).unwrap_or(0) as u16
+    /// The first task whose forbidden flag is set, or is not.
+    fn first_with(&self, set: bool) -> u16 {
+        let mut tasks = 0..TASKS as u16;
+        tasks
+            .find(|&task| forbidden(&self.table, task) == Some(set))
+            .unwrap_or(0)
     }
 
     /// The task's next move, by its phase.
     fn next_move(&self, number: usize) -> Move {
-        match self.table[3 + 3 * number] {
-            0 if is_panel(number) => Move::CallExclusive,
-            0 => Move::CallShared,
-            10 => Move::Set(self.first_with(0)),
-            15 => Move::Clear(self.first_with(1)),
+        match phase(&self.table, number as u16) {
+            Some(Phase::Free) if is_panel(number) => Move::CallExclusive,
+            Some(Phase::Free) => Move::CallShared,
+            Some(Phase::SetFlag) => Move::Set(self.first_with(false)),
+            Some(Phase::ClearFlags) => Move::Clear(self.first_with(true)),
             _ => Move::Go,
         }
     }

@@ -163,6 +163,81 @@ impl Node {
     }
 }
 
+/// What a thread does next in the lock, by its phase. Its number is
+/// `phase as u8`.
+#[derive(Clone, Copy, Debug, PartialEq, Eq, Hash, PartialOrd, Ord)]
+#[repr(u8)]
+pub enum Phase {
+    /// Nothing: it is outside the lock.
+    Free = 0,
+    /// A reader raises its busy flag.
+    RaiseBusy = 1,
+    /// It reads its forbidden flag.
+    ReadForbidden = 2,
+    /// It found 1 there, and lowers busy.
+    BackOff = 3,
+    /// It starts again.
+    TryAgain = 4,
+    /// It found 0 there: its return is shown.
+    EnterShared = 5,
+    /// It reads the settings, then leaves.
+    InShared = 6,
+    /// It lowers busy.
+    LowerBusy = 7,
+    /// Its return is shown.
+    LeaveShared = 8,
+    /// A writer takes the mutex.
+    TakeMutex = 9,
+    /// It sets a forbidden flag.
+    SetFlag = 10,
+    /// It reads that thread's busy flag.
+    ReadBusy = 11,
+    /// It found 1 there, and clears the flag.
+    TakeBack = 12,
+    /// Every flag is set: its return is shown.
+    EnterExclusive = 13,
+    /// It writes the settings, then leaves.
+    InExclusive = 14,
+    /// It clears the flags.
+    ClearFlags = 15,
+    /// It lets the mutex go.
+    LetMutexGo = 16,
+    /// Its return is shown.
+    LeaveExclusive = 17,
+}
+
+impl Phase {
+    /// All phases, in the order of their numbers, 0 to 17.
+    pub const ALL: [Phase; 18] = [
+        Phase::Free,
+        Phase::RaiseBusy,
+        Phase::ReadForbidden,
+        Phase::BackOff,
+        Phase::TryAgain,
+        Phase::EnterShared,
+        Phase::InShared,
+        Phase::LowerBusy,
+        Phase::LeaveShared,
+        Phase::TakeMutex,
+        Phase::SetFlag,
+        Phase::ReadBusy,
+        Phase::TakeBack,
+        Phase::EnterExclusive,
+        Phase::InExclusive,
+        Phase::ClearFlags,
+        Phase::LetMutexGo,
+        Phase::LeaveExclusive,
+    ];
+
+    /// The phase of a number, none above 17.
+    pub const fn from_number(number: u8) -> Option<Phase> {
+        match number {
+            0..=17 => Some(Phase::ALL[number as usize]),
+            _ => None,
+        }
+    }
+}
+
 /// Why a request was turned down. Its number is `refusal as u8`; a request is
 /// tested in the order of the numbers.
 #[derive(Clone, Copy, Debug, PartialEq, Eq, Hash, PartialOrd, Ord)]

@@ -70,9 +70,10 @@
 //!
 //! Byte 0 is N, byte 1 the mutex (0 or 1), byte 2 the target of the thread that
 //! holds the mutex, 255 for none. Then come three bytes a thread: its phase (0
-//! to 17, see [`Node`]), its busy flag and its forbidden flag. Every function
-//! that takes a table tests it first; one that moves could not have left is
-//! turned down as [`Refusal::Unsound`].
+//! to 17, see [`Phase`]), its busy flag and its forbidden flag. Every function
+//! of the table above that takes a table tests it first; one that breaks a rule
+//! of soundness is turned down as [`Refusal::Unsound`]. No move leaves such a
+//! table.
 //!
 //! # Linking
 //!
@@ -89,8 +90,11 @@
 mod codes;
 pub mod raw;
 
-pub use codes::{Event, Move, Node, Outcome, Refusal, Rejected};
+pub use codes::{Event, Move, Node, Outcome, Phase, Refusal, Rejected};
 
+/// The version of this crate and of the header: 65,536 times the major, 256
+/// times the minor, and the patch number. [`version`] is that of the archive.
+pub const VERSION: u32 = 65_536;
 /// The largest number of threads.
 pub const MAX_THREADS: u16 = 200;
 /// The bytes of the largest table.
@@ -117,6 +121,63 @@ pub const fn table_size(threads: u16) -> usize {
 /// Bytes in which a thread's open moves always fit, for so many threads.
 pub const fn open_moves_room(threads: u16) -> usize {
     4 * threads as usize
+}
+
+/// The version of the archive, as [`VERSION`].
+///
+/// ```
+/// assert_eq!(wospinzo::version(), wospinzo::VERSION);
+/// ```
+pub fn version() -> u32 {
+    // SAFETY: it takes nothing and answers a constant.
+    unsafe { raw::wospinzo_version() }
+}
+
+/// The number of threads of a table, of which nothing else is tested.
+pub fn threads(table: &[u8]) -> Option<u16> {
+    table.first().map(|&byte| byte.into())
+}
+
+/// Whether the mutex of a table is held, of which nothing else is tested.
+pub fn mutex_held(table: &[u8]) -> Option<bool> {
+    table.get(1).map(|&byte| byte != 0)
+}
+
+/// The target of a table's writer, none where it has none. Nothing is tested.
+pub fn target(table: &[u8]) -> Option<u16> {
+    table
+        .get(2)
+        .filter(|&&byte| byte != NO_TARGET)
+        .map(|&byte| byte.into())
+}
+
+/// Byte `at` of a thread's three.
+fn byte_of(table: &[u8], thread: u16, at: usize) -> Option<u8> {
+    table.get(table_size(thread) + at).copied()
+}
+
+/// The phase of a thread of a table, of which nothing else is tested.
+///
+/// ```
+/// use wospinzo::{phase, Phase};
+///
+/// let table = [2, 1, 255, 6, 1, 0, 10, 0, 0];
+/// assert_eq!(phase(&table, 1), Some(Phase::SetFlag));
+/// assert_eq!(phase(&table, 2), None);
+/// ```
+pub fn phase(table: &[u8], thread: u16) -> Option<Phase> {
+    byte_of(table, thread, 0).and_then(Phase::from_number)
+}
+
+/// Whether a thread's busy flag is set. Nothing else of the table is tested.
+pub fn busy(table: &[u8], thread: u16) -> Option<bool> {
+    byte_of(table, thread, 1).map(|byte| byte != 0)
+}
+
+/// Whether a thread's forbidden flag is set. Nothing else of the table is
+/// tested.
+pub fn forbidden(table: &[u8], thread: u16) -> Option<bool> {
+    byte_of(table, thread, 2).map(|byte| byte != 0)
 }
 
 /// The number answered, or the refusal with its place.

@@ -4,6 +4,8 @@
 //! The slices of one call must not overlap. An answer is taken apart by [`refusal`] and [`value`].
 
 extern "C" {
+    /// See [`version`](crate::version).
+    pub fn wospinzo_version() -> u32;
     /// See [`fresh`](crate::fresh).
     pub fn wospinzo_fresh(threads: u16, out: *mut u8, out_len: usize) -> u64;
     /// See [`make_move`](crate::make_move). The value answered is the event's

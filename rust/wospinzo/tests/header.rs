@@ -4,7 +4,7 @@ use std::collections::HashMap;
 use std::fs;
 use std::path::Path;
 
-use wospinzo::{Event, Move, Node, Refusal};
+use wospinzo::{Event, Move, Node, Phase, Refusal};
 
 /// The constants of the header, enumerators and plain macros.
 fn header() -> HashMap<String, u32> {
@@ -54,6 +54,10 @@ fn codes_are_those_of_the_header() {
         same(upper(&format!("{node:?}")), node as u32);
         assert_eq!(Node::from_code(node as u8), Some(node));
     }
+    for phase in Phase::ALL {
+        same(format!("PHASE_{}", upper(&format!("{phase:?}"))), phase as u32);
+        assert_eq!(Phase::from_number(phase as u8), Some(phase));
+    }
     for refusal in Refusal::ALL {
         same(upper(&format!("{refusal:?}")), refusal as u32);
         assert_eq!(Refusal::from_number(refusal as u8), Some(refusal));
@@ -64,6 +68,9 @@ fn codes_are_those_of_the_header() {
         same(upper(&name), u32::from(number));
         assert_eq!(mov.numbers(), (number, 0));
     }
+    same("VERSION_MAJOR".into(), wospinzo::VERSION >> 16);
+    same("VERSION_MINOR".into(), wospinzo::VERSION >> 8 & 255);
+    same("VERSION_PATCH".into(), wospinzo::VERSION & 255);
     same("MAX_THREADS".into(), wospinzo::MAX_THREADS.into());
     same("MAX_TABLE_SIZE".into(), wospinzo::MAX_TABLE_SIZE as u32);
     same("NO_TARGET".into(), wospinzo::NO_TARGET.into());
@@ -82,6 +89,7 @@ fn other_numbers_are_no_codes() {
     assert_eq!(Event::from_code(0), None);
     assert_eq!(Event::from_code(9), None);
     assert_eq!(Node::from_code(11), None);
+    assert_eq!(Phase::from_number(18), None);
     assert_eq!(Refusal::from_number(0), None);
     assert_eq!(Refusal::from_number(13), None);
     assert_eq!(Move::from_numbers(6, 0), None);

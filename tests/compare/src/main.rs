@@ -5,7 +5,8 @@
 //!     compare --faults    the model against itself with a fault in one: each
 //!                         fault must be found
 //!
-//! It ends with the line `N passed, M failed`, and with a status other than 0
+//! It says how many calls were compared, and ends with the line `N passed, M
+//! failed`, which counts sections (or faults), and with a status other than 0
 //! where something failed.
 
 use std::env;
@@ -30,33 +31,85 @@ fn archive_entries() -> Vec<Entry> {
     entries
 }
 
-/// Runs every section.
-fn compare_all(c: &mut Comparison, vectors: &[vectors::Vector]) {
-    c.say("vectors:");
-    sections::vectors(c, vectors);
-    let before = c.passed;
-    examples::marked(c);
-    examples::others(c);
-    let made = c.passed - before;
-    c.say(&format!("examples and bounds of the scope paper: {made}"));
-    c.say("all tables that moves reach, all requests:");
-    sections::reached_tables(c);
-    c.say("all tables of one and two threads, sound or not:");
-    sections::small_tables(c);
-    if c.has(Entry::Check) {
-        c.say("all short histories:");
-        sections::small_histories(c);
+/// A part of the comparison: its name, the entry without which it is left out, and what it does.
+struct Section {
+    name: &'static str,
+    needs: Option<Entry>,
+    run: fn(&mut Comparison, &[vectors::Vector]),
+}
+
+const SECTIONS: [Section; 10] = [
+    Section {
+        name: "vectors",
+        needs: None,
+        run: |c, vectors| sections::vectors(c, vectors),
+    },
+    Section {
+        name: "marked examples of the scope paper",
+        needs: None,
+        run: |c, _| examples::marked(c),
+    },
+    Section {
+        name: "other examples and bounds of the scope paper",
+        needs: None,
+        run: |c, _| examples::others(c),
+    },
+    Section {
+        name: "all tables that moves reach, all requests",
+        needs: None,
+        run: |c, _| sections::reached_tables(c),
+    },
+    Section {
+        name: "all tables of one and two threads, sound or not",
+        needs: None,
+        run: |c, _| sections::small_tables(c),
+    },
+    Section {
+        name: "all short histories",
+        needs: Some(Entry::Check),
+        run: |c, _| sections::small_histories(c),
+    },
+    Section {
+        name: "a script with each byte edited",
+        needs: Some(Entry::Run),
+        run: |c, _| sections::edited_scripts(c),
+    },
+    Section {
+        name: "walks",
+        needs: None,
+        run: |c, _| sections::walks(c, SEED),
+    },
+    Section {
+        name: "plans made by the move",
+        needs: None,
+        run: |c, _| sections::plans(c, SEED),
+    },
+    Section {
+        name: "random cases",
+        needs: None,
+        run: |c, _| sections::random_cases(c, SEED),
+    },
+];
+
+/// Runs every section. One passes where something was compared and nothing
+/// differs. Gives how many passed and how many failed.
+fn compare_all(c: &mut Comparison, vectors: &[vectors::Vector]) -> (u64, u64) {
+    let (mut passed, mut failed) = (0, 0);
+    for section in &SECTIONS {
+        if section.needs.is_some_and(|entry| !c.has(entry)) {
+            continue;
+        }
+        c.say(&format!("{}:", section.name));
+        let before = (c.passed, c.failed);
+        (section.run)(c, vectors);
+        if c.passed > before.0 && c.failed == before.1 {
+            passed += 1;
+        } else {
+            failed += 1;
+            c.say(&format!("FAILED: {}", section.name));
+        }
     }
-    if c.has(Entry::Run) {
-        c.say("a script with each byte edited:");
-        sections::edited_scripts(c);
-    }
-    c.say("walks:");
-    sections::walks(c, SEED);
-    c.say("plans made by the move:");
-    sections::plans(c, SEED);
-    c.say(&format!("random cases, seed {SEED:#x}:"));
-    sections::random_cases(c, SEED);
+    (passed, failed)
 }
 
 /// Each fault must be found.
@@ -106,8 +159,9 @@ fn run() -> Result<(u64, u64), String> {
         Some(other) => return Err(format!("unknown argument {other}")),
     };
     let mut c = Comparison::new(part, &entries);
-    compare_all(&mut c, &vectors);
-    Ok((c.passed, c.failed))
+    let sections = compare_all(&mut c, &vectors);
+    println!("{} calls compared, {} differ", c.passed, c.failed);
+    Ok(sections)
 }
 
 fn main() -> ExitCode {

@@ -1,33 +1,50 @@
--- `forms::read_aimed` meets its contract: the word that the part begins with, and the number behind it. Assumes nothing.
-use Prim.Native.Nat.{ℕ, _-_}
-use mathlib.Core.Path.{_≡_, sym, ap, _∙_}
+-- `forms::read_aimed` meets its contract: the word that the part begins with, and the number behind it.
+use Prim.Native.Nat.{ℕ, _-_, _≤_}
 use mathlib.Core.Bool.{true, false}
 use mathlib.Core.List.{List}
-use lib.ListN.{length, take, drop}
-use Rattle.definitions.specs.Script.{bytes, starts, numberRead, targetForm}
-use Rattle.definitions.specs.Moves.{setMove, clearMove}
-use Rattle.forms.specs.Answers.{aimedForm}
-use Rattle.theory.proofs.Texts.{starts-length}
-use Rattle.theory.proofs.Lists.{from-on}
+use mathlib.Core.Path.{_≡_, sym, ap, _∙_}
 use borrow.Author.Needs.{needs}
+use lib.ListN.{length, take, drop}
+use Rattle.definitions.specs.Codes.{setMove, clearMove}
+use Rattle.definitions.specs.Forms.{targetForm}
+use Rattle.definitions.specs.Texts.{bytes, starts, numberRead}
+use Rattle.forms.specs.Readings.{aimedForm}
+use Rattle.theory.proofs.Lists.{from-on}
+use Rattle.theory.proofs.Texts.{starts-length}
 use Rattle.forms.proofs.read_aimed.Statement.{statement}
 use Rattle.forms.proofs.read_aimed.Tie as tie
 
-set : (c : tie.Then1) → starts (bytes " (set ") (c .before .before .before .before .args .part .now) ≡ true
-unfolding bytes
-set c = sym (c .before .starts-with .ensures) ∙ c .if1 .taken
+-- the part, seen from each way out of a test
+abbrev part : tie.After-starts-with → List ℕ
+part c = c .before .before .before .args .part .now
 
-not-set : (c : tie.Else1) → starts (bytes " (set ") (c .before .before .before .before .args .part .now) ≡ false
+abbrev up : tie.After-starts-with2 → tie.After-starts-with
+up c = c .before .before .before
+
+is-set : (c : tie.Then1) → starts (bytes " (set ") (part (c .before)) ≡ true
+unfolding bytes
+is-set c = sym (c .before .starts-with .ensures) ∙ c .if1 .taken
+
+not-set : (c : tie.Else1) → starts (bytes " (set ") (part (c .before)) ≡ false
 unfolding bytes
 not-set c = sym (c .before .starts-with .ensures) ∙ c .if1 .left
 
-clear : (c : tie.Then2) → starts (bytes " (clear ") (c .before .before .before .before .before .before .before .args .part .now) ≡ true
+is-clear : (c : tie.Then2) → starts (bytes " (clear ") (part (up (c .before))) ≡ true
 unfolding bytes
-clear c = sym (c .before .starts-with2 .ensures) ∙ c .if2 .taken
+is-clear c = sym (c .before .starts-with2 .ensures) ∙ c .if2 .taken
 
-not-clear : (c : tie.Else2) → starts (bytes " (clear ") (c .before .before .before .before .before .before .before .args .part .now) ≡ false
+not-clear : (c : tie.Else2) → starts (bytes " (clear ") (part (up (c .before))) ≡ false
 unfolding bytes
 not-clear c = sym (c .before .starts-with2 .ensures) ∙ c .if2 .left
+
+-- the part behind the word
+set-long : (c : tie.Then1) → 6 ≤ length (part (c .before))
+unfolding bytes
+set-long c = starts-length (bytes " (set ") (part (c .before)) (is-set c)
+
+clear-long : (c : tie.Then2) → 8 ≤ length (part (up (c .before)))
+unfolding bytes
+clear-long c = starts-length (bytes " (clear ") (part (up (c .before))) (is-clear c)
 
 -- what the target's reader answers, from place n on
 aimed : (thread mv : ℕ) (xs : List ℕ) (n : ℕ) → targetForm thread mv (numberRead (take (length xs - n) (drop n xs))) ≡ targetForm thread mv (numberRead (drop n xs))
@@ -39,13 +56,14 @@ slice-aggregate-starts-with c = search needs
 starts-with-requires : tie.Need-starts-with-requires
 starts-with-requires c κs = search needs
 
+cast-read-target : tie.Need-cast-read-target
+cast-read-target c = search needs
+
 sub-read-target : tie.Need-sub-read-target
-unfolding bytes
-sub-read-target c = starts-length (bytes " (set ") (c .before .before .before .before .args .part .now) (set c)
+sub-read-target c = set-long c
 
 part-read-target-start : tie.Need-part-read-target-start
-unfolding bytes
-part-read-target-start c = starts-length (bytes " (set ") (c .before .before .before .before .args .part .now) (set c)
+part-read-target-start c = set-long c
 
 part-read-target-end : tie.Need-part-read-target-end
 part-read-target-end c = search needs
@@ -56,8 +74,8 @@ read-target-requires c κs = search needs
 returns : tie.Need-returns
 unfolding aimedForm
 returns c =
-    let args = c .before .before .before .before .before .before .args in
-    rw (set (c .before .before)) (c .read-target .ensures ∙ aimed (args .thread) setMove (args .part .now) 6)
+    let test = c .before .before in
+    rw (is-set test) (c .read-target .ensures ∙ aimed _ setMove (part (test .before)) 6)
 
 slice-aggregate-starts-with-2 : tie.Need-slice-aggregate-starts-with-2
 slice-aggregate-starts-with-2 c = search needs
@@ -65,13 +83,14 @@ slice-aggregate-starts-with-2 c = search needs
 starts-with-requires-2 : tie.Need-starts-with-requires-2
 starts-with-requires-2 c κs = search needs
 
+cast-read-target-2 : tie.Need-cast-read-target-2
+cast-read-target-2 c = search needs
+
 sub-read-target-2 : tie.Need-sub-read-target-2
-unfolding bytes
-sub-read-target-2 c = starts-length (bytes " (clear ") (c .before .before .before .before .before .before .before .args .part .now) (clear c)
+sub-read-target-2 c = clear-long c
 
 part-read-target-start-2 : tie.Need-part-read-target-start-2
-unfolding bytes
-part-read-target-start-2 c = starts-length (bytes " (clear ") (c .before .before .before .before .before .before .before .args .part .now) (clear c)
+part-read-target-start-2 c = clear-long c
 
 part-read-target-end-2 : tie.Need-part-read-target-end-2
 part-read-target-end-2 c = search needs
@@ -82,8 +101,8 @@ read-target-requires-2 c κs = search needs
 returns-2 : tie.Need-returns-2
 unfolding aimedForm
 returns-2 c =
-    let args = c .before .before .before .before .before .before .before .before .before .args in
-    rw (not-set (c .before .before .before .before .before), clear (c .before .before)) (c .read-target2 .ensures ∙ aimed (args .thread) clearMove (args .part .now) 8)
+    let test = c .before .before in
+    rw (not-set (test .before .before .before), is-clear test) (c .read-target2 .ensures ∙ aimed _ clearMove (part (up (test .before))) 8)
 
 returns-3 : tie.Need-returns-3
 unfolding aimedForm
@@ -95,6 +114,7 @@ read-aimed-spec =
     (tie.spec
     slice-aggregate-starts-with
     starts-with-requires
+    cast-read-target
     sub-read-target
     part-read-target-start
     part-read-target-end
@@ -102,6 +122,7 @@ read-aimed-spec =
     returns
     slice-aggregate-starts-with-2
     starts-with-requires-2
+    cast-read-target-2
     sub-read-target-2
     part-read-target-start-2
     part-read-target-end-2

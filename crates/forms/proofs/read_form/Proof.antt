@@ -1,38 +1,63 @@
--- `forms::read_form` meets its contract: the word that the line begins with, and the reader of what follows. Assumes nothing.
-use Prim.Native.Nat.{ℕ}
-use mathlib.Core.Path.{_≡_, sym, ap, _∙_}
+-- `forms::read_form` meets its contract: the word that the line begins with, and the reader of what follows.
+use Prim.Native.Nat.{ℕ, _≤_}
 use mathlib.Core.Bool.{true, false}
 use mathlib.Core.List.{List}
-use Rattle.definitions.specs.Script.{bytes, starts, numberRead, threadsForm, noteForm, moveForm, formOf}
-use Rattle.theory.proofs.Texts.{starts-length}
-use Rattle.theory.proofs.Lists.{from-on}
+use mathlib.Core.Path.{_≡_, sym, ap, _∙_}
 use borrow.Author.Needs.{needs}
+use lib.ListN.{length}
+use Rattle.definitions.specs.Forms.{noteForm, threadsForm, moveForm, formOf}
+use Rattle.definitions.specs.Texts.{bytes, starts, numberRead}
+use Rattle.theory.proofs.Lists.{from-on}
+use Rattle.theory.proofs.Texts.{starts-length}
 use Rattle.forms.proofs.read_form.Statement.{statement}
 use Rattle.forms.proofs.read_form.Tie as tie
 
-is-threads : (c : tie.Then1) → starts (bytes "(threads ") (c .before .before .before .before .args .line .now) ≡ true
+-- the line, seen from behind each comparison
+abbrev line : tie.After-starts-with → List ℕ
+line c = c .before .before .before .args .line .now
+
+abbrev up2 : tie.After-starts-with2 → tie.After-starts-with
+up2 c = c .before .before .before
+
+abbrev up3 : tie.After-starts-with3 → tie.After-starts-with2
+up3 c = c .before .before .before
+
+is-threads : (c : tie.Then1) → starts (bytes "(threads ") (line (c .before)) ≡ true
 unfolding bytes
 is-threads c = sym (c .before .starts-with .ensures) ∙ c .if1 .taken
 
-not-threads : (c : tie.Else1) → starts (bytes "(threads ") (c .before .before .before .before .args .line .now) ≡ false
+not-threads : (c : tie.Else1) → starts (bytes "(threads ") (line (c .before)) ≡ false
 unfolding bytes
 not-threads c = sym (c .before .starts-with .ensures) ∙ c .if1 .left
 
-is-note : (c : tie.Then2) → starts (bytes "(note ") (c .before .before .before .before .before .before .before .args .line .now) ≡ true
+is-note : (c : tie.Then2) → starts (bytes "(note ") (line (up2 (c .before))) ≡ true
 unfolding bytes
 is-note c = sym (c .before .starts-with2 .ensures) ∙ c .if2 .taken
 
-not-note : (c : tie.Else2) → starts (bytes "(note ") (c .before .before .before .before .before .before .before .args .line .now) ≡ false
+not-note : (c : tie.Else2) → starts (bytes "(note ") (line (up2 (c .before))) ≡ false
 unfolding bytes
 not-note c = sym (c .before .starts-with2 .ensures) ∙ c .if2 .left
 
-is-open : (c : tie.Then3) → starts (bytes "(") (c .before .before .before .before .before .before .before .before .before .before .args .line .now) ≡ true
+is-open : (c : tie.Then3) → starts (bytes "(") (line (up2 (up3 (c .before)))) ≡ true
 unfolding bytes
 is-open c = sym (c .before .starts-with3 .ensures) ∙ c .if3 .taken
 
-not-open : (c : tie.Else3) → starts (bytes "(") (c .before .before .before .before .before .before .before .before .before .before .args .line .now) ≡ false
+not-open : (c : tie.Else3) → starts (bytes "(") (line (up2 (up3 (c .before)))) ≡ false
 unfolding bytes
 not-open c = sym (c .before .starts-with3 .ensures) ∙ c .if3 .left
+
+-- the line is as long as the word that it begins with
+threads-long : (c : tie.Then1) → 9 ≤ length (line (c .before))
+unfolding bytes
+threads-long c = starts-length (bytes "(threads ") (line (c .before)) (is-threads c)
+
+note-long : (c : tie.Then2) → 6 ≤ length (line (up2 (c .before)))
+unfolding bytes
+note-long c = starts-length (bytes "(note ") (line (up2 (c .before))) (is-note c)
+
+open-long : (c : tie.Then3) → 1 ≤ length (line (up2 (up3 (c .before))))
+unfolding bytes
+open-long c = starts-length (bytes "(") (line (up2 (up3 (c .before)))) (is-open c)
 
 slice-aggregate-starts-with : tie.Need-slice-aggregate-starts-with
 slice-aggregate-starts-with c = search needs
@@ -41,12 +66,10 @@ starts-with-requires : tie.Need-starts-with-requires
 starts-with-requires c κs = search needs
 
 sub-read-threads : tie.Need-sub-read-threads
-unfolding bytes
-sub-read-threads c = starts-length (bytes "(threads ") (c .before .before .before .before .args .line .now) (is-threads c)
+sub-read-threads c = threads-long c
 
 part-read-threads-start : tie.Need-part-read-threads-start
-unfolding bytes
-part-read-threads-start c = starts-length (bytes "(threads ") (c .before .before .before .before .args .line .now) (is-threads c)
+part-read-threads-start c = threads-long c
 
 part-read-threads-end : tie.Need-part-read-threads-end
 part-read-threads-end c = search needs
@@ -57,8 +80,8 @@ read-threads-requires c κs = search needs
 returns : tie.Need-returns
 unfolding formOf
 returns c =
-    rw (is-threads (c .before .before))
-    (c .read-threads .ensures ∙ ap (λ (l : List ℕ). threadsForm (numberRead l)) (from-on (c .before .before .before .before .before .before .args .line .now) 9))
+    let test = c .before .before in
+    rw (is-threads test) (c .read-threads .ensures ∙ ap (λ (l : List ℕ). threadsForm (numberRead l)) (from-on (line (test .before)) 9))
 
 slice-aggregate-starts-with-2 : tie.Need-slice-aggregate-starts-with-2
 slice-aggregate-starts-with-2 c = search needs
@@ -67,12 +90,10 @@ starts-with-requires-2 : tie.Need-starts-with-requires-2
 starts-with-requires-2 c κs = search needs
 
 sub-read-note : tie.Need-sub-read-note
-unfolding bytes
-sub-read-note c = starts-length (bytes "(note ") (c .before .before .before .before .before .before .before .args .line .now) (is-note c)
+sub-read-note c = note-long c
 
 part-read-note-start : tie.Need-part-read-note-start
-unfolding bytes
-part-read-note-start c = starts-length (bytes "(note ") (c .before .before .before .before .before .before .before .args .line .now) (is-note c)
+part-read-note-start c = note-long c
 
 part-read-note-end : tie.Need-part-read-note-end
 part-read-note-end c = search needs
@@ -83,8 +104,9 @@ read-note-requires c κs = search needs
 returns-2 : tie.Need-returns-2
 unfolding formOf
 returns-2 c =
-    rw (not-threads (c .before .before .before .before .before), is-note (c .before .before))
-    (c .read-note .ensures ∙ ap noteForm (from-on (c .before .before .before .before .before .before .before .before .before .args .line .now) 6))
+    let test = c .before .before in
+    rw (not-threads (test .before .before .before), is-note test)
+    (c .read-note .ensures ∙ ap noteForm (from-on (line (up2 (test .before))) 6))
 
 slice-aggregate-starts-with-3 : tie.Need-slice-aggregate-starts-with-3
 slice-aggregate-starts-with-3 c = search needs
@@ -93,12 +115,10 @@ starts-with-requires-3 : tie.Need-starts-with-requires-3
 starts-with-requires-3 c κs = search needs
 
 sub-read-request : tie.Need-sub-read-request
-unfolding bytes
-sub-read-request c = starts-length (bytes "(") (c .before .before .before .before .before .before .before .before .before .before .args .line .now) (is-open c)
+sub-read-request c = open-long c
 
 part-read-request-start : tie.Need-part-read-request-start
-unfolding bytes
-part-read-request-start c = starts-length (bytes "(") (c .before .before .before .before .before .before .before .before .before .before .args .line .now) (is-open c)
+part-read-request-start c = open-long c
 
 part-read-request-end : tie.Need-part-read-request-end
 part-read-request-end c = search needs
@@ -109,12 +129,16 @@ read-request-requires c κs = search needs
 returns-3 : tie.Need-returns-3
 unfolding formOf
 returns-3 c =
-    rw (not-threads (c .before .before .before .before .before .before .before .before), not-note (c .before .before .before .before .before), is-open (c .before .before))
-    (c .read-request .ensures ∙ ap (λ (l : List ℕ). moveForm (numberRead l)) (from-on (c .before .before .before .before .before .before .before .before .before .before .before .before .args .line .now) 1))
+    let test = c .before .before in
+    let e = test .before .before .before in
+    rw (not-threads (e .before .before .before), not-note e, is-open test)
+    (c .read-request .ensures ∙ ap (λ (l : List ℕ). moveForm (numberRead l)) (from-on (line (up2 (up3 (test .before)))) 1))
 
 returns-4 : tie.Need-returns-4
 unfolding formOf
-returns-4 c = rw (not-threads (c .before .before .before .before .before .before), not-note (c .before .before .before), not-open c)
+returns-4 c =
+    let e = c .before .before .before in
+    rw (not-threads (e .before .before .before), not-note e, not-open c)
 
 pub read-form-spec : {M : Type 1} → statement M
 read-form-spec =

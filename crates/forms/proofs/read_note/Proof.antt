@@ -1,47 +1,16 @@
--- `forms::read_note` meets its contract: the last byte, and the test of the text before it.
-use native.Mathlib.Omega.{arith}
-use mathlib.Core.Path.{sym, _∙_}
-use mathlib.Core.Bool.{true, false}
+-- `forms::read_note` meets its contract, by what the test of the note answered.
 use borrow.Author.Needs.{needs}
-use lib.Seq.{length-take-le}
-use borrow.Author.Tests.{not-true, not-false}
-use Rattle.forms.proofs.Notes.{note-empty, note-unclosed, note-closed}
 use Rattle.forms.proofs.read_note.Statement.{statement}
 use Rattle.forms.proofs.read_note.Tie as tie
 
+ends-note-requires : tie.Need-ends-note-requires
+ends-note-requires c κs = search needs
+
 returns : tie.Need-returns
-returns c = note-empty _ (c .if1 .taken)
-
-sub-end : tie.Need-sub-end
-sub-end c = search needs
-
-shared-slice-read-if2 : tie.Need-shared-slice-read-if2
-shared-slice-read-if2 c = search needs
+returns c = rw (c .if1 .taken) at (c .before .ends-note .ensures)
 
 returns-2 : tie.Need-returns-2
-returns-2 c = note-unclosed _ (c .if2 .taken)
-
-slice-aggregate-note-fits : tie.Need-slice-aggregate-note-fits
-slice-aggregate-note-fits c = sym (length-take-le _ _ (omega arith))
-
-note-fits-requires : tie.Need-note-fits-requires
-note-fits-requires c κs = search needs
-
-returns-3 : tie.Need-returns-3
-returns-3 c = note-closed _ false (c .before .before .before .if2 .left) (sym (c .before .note-fits .ensures) ∙ not-true _ (c .if3 .taken))
-
-returns-4 : tie.Need-returns-4
-returns-4 c = note-closed _ true (c .before .before .before .if2 .left) (sym (c .before .note-fits .ensures) ∙ not-false _ (c .if3 .left))
+returns-2 c = rw (c .if1 .left) at (c .before .ends-note .ensures)
 
 pub read-note-spec : {M : Type 1} → statement M
-read-note-spec =
-    tie.close
-    (tie.spec
-    returns
-    sub-end
-    shared-slice-read-if2
-    returns-2
-    slice-aggregate-note-fits
-    note-fits-requires
-    returns-3
-    returns-4)
+read-note-spec = tie.close (tie.spec ends-note-requires returns returns-2)

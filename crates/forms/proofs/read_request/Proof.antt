@@ -1,27 +1,27 @@
--- `forms::read_request` meets its contract: the thread's number that was found, and the act behind it. Assumes nothing.
-use mathlib.Core.Path.{ap, _∙_}
+-- `forms::read_request` meets its contract: the thread's number at the front, and the act behind it.
+use mathlib.Core.Path.{sym, ap, _∙_}
 use borrow.Author.Needs.{needs}
-use borrow.Author.Tests.{not-true, not-false}
-use Rattle.definitions.specs.Script.{actForm}
+use Rattle.definitions.specs.Forms.{actForm}
 use Rattle.theory.proofs.Lists.{from-on}
-use Rattle.forms.proofs.Digits.{Found, found, missing}
+use Rattle.words.proofs.NumberReading.{Found, found, missing}
 use Rattle.forms.proofs.read_request.Statement.{statement}
 use Rattle.forms.proofs.read_request.Tie as tie
 
-number : (c : tie.Else1) → Found (c .before .before .before .before .args .part .now) (c .before .before .read-number .result)
-number c = found _ _ (c .before .before .read-number .ensures) (not-false _ (c .if1 .left))
+-- the number that was read
+number : (c : tie.After-number) → Found (c .before .before .before .before .args .part .now) (c .number .given .0 .0) (c .number .given .0 .1 .0)
+number c = found _ _ _ (sym (c .number .given .1) ∙ c .before .before .read-number .ensures)
 
 read-number-requires : tie.Need-read-number-requires
 read-number-requires c κs = search needs
 
-returns : tie.Need-returns
-returns c = rw (missing _ _ (c .before .before .read-number .ensures) (not-true _ (c .if1 .taken)))
+enum-known-number : tie.Need-enum-known-number
+enum-known-number c = search needs
 
 sub-read-act : tie.Need-sub-read-act
-sub-read-act c = number c .within
+sub-read-act c = number (c .before) .within
 
 part-read-act-start : tie.Need-part-read-act-start
-part-read-act-start c = number c .within
+part-read-act-start c = number (c .before) .within
 
 part-read-act-end : tie.Need-part-read-act-end
 part-read-act-end c = search needs
@@ -29,20 +29,28 @@ part-read-act-end c = search needs
 read-act-requires : tie.Need-read-act-requires
 read-act-requires c κs = search needs
 
+enum-told : tie.Need-enum-told
+enum-told c = search needs
+
+returns : tie.Need-returns
+returns c =
+    let n = number (c .before .before .before) in
+    rw (n .fits, n .value-is, n .rest)
+    (c .read-act .ensures ∙ ap (actForm _) (from-on (c .before .before .before .before .before .before .before .args .part .now) _))
+
 returns-2 : tie.Need-returns-2
-returns-2 c =
-    let n = number (c .before .before) in
-    rw (n .fits, n .value, n .rest)
-    (c .read-act .ensures ∙ ap (actForm _) (from-on (c .before .before .before .before .before .before .args .part .now) _))
+returns-2 c = rw (missing _ (sym (c .enum-told .given .1) ∙ c .before .before .read-number .ensures))
 
 pub read-request-spec : {M : Type 1} → statement M
 read-request-spec =
     tie.close
     (tie.spec
     read-number-requires
-    returns
+    enum-known-number
     sub-read-act
     part-read-act-start
     part-read-act-end
     read-act-requires
+    enum-told
+    returns
     returns-2)

@@ -1,9 +1,18 @@
--- `forms::read_target` meets its contract, by what was read of the number and of the text behind it. Assumes nothing.
+-- `forms::read_target` meets its contract, by what was read of the number and of the text behind it.
+use Prim.Native.Nat.{ℕ}
+use mathlib.Core.Path.{ap, _∙_}
 use borrow.Author.Needs.{needs}
-use Rattle.definitions.specs.Script.{request, bytes}
-use Rattle.forms.proofs.Digits.{read-by}
+use Rattle.definitions.specs.Forms.{Form, request}
+use Rattle.definitions.specs.Moves.{ask}
+use Rattle.definitions.specs.Texts.{bytes}
+use Rattle.forms.specs.Readings.{formFor}
+use Rattle.forms.proofs.Closings.{read-by}
 use Rattle.forms.proofs.read_target.Statement.{statement}
 use Rattle.forms.proofs.read_target.Tie as tie
+
+-- the request that a target completes
+abbrev aimed : tie.After-read-closed → ℕ → Form
+aimed c target = let args = c .before .before .before .args in request (ask (args .thread) (args .mv) target)
 
 slice-aggregate-read-closed : tie.Need-slice-aggregate-read-closed
 slice-aggregate-read-closed c = search needs
@@ -14,16 +23,23 @@ read-closed-requires c κs = search needs
 enum-known-number : tie.Need-enum-known-number
 enum-known-number c = search needs
 
+asking-requires : tie.Need-asking-requires
+asking-requires c κs = search needs
+
 enum-told : tie.Need-enum-told
 enum-told c = search needs
 
 returns : tie.Need-returns
 unfolding bytes
-returns c = read-by (request (c .before .before .before .before .before .before .args .thread) (c .before .before .before .before .before .before .args .mv)) _ (bytes "))") _ _ (c .before .before .before .read-closed .ensures) (c .before .number .given .1)
+returns c =
+    let read = c .before .before .before .before in
+    ap formFor (c .asking .ensures) ∙ read-by (aimed read) _ (bytes "))") _ _ (read .read-closed .ensures) (c .before .before .number .given .1)
 
 returns-2 : tie.Need-returns-2
 unfolding bytes
-returns-2 c = read-by (request (c .before .before .before .before .before .args .thread) (c .before .before .before .before .before .args .mv)) _ (bytes "))") _ _ (c .before .before .read-closed .ensures) (c .enum-told .given .1)
+returns-2 c =
+    let read = c .before .before in
+    read-by (aimed read) _ (bytes "))") _ _ (read .read-closed .ensures) (c .enum-told .given .1)
 
 pub read-target-spec : {M : Type 1} → statement M
 read-target-spec =
@@ -32,6 +48,7 @@ read-target-spec =
     slice-aggregate-read-closed
     read-closed-requires
     enum-known-number
+    asking-requires
     enum-told
     returns
     returns-2)

@@ -1,7 +1,8 @@
--- `forms::read_threads` meets its contract, by what was read of the number and of the text behind it. Assumes nothing.
+-- `forms::read_threads` meets its contract, by what was read of the number and of the text behind it.
 use borrow.Author.Needs.{needs}
-use Rattle.definitions.specs.Script.{threads, bytes}
-use Rattle.forms.proofs.Digits.{read-by}
+use Rattle.definitions.specs.Forms.{threads}
+use Rattle.definitions.specs.Texts.{bytes}
+use Rattle.forms.proofs.Closings.{read-by}
 use Rattle.forms.proofs.read_threads.Statement.{statement}
 use Rattle.forms.proofs.read_threads.Tie as tie
 

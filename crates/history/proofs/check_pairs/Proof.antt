@@ -1,21 +1,19 @@
 -- `check_pairs` meets its contract. The loop's invariant is `Passed` of CheckLaws; the measure is the number of pairs left.
--- Assumes nothing.
-use Prim.Native.Nat.{_-_, _*_}
-use borrow.Author.Needs.{needs}
+use Prim.Native.Nat.{_-_, _*_, _+_}
 use native.Mathlib.Omega.{arith}
-use lib.ListN.{getD}
-use Rattle.history.proofs.CheckLaws.{Passed, start, bad-here, Turned, turned, passed-all}
+use borrow.Author.Needs.{needs}
+use Rattle.history.proofs.CheckLaws.{Passed, passed-none, counted-here, bad-here, goes-on, passed-all}
 use Rattle.history.proofs.check_pairs.Statement.{statement}
 use Rattle.history.proofs.check_pairs.Tie as tie
 
 abbrev Inv-loop : tie.InvT-loop
-Inv-loop threads history places₀ inside₀ events k₀ places inside k = Passed threads history places inside k
+Inv-loop threads history places₀ shared₀ exclusive₀ events k₀ places shared exclusive k = Passed threads history places shared exclusive k
 
 abbrev μ-loop : tie.MeasureT-loop
-μ-loop threads history places₀ inside₀ events k₀ places inside k = events - k
+μ-loop threads history places₀ shared₀ exclusive₀ events k₀ places shared exclusive k = events - k
 
 loop-holds : tie.Need-loop-holds Inv-loop μ-loop
-loop-holds c = start _ _
+loop-holds c = passed-none _ _
 
 mul-at : tie.Need-mul-at Inv-loop μ-loop
 mul-at c = search needs
@@ -32,68 +30,41 @@ shared-slice-read-code c = search needs
 cast-t : tie.Need-cast-t Inv-loop μ-loop
 cast-t c = omega (arith, c .shared-slice-known3 .given (2 * c .before .before .before .loop .k))
 
-array-read-before : tie.Need-array-read-before Inv-loop μ-loop
-array-read-before c = omega (arith, c .shared-slice-known3 .given (2 * c .before .before .before .loop .k))
+array-read-place : tie.Need-array-read-place Inv-loop μ-loop
+array-read-place c = omega (arith, c .shared-slice-known3 .given (2 * c .before .before .before .loop .k))
 
-row-of-requires : tie.Need-row-of-requires Inv-loop μ-loop
-row-of-requires c κs = search needs
+cast-judge : tie.Need-cast-judge Inv-loop μ-loop
+cast-judge c = omega (arith, c .shared-slice-known3 .given (2 * c .before .before .before .loop .k))
+
+cast-judge-2 : tie.Need-cast-judge-2 Inv-loop μ-loop
+cast-judge-2 c = omega (arith, c .shared-slice-known3 .given (2 * c .before .before .before .loop .k + 1))
 
 judge-requires : tie.Need-judge-requires Inv-loop μ-loop
 judge-requires c κs =
-    let at = c .before .before .before .before .loop in
-    (c .row-of .ensures, at .inv .fine (getD (c .before .before .before .before .before .before .args .history .now) (2 * at .k) 0))
+    let at = c .before .before .before in
+    let start = at .before .before in
+    counted-here (start .args .threads) (start .args .history .now) (at .loop .places) (at .loop .shared) (at .loop .exclusive)
+    (at .loop .k) (at .loop .inv) (c .before .before .loop-test .taken) (start .pre)
 
 enum-known-verdict : tie.Need-enum-known-verdict Inv-loop μ-loop
 enum-known-verdict c = search needs
 
+array-write-places : tie.Need-array-write-places Inv-loop μ-loop
+array-write-places c =
+    let read = c .before .before .before .before in
+    omega (arith, read .shared-slice-known3 .given (2 * read .before .before .before .loop .k))
+
+enum-known-verdict-2 : tie.Need-enum-known-verdict-2 Inv-loop μ-loop
+enum-known-verdict-2 c = search needs
+
 returns : tie.Need-returns Inv-loop μ-loop
 returns c =
-    let at = c .before .before .before .before .before .before .before .before in
-    bad-here
-    (at .before .before .args .threads)
-    (at .before .before .fits .threads .fits)
-    (at .before .before .args .history .now)
-    (at .loop .places)
-    (at .loop .inside)
-    (at .loop .k)
-    (at .loop .inv)
-    (c .before .before .before .before .before .before .before .loop-test .taken)
-    (c .before .before .before .judge .result)
-    (c .before .verdict .given .0 .0)
-    (c .before .verdict .given .1)
-    (c .before .before .before .judge .ensures)
-
-enum-told : tie.Need-enum-told Inv-loop μ-loop
-enum-told c = search needs
-
--- the turn of a pair that fits
-turn : (told : tie.After-enum-told Inv-loop μ-loop)
-    → Turned (told .before .before .before .before .before .before .before .before .before .args .threads) (told .before .before .before .before .before .before .before .before .before .args .history .now) (told .before .before .before .before .before .before .before .loop .places) (told .before .before .before .before .before .before .before .loop .inside) (told .before .before .before .before .before .before .before .loop .k) (told .before .before .before .row-of .result)
-turn told =
-    let at = told .before .before .before .before .before .before .before in
-    turned
-    (at .before .before .args .threads)
-    (at .before .before .fits .threads .fits)
-    (at .before .before .args .history .now)
-    (at .loop .places)
-    (at .loop .inside)
-    (at .loop .k)
-    (at .loop .inv)
-    (told .before .before .before .before .before .before .loop-test .taken)
-    (told .before .before .judge .result)
-    (told .enum-told .given .1)
-    (told .before .before .judge .ensures)
-    (told .before .before .before .row-of .result)
-    (told .before .before .before .row-of .ensures)
-
-array-write-places : tie.Need-array-write-places Inv-loop μ-loop
-array-write-places c = omega (arith, c .before .before .before .before .shared-slice-known3 .given (2 * c .before .before .before .before .before .before .before .loop .k))
-
-add-inside : tie.Need-add-inside Inv-loop μ-loop
-add-inside c = record { fits = turn (c .before) .adds-fit }
-
-sub-inside : tie.Need-sub-inside Inv-loop μ-loop
-sub-inside c = turn (c .before .before) .takes-fit
+    let judge = c .before .before .before .judge in
+    let turn = c .before .before .before .before .before .before in
+    let at = turn .before in
+    let start = at .before .before in
+    bad-here (start .args .threads) (start .args .history .now) (at .loop .places) (at .loop .shared) (at .loop .exclusive)
+    (at .loop .k) (at .loop .inv) (turn .loop-test .taken) (judge .result) (c .before .verdict2 .given .0 .0) (c .before .verdict2 .given .1) (judge .ensures)
 
 add-k : tie.Need-add-k Inv-loop μ-loop
 add-k c = search needs
@@ -103,20 +74,21 @@ loop-less c = search needs
 
 loop-again : tie.Need-loop-again Inv-loop μ-loop
 loop-again c =
-    let told = c .before .before in
-    turn told .goes-on (told .before .before .before .before .shared-slice-known3 .given _ .fits)
+    let judge = c .before .before .before .judge in
+    let read = c .before .before .before .before in
+    let turn = read .before .before in
+    let at = turn .before in
+    let start = at .before .before in
+    goes-on (start .args .threads) (start .args .history .now) (at .loop .places) (at .loop .shared) (at .loop .exclusive)
+    (at .loop .k) (at .loop .inv) (turn .loop-test .taken)
+    (judge .result) (c .before .verdict .given .0 .0) (c .before .verdict .given .1) (judge .ensures) (read .shared-slice-known3 .given (2 * at .loop .k) .fits)
 
 returns-2 : tie.Need-returns-2 Inv-loop μ-loop
 returns-2 c =
     let at = c .before in
-    passed-all
-    (at .before .before .args .threads)
-    (at .before .before .args .history .now)
-    (at .loop .places)
-    (at .loop .inside)
-    (at .loop .k)
-    (at .loop .inv)
-    (c .loop-test .left)
+    let start = at .before .before in
+    passed-all (start .args .threads) (start .args .history .now) (at .loop .places) (at .loop .shared) (at .loop .exclusive)
+    (at .loop .k) (at .loop .inv) (c .loop-test .left)
 
 pub check-pairs-spec : {M : Type 1} → statement M
 check-pairs-spec =
@@ -130,15 +102,14 @@ check-pairs-spec =
     add-code
     shared-slice-read-code
     cast-t
-    array-read-before
-    row-of-requires
+    array-read-place
+    cast-judge
+    cast-judge-2
     judge-requires
     enum-known-verdict
-    returns
-    enum-told
     array-write-places
-    add-inside
-    sub-inside
+    enum-known-verdict-2
+    returns
     add-k
     loop-less
     loop-again

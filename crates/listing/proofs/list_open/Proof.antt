@@ -1,28 +1,38 @@
--- `listing::list_open` meets its contract, by what the count and the fill ensure.
--- Assumes nothing.
-use Rattle.theory.proofs.Putting.{too-short, written-whole}
+-- `list_open` meets its contract: the pairs are counted, and put where there is room.
+use native.Mathlib.Omega.{arith}
+use mathlib.Core.List.{[]}
+use mathlib.Core.Path.{ap}
 use borrow.Author.Needs.{needs}
+use Rattle.definitions.specs.Answers.{accepted, counted}
+use Rattle.listing.specs.Pairs.{openPairs}
+use Rattle.theory.proofs.Outputs.{no-room, whole, delivered-as, filled-up}
+use Rattle.theory.proofs.Replies.{no-test}
 use Rattle.listing.proofs.list_open.Statement.{statement}
 use Rattle.listing.proofs.list_open.Tie as tie
-
-moves-in-requires : tie.Need-moves-in-requires
-moves-in-requires c κs = search needs
 
 count-open-requires : tie.Need-count-open-requires
 count-open-requires c κs = search needs
 
 returns : tie.Need-returns
-returns c = too-short _ _ _ (c .before .count-open .ensures) (c .if1 .taken)
+returns c =
+    let a = c .before .before .before .args in
+    no-room (counted [] (openPairs (a .at))) (a .out .now) no-test (omega arith)
 
-fill-open-requires : tie.Need-fill-open-requires
-fill-open-requires c κs = search needs
+put-open-requires : tie.Need-put-open-requires
+put-open-requires c κs = search needs
 
 same-length : tie.Need-same-length
 same-length c = search needs
 
 returns-2 : tie.Need-returns-2
-returns-2 c = written-whole _ _ _ (c .before .before .before .before .before .count-open .ensures) _ (c .before .before .before .before .if1 .left) (c .before .before .fill-open .ensures)
+returns-2 c =
+    let put = c .before .before in
+    let bytes = put .before .before .before in
+    let a = bytes .before .before .args in
+    delivered-as (whole (counted [] (openPairs (a .at))) (a .out .now) no-test (omega arith))
+    (filled-up (put .put-open .ensures)) (ap accepted (bytes .count-open .ensures))
 
 pub list-open-spec : {M : Type 1} → statement M
 list-open-spec =
-    tie.close (tie.spec moves-in-requires count-open-requires returns fill-open-requires same-length returns-2)
+    tie.close
+    (tie.spec count-open-requires returns put-open-requires same-length returns-2)

@@ -1,9 +1,8 @@
--- `listing::open_targets` meets its contract: each return rewrites with what led there.
--- Assumes nothing.
-use mathlib.Core.Path.{_∙_, sym}
-use borrow.Author.Tests.{not-true, not-false}
+-- `open_targets` meets its contract: each branch rewrites with its test.
+use mathlib.Core.Path.{sym, _∙_}
 use borrow.Author.Needs.{needs}
-use Rattle.listing.specs.Listing.{openTargets}
+use borrow.Author.Tests.{not-true, not-false}
+use Rattle.listing.specs.Pairs.{openTargets}
 use Rattle.listing.proofs.open_targets.Statement.{statement}
 use Rattle.listing.proofs.open_targets.Tie as tie
 
@@ -19,7 +18,9 @@ targets-of-requires c κs = search needs
 
 returns-2 : tie.Need-returns-2
 unfolding openTargets
-returns-2 c = rw (sym (c .before .before .is-open .ensures) ∙ not-false _ (c .before .if1 .left)) (c .targets-of .ensures)
+returns-2 c =
+    let left = c .before in
+    rw (sym (left .before .is-open .ensures) ∙ not-false _ (left .if1 .left)) (c .targets-of .ensures)
 
 pub open-targets-spec : {M : Type 1} → statement M
 open-targets-spec = tie.close (tie.spec is-open-requires returns targets-of-requires returns-2)

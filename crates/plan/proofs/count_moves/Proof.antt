@@ -1,10 +1,8 @@
--- `count_moves` meets its contract. The loop's invariant is `Counting` of LoopLaws; the measure is the number of pairs left.
--- Assumes nothing.
-use Prim.Native.Nat.{_+_, _-_, _*_}
-use borrow.Author.Needs.{needs}
+-- `count_moves` meets its contract. The loop's invariant is `Counting` of PairLoops; the measure is the number of pairs left.
+use Prim.Native.Nat.{_-_}
 use native.Mathlib.Omega.{arith}
-use lib.ListN.{getD}
-use Rattle.plan.proofs.LoopLaws.{Counting, counting-none, share-small, counting-more, counting-all}
+use borrow.Author.Needs.{needs}
+use Rattle.plan.proofs.PairLoops.{Counting, counting-none, counting-more, counting-each, counting-all}
 use Rattle.plan.proofs.count_moves.Statement.{statement}
 use Rattle.plan.proofs.count_moves.Tie as tie
 
@@ -30,16 +28,10 @@ share-of-requires : tie.Need-share-of-requires Inv-loop μ-loop
 share-of-requires c κs = search needs
 
 add-once : tie.Need-add-once Inv-loop μ-loop
-add-once c =
-    let at = c .before .before .before .before .loop in
-    let share = c .before .share-of in
-    omega (arith, at .inv .shares, share-small (share .result .once) (share .result .each) (getD (c .before .before .before .before .before .before .args .history .now) (2 * at .j + 1) 0) (share .ensures))
+add-once c = search needs
 
 add-each : tie.Need-add-each Inv-loop μ-loop
-add-each c =
-    let at = c .before .before .before .before .before .loop in
-    let share = c .before .before .share-of in
-    omega (arith, at .inv .shares, share-small (share .result .once) (share .result .each) (getD (c .before .before .before .before .before .before .before .args .history .now) (2 * at .j + 1) 0) (share .ensures))
+add-each c = search needs
 
 add-j : tie.Need-add-j Inv-loop μ-loop
 add-j c = search needs
@@ -49,26 +41,29 @@ loop-less c = search needs
 
 loop-again : tie.Need-loop-again Inv-loop μ-loop
 loop-again c =
-    let start = c .before .before .before .before .before .before .before in
-    let at = c .before .before .before .before .before .loop in
     let share = c .before .before .share-of in
-    counting-more (start .args .threads) (start .args .history .now) (at .j) (at .once) (at .each) (share .result .once) (share .result .each)
-    (start .pre .few) (omega arith) (at .inv) (share .ensures)
+    let at = c .before .before .before .before .before in
+    let a = at .before .before .args in
+    counting-more (a .threads) (a .history .now) (at .loop .j) (at .loop .once) (at .loop .each) (at .loop .inv) (share .result) (omega arith) (share .ensures)
 
 mul-result : tie.Need-mul-result Inv-loop μ-loop
-mul-result c = omega (arith, c .before .loop .inv .few)
+mul-result c =
+    let at = c .before in
+    let start = at .before .before in
+    omega (arith, counting-each (start .args .threads) (start .args .history .now) (at .loop .j) (at .loop .once) (at .loop .each) (at .loop .inv) (start .pre .few))
 
 add-result : tie.Need-add-result Inv-loop μ-loop
-add-result c = omega (arith, c .before .loop .inv .few)
+add-result c =
+    let at = c .before in
+    let start = at .before .before in
+    omega (arith, counting-each (start .args .threads) (start .args .history .now) (at .loop .j) (at .loop .once) (at .loop .each) (at .loop .inv) (start .pre .few))
 
 returns : tie.Need-returns Inv-loop μ-loop
 returns c =
-    let start = c .before .before .before in
-    let at = c .before .loop in
-    record {
-      count = counting-all (start .args .threads) (start .args .history .now) (at .j) (at .once) (at .each) (omega arith) (at .inv);
-      few = omega (arith, at .inv .few);
-    }
+    let at = c .before in
+    let start = at .before .before in
+    let a = start .args in
+    counting-all (a .threads) (a .history .now) (at .loop .j) (at .loop .once) (at .loop .each) (at .loop .inv) (start .pre .few) (omega arith) (omega arith)
 
 pub count-moves-spec : {M : Type 1} → statement M
 count-moves-spec =

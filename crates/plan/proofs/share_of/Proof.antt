@@ -1,23 +1,38 @@
--- `share_of` meets its contract: an arm's shares make up the moves of the definition.
--- Assumes nothing.
-use Prim.Native.Nat.{ℕ, _+_, _*_}
-use mathlib.Core.Path.{_≡_, refl, sym, ap, _∙_}
+-- `share_of` meets its contract: an arm's share is its event's.
+use Prim.Native.Nat.{ℕ, _+_, _*_, _≤_}
 use native.Mathlib.Omega.{arith}
+use mathlib.Core.List.{List, [], _∷_}
+use mathlib.Core.Path.{_≡_, sym, subst, ap}
 use borrow.Author.Needs.{needs}
+use lib.ListN.{length}
+use Rattle.definitions.specs.Plan.{planOf}
+use Rattle.definitions.specs.Threads.{every, among}
+use Rattle.plan.specs.MoveCounts.{ShareOf}
 use Rattle.plan.specs.declared.Share.{Share}
-use Rattle.plan.specs.Written.{movesOf}
-use Rattle.history.proofs.EventLaws.{no-event}
-use Rattle.plan.proofs.PlanLaws.{no-moves}
+use Rattle.theory.proofs.Matches.{NoneOf, left-over}
+use Rattle.triples.proofs.EventCodes.{plan-past}
+use Rattle.plan.proofs.ShareLaws.{enter-length, leave-length}
 use Rattle.plan.proofs.share_of.Statement.{statement}
 use Rattle.plan.proofs.share_of.Tie as tie
 
--- the shares of the event with code k
-at : (k code once each : ℕ) (r : Share) → code ≡ k → r ≡ record { once = once; each = each }
-    → ((n : ℕ) → once + each * n ≡ movesOf n k) → (n : ℕ) → r .once + r .each * n ≡ movesOf n code
-at k code once each r e q h n = rw q (h n ∙ ap (movesOf n) (sym e))
+-- a share, by its two numbers
+share : (code once each : ℕ) (r : Share) → r ≡ record { once = once; each = each } → once ≤ 3 → each ≤ 2
+    → ((n thread : ℕ) → once + each * n ≡ length (planOf n (record { thread = thread; event = code }))) → ShareOf code r
+share code once each r q few few′ h = subst (ShareOf code) (sym q) (record { whole = h; once-most = few; each-most = few′ })
 
-nothing : (n : ℕ) → 0 + 0 * n ≡ 0
-nothing n = omega arith
+-- that of the arm for code k
+at : (k code once each : ℕ) (r : Share) → code ≡ k → r ≡ record { once = once; each = each } → once ≤ 3 → each ≤ 2
+    → ((n thread : ℕ) → once + each * n ≡ length (planOf n (record { thread = thread; event = k }))) → ShareOf code r
+at k code once each r e q few few′ h = subst (λ (x : ℕ). ShareOf x r) (sym e) (share k once each r q few few′ h)
+
+-- that of the `_` arm
+abbrev codes : List ℕ
+codes = 8 ∷ 7 ∷ 6 ∷ 5 ∷ 4 ∷ 3 ∷ 2 ∷ 1 ∷ []
+
+other : (code : ℕ) (r : Share) → NoneOf code codes → r ≡ record { once = 0; each = 0 } → ShareOf code r
+unfolding every among
+other code r none q =
+    share code 0 0 r q (omega arith) (omega arith) (λ n thread. let e = ap length (plan-past n thread code (left-over 9 code codes none tt)) in omega arith)
 
 values-requires : tie.Need-values-requires
 values-requires c κs = search needs
@@ -47,42 +62,37 @@ values-requires-9 : tie.Need-values-requires-9
 values-requires-9 c κs = search needs
 
 returns : tie.Need-returns
-unfolding movesOf
-returns c = at 1 _ 1 0 _ (c .before .match .keys1) (c .values .ensures) (λ n. omega arith)
+unfolding planOf
+returns c = at 1 _ 1 0 _ (c .before .match .keys1) (c .values .ensures) (omega arith) (omega arith) (λ n thread. omega arith)
 
 returns-2 : tie.Need-returns-2
-unfolding movesOf
-returns-2 c = at 2 _ 3 0 _ (c .before .match .keys2) (c .values2 .ensures) (λ n. omega arith)
+unfolding planOf
+returns-2 c = at 2 _ 3 0 _ (c .before .match .keys2) (c .values2 .ensures) (omega arith) (omega arith) (λ n thread. omega arith)
 
 returns-3 : tie.Need-returns-3
-unfolding movesOf
-returns-3 c = at 3 _ 2 0 _ (c .before .match .keys3) (c .values3 .ensures) (λ n. omega arith)
+unfolding planOf
+returns-3 c = at 3 _ 2 0 _ (c .before .match .keys3) (c .values3 .ensures) (omega arith) (omega arith) (λ n thread. omega arith)
 
 returns-4 : tie.Need-returns-4
-unfolding movesOf
-returns-4 c = at 4 _ 1 0 _ (c .before .match .keys4) (c .values4 .ensures) (λ n. omega arith)
+unfolding planOf
+returns-4 c = at 4 _ 1 0 _ (c .before .match .keys4) (c .values4 .ensures) (omega arith) (omega arith) (λ n thread. omega arith)
 
 returns-5 : tie.Need-returns-5
-unfolding movesOf
-returns-5 c = at 5 _ 1 0 _ (c .before .match .keys5) (c .values5 .ensures) (λ n. omega arith)
+unfolding planOf
+returns-5 c = at 5 _ 1 0 _ (c .before .match .keys5) (c .values5 .ensures) (omega arith) (omega arith) (λ n thread. omega arith)
 
 returns-6 : tie.Need-returns-6
-unfolding movesOf
-returns-6 c = at 6 _ 2 2 _ (c .before .match .keys6) (c .values6 .ensures) (λ n. omega arith)
+returns-6 c = at 6 _ 2 2 _ (c .before .match .keys6) (c .values6 .ensures) (omega arith) (omega arith) enter-length
 
 returns-7 : tie.Need-returns-7
-unfolding movesOf
-returns-7 c = at 7 _ 2 1 _ (c .before .match .keys7) (c .values7 .ensures) (λ n. omega arith)
+returns-7 c = at 7 _ 2 1 _ (c .before .match .keys7) (c .values7 .ensures) (omega arith) (omega arith) leave-length
 
 returns-8 : tie.Need-returns-8
-unfolding movesOf
-returns-8 c = at 8 _ 1 0 _ (c .before .match .keys8) (c .values8 .ensures) (λ n. omega arith)
+unfolding planOf
+returns-8 c = at 8 _ 1 0 _ (c .before .match .keys8) (c .values8 .ensures) (omega arith) (omega arith) (λ n thread. omega arith)
 
 returns-9 : tie.Need-returns-9
-returns-9 c =
-    let none = c .before .match .rest in
-    at _ _ 0 0 _ refl (c .values9 .ensures)
-    (λ n. nothing n ∙ no-moves n _ (no-event _ (none .0 .0 .0 .0 .0 .0 .0 .1) (none .0 .0 .0 .0 .0 .0 .1) (none .0 .0 .0 .0 .0 .1) (none .0 .0 .0 .0 .1) (none .0 .0 .0 .1) (none .0 .0 .1) (none .0 .1) (none .1)))
+returns-9 c = other _ _ (c .before .match .rest) (c .values9 .ensures)
 
 pub share-of-spec : {M : Type 1} → statement M
 share-of-spec =

@@ -1,9 +1,8 @@
--- `write_pairs` meets its contract. The loop's invariant is `Writing` of LoopLaws; the measure is the number of pairs left.
--- Assumes nothing.
+-- `write_pairs` meets its contract. The loop's invariant is `Writing` of PairLoops; the measure is the number of pairs left.
 use Prim.Native.Nat.{_-_}
-use borrow.Author.Needs.{needs}
 use native.Mathlib.Omega.{arith}
-use Rattle.plan.proofs.LoopLaws.{Writing, writing-none, writing-room, writing-more, writing-end}
+use borrow.Author.Needs.{needs}
+use Rattle.plan.proofs.PairLoops.{Writing, writing-none, writing-room, writing-more, writing-end}
 use Rattle.plan.proofs.write_pairs.Statement.{statement}
 use Rattle.plan.proofs.write_pairs.Tie as tie
 
@@ -16,7 +15,8 @@ abbrev μ-loop : tie.MeasureT-loop
 loop-holds : tie.Need-loop-holds Inv-loop μ-loop
 loop-holds c =
     let start = c .before .before in
-    writing-none (start .args .threads) (start .args .history .now) (start .args .out .now) (start .pre .1)
+    let a = start .args in
+    writing-none (a .threads) (a .history .now) (a .out .now) (start .pre .1)
 
 mul-at : tie.Need-mul-at Inv-loop μ-loop
 mul-at c = search needs
@@ -32,9 +32,10 @@ shared-slice-read-code c = search needs
 
 write-pair-requires : tie.Need-write-pair-requires Inv-loop μ-loop
 write-pair-requires c κs =
-    let start = c .before .before .before .before .before .before .before in
-    let at = c .before .before .before .before .loop in
-    writing-room (start .args .threads) (start .args .history .now) (start .args .out .now) (start .pre .1) (at .k) (at .out) (at .next) (at .inv) (omega arith)
+    let at = c .before .before .before .before in
+    let start = at .before .before .before in
+    let a = start .args in
+    writing-room (a .threads) (a .history .now) (a .out .now) (start .pre .1) (at .loop .k) (at .loop .out) (at .loop .next) (at .loop .inv) (omega arith)
 
 add-k : tie.Need-add-k Inv-loop μ-loop
 add-k c = search needs
@@ -44,10 +45,11 @@ loop-less c = search needs
 
 loop-again : tie.Need-loop-again Inv-loop μ-loop
 loop-again c =
-    let start = c .before .before .before .before .before .before .before .before .before .before in
-    let at = c .before .before .before .before .before .before .before .loop in
     let pair = c .before .before .write-pair in
-    writing-more (start .args .threads) (start .args .history .now) (start .args .out .now) (start .pre .1) (at .k) (at .out) (at .next) (at .inv) (omega arith)
+    let at = c .before .before .before .before .before .before .before in
+    let start = at .before .before .before in
+    let a = start .args in
+    writing-more (a .threads) (a .history .now) (a .out .now) (start .pre .1) (at .loop .k) (at .loop .out) (at .loop .next) (at .loop .inv) (omega arith)
     (pair .last .0) (pair .result) (pair .ensures)
 
 same-length : tie.Need-same-length Inv-loop μ-loop
@@ -55,9 +57,10 @@ same-length c = search needs
 
 returns : tie.Need-returns Inv-loop μ-loop
 returns c =
-    let start = c .before .before .before .before in
-    let at = c .before .loop in
-    writing-end (start .args .threads) (start .args .history .now) (start .args .out .now) (start .pre .1) (at .k) (at .out) (at .next) (at .inv) (omega arith)
+    let at = c .before in
+    let start = at .before .before .before in
+    let a = start .args in
+    writing-end (a .threads) (a .history .now) (a .out .now) (start .pre .1) (at .loop .k) (at .loop .out) (at .loop .next) (at .loop .inv) (omega arith)
 
 pub write-pairs-spec : {M : Type 1} → statement M
 write-pairs-spec =

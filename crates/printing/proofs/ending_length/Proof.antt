@@ -1,8 +1,7 @@
--- `printing::ending_length` meets its contract, by the case of the ending (proofs/Endings).
--- Assumes nothing.
+-- `printing::ending_length` meets its contract, by the case of the ending.
 use native.Mathlib.Omega.{arith}
-use Rattle.printing.proofs.Endings.{steps-few, steps-length, refused-few, refused-length}
 use borrow.Author.Needs.{needs}
+use Rattle.printing.proofs.Endings.{steps-length, refused-length}
 use Rattle.printing.proofs.ending_length.Statement.{statement}
 use Rattle.printing.proofs.ending_length.Tie as tie
 
@@ -10,7 +9,7 @@ enum-known-ending : tie.Need-enum-known-ending
 enum-known-ending c = search needs
 
 decimal-length-requires : tie.Need-decimal-length-requires
-decimal-length-requires c κs = steps-few _ _ (c .before .ending .given .1) (c .before .before .before .pre)
+decimal-length-requires c κs = search needs
 
 cast-result : tie.Need-cast-result
 cast-result c = search needs
@@ -31,7 +30,7 @@ decimal-length-requires-2 : tie.Need-decimal-length-requires-2
 decimal-length-requires-2 c κs = search needs
 
 decimal-length-requires-3 : tie.Need-decimal-length-requires-3
-decimal-length-requires-3 c κs = refused-few _ _ _ (c .before .before .before .ending2 .given .1) (c .before .before .before .before .before .pre)
+decimal-length-requires-3 c κs = search needs
 
 cast-result-2 : tie.Need-cast-result-2
 cast-result-2 c = search needs
@@ -46,10 +45,12 @@ add-result-3 : tie.Need-add-result-3
 add-result-3 c = search needs
 
 returns : tie.Need-returns
-returns c = omega (arith, steps-length _ _ (c .before .before .ending .given .1))
+returns c = omega (arith, steps-length (c .before .before .ending .given .1))
 
 returns-2 : tie.Need-returns-2
-returns-2 c = omega (arith, refused-length _ _ _ (c .before .before .before .before .ending2 .given .1) _ (c .before .before .number .ensures))
+returns-2 c =
+    let n = c .before .before in
+    omega (arith, refused-length (n .before .before .ending2 .given .1) (n .number .ensures))
 
 pub ending-length-spec : {M : Type 1} → statement M
 ending-length-spec =

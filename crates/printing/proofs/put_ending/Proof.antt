@@ -1,8 +1,8 @@
--- `printing::put_ending` meets its contract, by the case of the ending (proofs/Endings).
--- Assumes nothing.
-use native.Mathlib.Omega.{arith}
-use Rattle.printing.proofs.Endings.{steps-few, steps-room, steps-put, refused-few, refused-room, refused-put}
+-- `printing::put_ending` meets its contract, by the case of the ending.
+use mathlib.Core.Path.{sym}
 use borrow.Author.Needs.{needs}
+use Rattle.text.proofs.Parts.{room-as, put-as}
+use Rattle.printing.proofs.Endings.{steps-line, refused-line}
 use Rattle.printing.proofs.put_ending.Statement.{statement}
 use Rattle.printing.proofs.put_ending.Tie as tie
 
@@ -10,10 +10,7 @@ enum-known-ending : tie.Need-enum-known-ending
 enum-known-ending c = search needs
 
 put-steps-requires : tie.Need-put-steps-requires
-put-steps-requires c κs =
-    let a = c .before .before .before .before .before in
-    let e = c .before .before .ending .given .1 in
-    (steps-few _ _ e (a .pre .0), steps-room _ _ e (a .pre .1))
+put-steps-requires c κs = let e = c .before .before in room-as (steps-line (e .ending .given .1)) (e .before .before .before .pre)
 
 enum-known-ending-2 : tie.Need-enum-known-ending-2
 enum-known-ending-2 c = search needs
@@ -26,21 +23,24 @@ cast-put-refused c = search needs
 
 put-refused-requires : tie.Need-put-refused-requires
 put-refused-requires c κs =
-    let a = c .before .before .before .before .before .before in
-    let e = c .before .before .before .ending2 .given .1 in
-    (omega (arith, c .before), (refused-few _ _ _ e (a .pre .0), refused-room _ _ _ e _ (c .before .number .ensures) (a .pre .1)))
+    let e = c .before .before .before in
+    room-as (refused-line (e .ending2 .given .1) (c .before .number .ensures)) (e .before .before .before .pre)
 
 same-length : tie.Need-same-length
 same-length c = search needs
 
 returns : tie.Need-returns
-returns c = steps-put _ _ (c .before .before .before .before .before .ending .given .1) (c .before .before .put-steps .ensures)
+returns c =
+    let e = c .before .before .before .before .before in
+    put-as (sym (steps-line (e .ending .given .1))) (c .before .before .put-steps .ensures)
 
 same-length-2 : tie.Need-same-length-2
 same-length-2 c = search needs
 
 returns-2 : tie.Need-returns-2
-returns-2 c = refused-put _ _ _ (c .before .before .before .before .before .before .ending2 .given .1) _ (c .before .before .before .before .number .ensures) (c .before .before .put-refused .ensures)
+returns-2 c =
+    let n = c .before .before .before .before in
+    put-as (sym (refused-line (n .before .before .ending2 .given .1) (n .number .ensures))) (c .before .before .put-refused .ensures)
 
 pub put-ending-spec : {M : Type 1} → statement M
 put-ending-spec =

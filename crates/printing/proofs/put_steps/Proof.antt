@@ -1,44 +1,58 @@
--- `printing::put_steps` meets its contract: the three texts of a steps line, one behind the other.
--- Assumes nothing.
-use mathlib.Core.List.{_++_}
+-- `printing::put_steps` meets its contract: the three parts of a steps line, one behind the other.
+use Prim.Native.Nat.{ℕ}
+use mathlib.Core.List.{List, _++_}
 use borrow.Author.Needs.{needs}
-use Rattle.definitions.specs.Script.{bytes, decimal, stepsLine}
-use Rattle.theory.proofs.Putting.{room-first, room-second, both}
+use Rattle.definitions.specs.Run.{stepsLine}
+use Rattle.definitions.specs.Texts.{bytes, decimal}
+use Rattle.text.proofs.Parts.{Partly, no-part, room-part, part-put, last-part}
 use Rattle.printing.proofs.put_steps.Statement.{statement}
 use Rattle.printing.proofs.put_steps.Tie as tie
+
+-- what follows the first part
+abbrev from-number : tie.Start → List ℕ
+from-number c = decimal (c .args .steps) ++ bytes ")\n"
+
+-- the line up to a rest is put
+abbrev Up-to : tie.Start → List ℕ → List ℕ → ℕ → Type 0
+Up-to c rest out next = Partly (c .args .out .now) (c .args .at) (stepsLine (c .args .steps)) rest out next
+
+-- the place behind the part before
+abbrev up1 : tie.After-put-text → tie.Start
+up1 c = c .before .before .before .before
+
+abbrev up2 : tie.After-put-decimal → tie.After-put-text
+up2 c = c .before .before .before .before
+
+word-put : (c : tie.After-put-text) → Up-to (up1 c) (from-number (up1 c)) (c .put-text .last .0) (c .put-text .result)
+unfolding bytes stepsLine
+word-put c = part-put (bytes "(steps ") (from-number (up1 c)) (no-part (up1 c .pre)) (c .put-text .ensures)
+
+number-put : (c : tie.After-put-decimal) → Up-to (up1 (up2 c)) (bytes ")\n") (c .put-decimal .last .0) (c .put-decimal .result)
+number-put c = part-put (decimal (up1 (up2 c) .args .steps)) (bytes ")\n") (word-put (up2 c)) (c .put-decimal .ensures)
 
 slice-aggregate-put-text : tie.Need-slice-aggregate-put-text
 slice-aggregate-put-text c = search needs
 
 put-text-requires : tie.Need-put-text-requires
 unfolding bytes stepsLine
-put-text-requires c κs = room-first (bytes "(steps ") _ (c .before .before .before .pre .1)
+put-text-requires c κs = let s = c .before .before .before in room-part (bytes "(steps ") (from-number s) (no-part (s .pre))
 
 put-decimal-requires : tie.Need-put-decimal-requires
-unfolding bytes stepsLine
-put-decimal-requires c κs =
-    let a = c .before .before .before .before .before .before .before in
-    (a .pre .0, room-first (decimal (a .args .steps)) (bytes ")\n") (room-second (bytes "(steps ") (decimal (a .args .steps) ++ bytes ")\n") (a .pre .1) (c .before .before .before .put-text .ensures)))
+put-decimal-requires c κs = let p = c .before .before .before in room-part _ (bytes ")\n") (word-put p)
 
 slice-aggregate-put-text-2 : tie.Need-slice-aggregate-put-text-2
 slice-aggregate-put-text-2 c = search needs
 
 put-text-requires-2 : tie.Need-put-text-requires-2
-unfolding bytes stepsLine
-put-text-requires-2 c κs =
-    let a = c .before .before .before .before .before .before .before .before .before .before .before .before in
-    room-second (decimal (a .args .steps)) (bytes ")\n") (room-second (bytes "(steps ") (decimal (a .args .steps) ++ bytes ")\n") (a .pre .1) (c .before .before .before .before .before .before .before .before .put-text .ensures)) (c .before .before .before .before .put-decimal .ensures)
+unfolding bytes
+put-text-requires-2 c κs = number-put (c .before .before .before .before) .room
 
 same-length : tie.Need-same-length
 same-length c = search needs
 
 returns : tie.Need-returns
-unfolding bytes stepsLine
-returns c =
-    let a = c .before .before .before .before .before .before .before .before .before .before .before .before .before .before .before in
-    let p = c .before .before .before .before .before .before .before .before .before .before .before .put-text .ensures in
-    both (bytes "(steps ") (decimal (a .args .steps) ++ bytes ")\n") (a .pre .1) p
-    (both (decimal (a .args .steps)) (bytes ")\n") (room-second (bytes "(steps ") (decimal (a .args .steps) ++ bytes ")\n") (a .pre .1) p) (c .before .before .before .before .before .before .before .put-decimal .ensures) (c .before .before .put-text2 .ensures))
+unfolding bytes
+returns c = last-part (number-put (c .before .before .before .before .before .before .before)) (c .before .before .put-text2 .ensures)
 
 pub put-steps-spec : {M : Type 1} → statement M
 put-steps-spec =

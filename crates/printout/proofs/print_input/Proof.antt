@@ -19,7 +19,7 @@ same-length c = search needs
 returns : tie.Need-returns
 returns c =
     let ran = c .before .before .before .before in
-    absurd (never-refused _ _ _ _ (ran .before .before .before .before .pre) (ran .write-output .ensures) _ _ (c .enum-told .given .1))
+    absurd (never-refused _ _ (ran .before .before .before .before .pre) (ran .write-output .ensures) _ _ (c .enum-told .given .1))
 
 same-length-2 : tie.Need-same-length-2
 same-length-2 c = search needs
@@ -27,7 +27,7 @@ same-length-2 c = search needs
 returns-2 : tie.Need-returns-2
 returns-2 c =
     let ran = c .before .before .before .before .before in
-    printed _ _ _ _ (ran .before .before .before .before .pre) (ran .write-output .ensures) _ (c .before .answer .given .1)
+    printed _ _ (ran .before .before .before .before .pre) (ran .write-output .ensures) _ (c .before .answer .given .1)
 
 pub print-input-spec : {M : Type 1} → statement M
 print-input-spec =

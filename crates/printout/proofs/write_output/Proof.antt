@@ -1,7 +1,7 @@
 -- `printout::write_output` meets its contract: the script is too long, or it is run.
 use mathlib.Core.Path.{_∙_}
 use borrow.Author.Needs.{needs}
-use Rattle.definitions.specs.Script.{bytes}
+use Rattle.definitions.specs.Texts.{bytes}
 use Rattle.printout.proofs.Output.{too-long, too-long-line, run-delivers}
 use Rattle.printout.proofs.write_output.Statement.{statement}
 use Rattle.printout.proofs.write_output.Tie as tie
@@ -18,7 +18,9 @@ same-length c = search needs
 returns : tie.Need-returns
 unfolding bytes
 returns c =
-    rw (too-long (c .before .before .before .before .before .before .before .before .args .input .now) (c .before .before .before .before .before .if1 .taken) ∙ too-long-line) (c .before .before .deliver .ensures)
+    let d = c .before .before in
+    let then = d .before .before .before in
+    rw (too-long (then .before .before .before .args .input .now) (then .if1 .taken) ∙ too-long-line) (d .deliver .ensures)
 
 run-requires : tie.Need-run-requires
 run-requires c κs = search needs
@@ -27,7 +29,7 @@ same-length-2 : tie.Need-same-length-2
 same-length-2 c = search needs
 
 returns-2 : tie.Need-returns-2
-returns-2 c = run-delivers _ _ _ _ (c .before .before .before .before .if1 .left) (c .before .before .run .ensures .0) (c .before .before .run .ensures .1)
+returns-2 c = let r = c .before .before in run-delivers _ _ (r .before .before .if1 .left) (r .run .ensures)
 
 pub write-output-spec : {M : Type 1} → statement M
 write-output-spec =

@@ -1,17 +1,17 @@
 -- `program::main` meets its contract: what was read is within the input's buffer, and what is handed on is the front of the output's, the program's output for what was read.
 use Prim.Native.Nat.{ℕ, _≤_}
 use native.Mathlib.Omega.{arith}
+use mathlib.Core.List.{List}
 use mathlib.Core.Path.{_≡_, sym, subst, ap, _∙_}
-use mathlib.Core.List.{List, _++_}
 use borrow.Author.Needs.{needs}
 use lib.ListN.{length, take, drop, length-replicate}
 use lib.Seq.{length-take-le, take-at}
-use Rattle.definitions.specs.Script.{programOutput}
+use Rattle.definitions.specs.Run.{programOutput}
 use Rattle.printout.specs.Printed.{Printed}
-use Rattle.printout.proofs.Output.{output-fits}
+use Rattle.program.specs.Input.{WithinRoom}
 use Rattle.program.specs.declared.Input.{Input}
 use Rattle.program.specs.declared.Input.the-variants.{Bytes}
-use Rattle.program.specs.Input.{WithinRoom}
+use Rattle.printout.proofs.Output.{output-fits}
 use Rattle.program.proofs.main.Statement.{statement}
 use Rattle.program.proofs.main.Tie as tie
 

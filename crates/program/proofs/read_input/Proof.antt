@@ -1,14 +1,10 @@
--- `program::read_input` meets its contract: the count never passes the length, which no read changes. Assumes nothing.
+-- `program::read_input` meets its contract: the count never passes the length, which no read changes.
 use Prim.Native.Nat.{_≤_, _-_}
 use mathlib.Core.Path.{_≡_}
-use lib.ListN.{length}
 use borrow.Author.Needs.{needs}
+use lib.ListN.{length}
 use Rattle.program.proofs.read_input.Statement.{statement}
 use Rattle.program.proofs.read_input.Tie as tie
-use Rattle.program.proofs.read_input.Reads as reads
-use Rattle.program.proofs.read_input.Lts as lts
-use Rattle.io.proofs.count.Reads as count-reads
-use Rattle.libc.proofs.read.Reads as read-reads
 
 abbrev Inv-loop : tie.InvT-loop
 Inv-loop buffer₀ done₀ buffer done = (length buffer ≡ length buffer₀) × (done ≤ length buffer)

@@ -1,7 +1,6 @@
--- `rules::look` meets its contract: each branch rewrites with its test.
--- Assumes nothing.
-use borrow.Author.Tests.{eq-eqb, ne-eqb}
+-- `look` meets its contract: each branch rewrites with its test.
 use borrow.Author.Needs.{needs}
+use borrow.Author.Tests.{eq-eqb, ne-eqb}
 use Rattle.rules.proofs.look.Statement.{statement}
 use Rattle.rules.proofs.look.Tie as tie
 

@@ -1,4 +1,4 @@
--- `rules::show` meets its contract: the code is the definition. Assumes nothing.
+-- `show` meets its contract: it computes the definition.
 use mathlib.Core.Path.{refl}
 use Rattle.rules.proofs.show.Statement.{statement}
 use Rattle.rules.proofs.show.Tie as tie

@@ -1,14 +1,13 @@
 -- `script::run` meets its contract: by the length of the script, then by that of its output (proofs/Entry).
--- Assumes nothing.
 use mathlib.Core.Path.{sym}
+use borrow.Author.Needs.{needs}
 use lib.Seq.{length-take-le}
 use Rattle.script.proofs.Entry.{too-long, measurable, run-printed}
-use borrow.Author.Needs.{needs}
 use Rattle.script.proofs.run.Statement.{statement}
 use Rattle.script.proofs.run.Tie as tie
 
 returns : tie.Need-returns
-returns c = too-long (c .before .before .before .args .script .now) (c .before .before .before .args .out .now) (c .if1 .taken)
+returns c = too-long _ _ (c .if1 .taken)
 
 slice-aggregate-run-script : tie.Need-slice-aggregate-run-script
 slice-aggregate-run-script c = search needs
@@ -23,13 +22,18 @@ slice-aggregate-print : tie.Need-slice-aggregate-print
 slice-aggregate-print c = sym (length-take-le _ _ (c .before .before .run-script .ensures .fits))
 
 print-requires : tie.Need-print-requires
-print-requires c κs = measurable _ (c .before .before .before .before .before .before .before .before .args .out .now) (c .before .before .before .before .before .if1 .left) _ _ (c .before .before .before .run-script .ensures)
+print-requires c κs =
+    let r = c .before .before .before in
+    measurable _ (r .before .before .before .before .before .args .out .now) (r .before .before .if1 .left) (r .run-script .ensures)
 
 same-length : tie.Need-same-length
 same-length c = search needs
 
 returns-2 : tie.Need-returns-2
-returns-2 c = run-printed _ _ (c .before .before .before .before .before .before .before .before .if1 .left) _ _ (c .before .before .before .before .before .before .run-script .ensures) _ _ (c .before .before .print .ensures)
+returns-2 c =
+    let p = c .before .before in
+    let r = p .before .before .before .before in
+    run-printed _ _ (r .before .before .if1 .left) (r .run-script .ensures) (p .print .ensures)
 
 pub run-spec : {M : Type 1} → statement M
 run-spec =

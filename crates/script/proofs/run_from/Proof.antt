@@ -1,20 +1,29 @@
 -- `script::run_from` meets its contract: the fresh entry turns a bad number of threads down, else the table's bytes are a fresh table (proofs/Entry).
--- Assumes nothing.
-use native.Mathlib.Omega.{arith}
 use Prim.Native.Nat.{ℕ}
-use mathlib.Core.Path.{_≡_, sym, ap, _∙_}
+use native.Mathlib.Omega.{arith}
+use mathlib.Core.Path.{_≡_, sym, ap}
+use borrow.Author.Needs.{needs}
 use lib.ListN.{length, replicate, length-replicate}
 use lib.Seq.{length-take-le}
-use Rattle.definitions.specs.Answers.{replyOfAnswer}
+use Rattle.definitions.specs.Answers.{accepted, answerReply}
 use Rattle.definitions.specs.declared.Refusal.the-variants.{BadSize}
-use Rattle.script.proofs.Entry.{refused-count, done-count, done-fits, done-front, from-bad, from-fresh, begins-fresh, stopped-first, recorded-as}
-use borrow.Author.Needs.{needs}
+use Rattle.script.proofs.Entry.{refused-count, good-count, size-fits, table-front, from-bad, from-fresh, begins-fresh, stopped-first, recorded-as}
 use Rattle.script.proofs.run_from.Statement.{statement}
 use Rattle.script.proofs.run_from.Tie as tie
 
 -- the place for the table
 long : length (replicate {A = ℕ} 603 0) ≡ 603
 long = length-replicate {A = ℕ} 603 0
+
+-- a table was made
+abbrev start : tie.After-known-told → tie.Start
+start c = c .before .before .before .before .before .before .before .before
+
+abbrev made : tie.After-known-told → tie.After-fresh
+made c = c .before .before .before .before
+
+size-is : (c : tie.After-known-told) → answerReply (made c .fresh .result) ≡ accepted (c .before .made .given .0 .0)
+size-is c = ap answerReply (c .before .made .given .1)
 
 slice-aggregate-fresh : tie.Need-slice-aggregate-fresh
 slice-aggregate-fresh c = search needs
@@ -33,36 +42,35 @@ stopped-requires c κs = search needs
 
 returns : tie.Need-returns
 returns c =
-    stopped-first BadSize (from-bad _ _ (refused-count _ _ long _ _ (sym (ap replyOfAnswer (c .before .enum-told .given .1)) ∙ c .before .before .before .before .fresh .ensures .0))) (c .stopped .ensures)
+    let told = c .before in
+    let f = told .before .before .before .fresh in
+    stopped-first BadSize (from-bad _ _ (refused-count _ long (f .ensures) _ _ (ap answerReply (told .enum-told .given .1)))) (c .stopped .ensures)
 
 array-borrow-prefix-bytes : tie.Need-array-borrow-prefix-bytes
 array-borrow-prefix-bytes c =
-    omega (
-      arith,
-      c .before .before .before .before .fresh .kept .1 .0,
-      done-fits _ _ long _ (sym (ap replyOfAnswer (c .before .made .given .1)) ∙ c .before .before .before .before .fresh .ensures .0),
-    )
+    let f = made c .fresh in
+    omega (arith, f .kept .1 .0, size-fits _ long (f .ensures) _ (size-is c))
 
 slice-aggregate-run-lines : tie.Need-slice-aggregate-run-lines
 slice-aggregate-run-lines c =
-    let fits = done-fits _ _ long _ (sym (ap replyOfAnswer (c .before .before .made .given .1)) ∙ c .before .before .before .before .before .fresh .ensures .0) in
-    sym (length-take-le _ _ (omega (arith, fits, c .before .before .before .before .before .fresh .kept .1 .0)))
+    let f = made (c .before) .fresh in
+    sym (length-take-le _ _ (omega (arith, f .kept .1 .0, size-fits _ long (f .ensures) _ (size-is (c .before)))))
 
 run-lines-requires : tie.Need-run-lines-requires
 run-lines-requires c κs =
-    let f = c .before .before .before .before .before .before .fresh in
-    let e = sym (ap replyOfAnswer (c .before .before .before .made .given .1)) ∙ f .ensures .0 in
-    begins-fresh _ (c .before .before .before .before .before .before .before .before .before .before .pre) _ (done-count _ _ long _ e) (done-front _ _ long _ e (f .last .1 .0) (f .ensures .1))
+    let k = c .before .before in
+    let f = made k .fresh in
+    begins-fresh _ (start k .pre .0) (start k .pre .1) _ (good-count _ long (f .ensures) _ (size-is k)) (table-front _ long (f .ensures) _ (size-is k))
 
 same-length : tie.Need-same-length
 same-length c = search needs
 
 returns-2 : tie.Need-returns-2
 returns-2 c =
-    let f = c .before .before .before .before .before .before .before .before .before .before .fresh in
-    let e = sym (ap replyOfAnswer (c .before .before .before .before .before .before .before .made .given .1)) ∙ f .ensures .0 in
-    recorded-as (from-fresh _ _ (done-count _ _ long _ e))
-    (rw (done-front _ _ long _ e (f .last .1 .0) (f .ensures .1)) at (c .before .before .before .run-lines .ensures))
+    let run = c .before .before .before in
+    let k = run .before .before .before in
+    let f = made k .fresh in
+    recorded-as (from-fresh _ _ (good-count _ long (f .ensures) _ (size-is k))) (rw (table-front _ long (f .ensures) _ (size-is k)) at (run .run-lines .ensures))
 
 pub run-from-spec : {M : Type 1} → statement M
 run-from-spec =

@@ -1,19 +1,18 @@
 -- `wospinzo::answer_number` meets its contract: the value is below the bound, so that 256 times it and a number of at most 12 fit.
--- Assumes nothing.
 use Prim.Native.Nat.{ℕ, _+_, _*_, _<_}
 use native.Mathlib.Omega.{arith}
 use mathlib.Core.Path.{_≡_, sym, subst, ap, _∙_}
 use borrow.Author.Needs.{needs}
-use Rattle.definitions.specs.Answers.{replyOfAnswer}
+use Rattle.definitions.specs.Answers.{answerReply}
 use Rattle.definitions.specs.declared.Answer.{Answer}
-use Rattle.wospinzo.specs.Encoding.{encoded, valueIn, valueBound}
+use Rattle.wospinzo.specs.Encoding.{encoded, countNumber, valueIn, valueBound}
 use Rattle.wospinzo.proofs.Apart.{numbers}
 use Rattle.wospinzo.proofs.answer_number.Statement.{statement}
 use Rattle.wospinzo.proofs.answer_number.Tie as tie
 
 -- what is required, at the case that the answer is
-small : (a b : Answer) → a ≡ b → valueIn (replyOfAnswer a) < valueBound → valueIn (replyOfAnswer b) < valueBound
-small a b e h = subst (λ (x : Answer). valueIn (replyOfAnswer x) < valueBound) e h
+small : (a b : Answer) → a ≡ b → valueIn (answerReply a) < valueBound → valueIn (answerReply b) < valueBound
+small a b e h = subst (λ (x : Answer). valueIn (answerReply x) < valueBound) e h
 
 enum-known-answer : tie.Need-enum-known-answer
 enum-known-answer c = search needs
@@ -43,13 +42,13 @@ add-result c =
 
 returns : tie.Need-returns
 unfolding encoded
-returns c = sym (ap (λ (a : Answer). encoded (replyOfAnswer a)) (c .before .answer .given .1))
+returns c = sym (ap (λ (a : Answer). countNumber (answerReply a)) (c .before .answer .given .1))
 
 returns-2 : tie.Need-returns-2
 unfolding encoded
 returns-2 c =
     let g = c .before .before .answer2 .given in
-    ap (λ (k : ℕ). 256 * g .0 .1 .0 + k) (c .number .ensures) ∙ sym (ap (λ (a : Answer). encoded (replyOfAnswer a)) (g .1))
+    ap (λ (k : ℕ). 256 * g .0 .1 .0 + k) (c .number .ensures) ∙ sym (ap (λ (a : Answer). countNumber (answerReply a)) (g .1))
 
 pub answer-number-spec : {M : Type 1} → statement M
 answer-number-spec =

@@ -1,11 +1,11 @@
--- `wospinzo::outcome_number` meets its contract: at each case the number computes. Assumes nothing.
+-- `wospinzo::outcome_number` meets its contract: at each case the number computes.
 use Prim.Native.Nat.{ℕ, _*_}
 use native.Mathlib.Nat.{zero-add}
 use mathlib.Core.Path.{sym, ap, _∙_}
 use borrow.Author.Needs.{needs}
-use Rattle.definitions.specs.Answers.{replyOf}
+use Rattle.definitions.specs.Answers.{outcomeReply}
 use Rattle.definitions.specs.declared.Outcome.{Outcome}
-use Rattle.wospinzo.specs.Encoding.{encoded}
+use Rattle.wospinzo.specs.Encoding.{encoded, moveNumber}
 use Rattle.wospinzo.proofs.outcome_number.Statement.{statement}
 use Rattle.wospinzo.proofs.outcome_number.Tie as tie
 
@@ -36,7 +36,7 @@ cast-result-2 c = search needs
 returns : tie.Need-returns
 unfolding encoded
 returns c =
-    ap (λ (k : ℕ). 256 * k) (c .code .ensures) ∙ sym (ap (λ (o : Outcome). encoded (replyOf o)) (c .before .before .outcome .given .1))
+    ap (λ (k : ℕ). 256 * k) (c .code .ensures) ∙ sym (ap (λ (o : Outcome). moveNumber (outcomeReply o)) (c .before .before .outcome .given .1))
 
 returns-2 : tie.Need-returns-2
 unfolding encoded
@@ -44,7 +44,7 @@ returns-2 c = search needs
 
 returns-3 : tie.Need-returns-3
 unfolding encoded
-returns-3 c = c .number .ensures ∙ (sym (zero-add _) ∙ sym (ap (λ (o : Outcome). encoded (replyOf o)) (c .before .before .outcome2 .given .1)))
+returns-3 c = c .number .ensures ∙ (sym (zero-add _) ∙ sym (ap (λ (o : Outcome). moveNumber (outcomeReply o)) (c .before .before .outcome2 .given .1)))
 
 pub outcome-number-spec : {M : Type 1} → statement M
 outcome-number-spec =

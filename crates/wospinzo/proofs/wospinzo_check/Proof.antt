@@ -1,7 +1,7 @@
--- `wospinzo::wospinzo_check` meets its contract: the check's answer, whose value is small, as a number. Assumes nothing.
+-- `wospinzo::wospinzo_check` meets its contract: the check's answer, whose value is small, as a number.
 use mathlib.Core.Path.{ap, _∙_}
 use borrow.Author.Needs.{needs}
-use Rattle.wospinzo.specs.Encoding.{encoded}
+use Rattle.wospinzo.specs.Encoding.{countNumber}
 use Rattle.wospinzo.proofs.Small.{check-small}
 use Rattle.wospinzo.proofs.wospinzo_check.Statement.{statement}
 use Rattle.wospinzo.proofs.wospinzo_check.Tie as tie
@@ -10,10 +10,10 @@ check-requires : tie.Need-check-requires
 check-requires c κs = search needs
 
 answer-number-requires : tie.Need-answer-number-requires
-answer-number-requires c κs = rw (c .check .ensures) (check-small _ _)
+answer-number-requires c κs = check-small _ _ _ (c .check .ensures)
 
 returns : tie.Need-returns
-returns c = c .answer-number .ensures ∙ ap encoded (c .before .check .ensures)
+returns c = c .answer-number .ensures ∙ ap countNumber (c .before .check .ensures)
 
 pub wospinzo-check-spec : {M : Type 1} → statement M
 wospinzo-check-spec = tie.close (tie.spec check-requires answer-number-requires returns)

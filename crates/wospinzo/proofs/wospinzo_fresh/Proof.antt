@@ -1,7 +1,7 @@
--- `wospinzo::wospinzo_fresh` meets its contract: the fresh table's answer, whose value is small, as a number, and its output. Assumes nothing.
+-- `wospinzo::wospinzo_fresh` meets its contract: the fresh table's answer, whose value is small, as a number, and its output.
 use mathlib.Core.Path.{ap, _∙_}
 use borrow.Author.Needs.{needs}
-use Rattle.wospinzo.specs.Encoding.{encoded}
+use Rattle.wospinzo.specs.Encoding.{countNumber}
 use Rattle.wospinzo.proofs.Small.{fresh-small}
 use Rattle.wospinzo.proofs.wospinzo_fresh.Statement.{statement}
 use Rattle.wospinzo.proofs.wospinzo_fresh.Tie as tie
@@ -10,14 +10,14 @@ fresh-requires : tie.Need-fresh-requires
 fresh-requires c κs = search needs
 
 answer-number-requires : tie.Need-answer-number-requires
-answer-number-requires c κs = rw (c .before .before .fresh .ensures .0) (fresh-small _ _ (search needs))
+answer-number-requires c κs = let a = c .before .before .before .before .before .args in fresh-small (a .threads) _ _ (c .before .before .fresh .ensures .reply)
 
 same-length : tie.Need-same-length
 same-length c = search needs
 
 returns : tie.Need-returns
 returns c =
-    let made = c .before .before .before .fresh .ensures in (c .answer-number .ensures ∙ ap encoded (made .0), made .1)
+    let made = c .before .before .before .fresh .ensures in (c .answer-number .ensures ∙ ap countNumber (made .reply), made .output)
 
 pub wospinzo-fresh-spec : {M : Type 1} → statement M
 wospinzo-fresh-spec = tie.close (tie.spec fresh-requires answer-number-requires same-length returns)

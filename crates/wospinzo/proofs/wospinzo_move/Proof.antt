@@ -1,7 +1,7 @@
--- `wospinzo::wospinzo_move` meets its contract: the move's outcome as a number, and its table. Assumes nothing.
+-- `wospinzo::wospinzo_move` meets its contract: the move's outcome as a number, and its table.
 use mathlib.Core.Path.{ap, _∙_}
 use borrow.Author.Needs.{needs}
-use Rattle.wospinzo.specs.Encoding.{encoded}
+use Rattle.wospinzo.specs.Encoding.{moveNumber}
 use Rattle.wospinzo.proofs.wospinzo_move.Statement.{statement}
 use Rattle.wospinzo.proofs.wospinzo_move.Tie as tie
 
@@ -16,7 +16,7 @@ same-length c = search needs
 
 returns : tie.Need-returns
 returns c =
-    let made = c .before .before .before .make-move .ensures in (c .outcome-number .ensures ∙ ap encoded (made .reply), made .bytes)
+    let made = c .before .before .before .make-move .ensures in (c .outcome-number .ensures ∙ ap moveNumber (made .reply), made .table)
 
 pub wospinzo-move-spec : {M : Type 1} → statement M
 wospinzo-move-spec =

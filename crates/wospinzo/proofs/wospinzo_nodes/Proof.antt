@@ -1,7 +1,7 @@
--- `wospinzo::wospinzo_nodes` meets its contract: the nodes' answer, whose value is small, as a number, and its output. Assumes nothing.
+-- `wospinzo::wospinzo_nodes` meets its contract: the nodes' answer, whose value is small, as a number, and its output.
 use mathlib.Core.Path.{ap, _∙_}
 use borrow.Author.Needs.{needs}
-use Rattle.wospinzo.specs.Encoding.{encoded}
+use Rattle.wospinzo.specs.Encoding.{countNumber}
 use Rattle.wospinzo.proofs.Small.{nodes-small}
 use Rattle.wospinzo.proofs.wospinzo_nodes.Statement.{statement}
 use Rattle.wospinzo.proofs.wospinzo_nodes.Tie as tie
@@ -10,14 +10,14 @@ nodes-requires : tie.Need-nodes-requires
 nodes-requires c κs = search needs
 
 answer-number-requires : tie.Need-answer-number-requires
-answer-number-requires c κs = rw (c .before .before .nodes .ensures .0) (nodes-small _ _)
+answer-number-requires c κs = nodes-small _ _ _ (c .before .before .nodes .ensures .reply)
 
 same-length : tie.Need-same-length
 same-length c = search needs
 
 returns : tie.Need-returns
 returns c =
-    let made = c .before .before .before .nodes .ensures in (c .answer-number .ensures ∙ ap encoded (made .0), made .1)
+    let made = c .before .before .before .nodes .ensures in (c .answer-number .ensures ∙ ap countNumber (made .reply), made .output)
 
 pub wospinzo-nodes-spec : {M : Type 1} → statement M
 wospinzo-nodes-spec = tie.close (tie.spec nodes-requires answer-number-requires same-length returns)

@@ -1,7 +1,7 @@
--- `wospinzo::wospinzo_open_moves` meets its contract: the open moves' answer, whose value is small, as a number, and its output. Assumes nothing.
+-- `wospinzo::wospinzo_open_moves` meets its contract: the open moves' answer, whose value is small, as a number, and its output.
 use mathlib.Core.Path.{ap, _∙_}
 use borrow.Author.Needs.{needs}
-use Rattle.wospinzo.specs.Encoding.{encoded}
+use Rattle.wospinzo.specs.Encoding.{countNumber}
 use Rattle.wospinzo.proofs.Small.{open-small}
 use Rattle.wospinzo.proofs.wospinzo_open_moves.Statement.{statement}
 use Rattle.wospinzo.proofs.wospinzo_open_moves.Tie as tie
@@ -10,14 +10,14 @@ open-moves-requires : tie.Need-open-moves-requires
 open-moves-requires c κs = search needs
 
 answer-number-requires : tie.Need-answer-number-requires
-answer-number-requires c κs = rw (c .before .before .open-moves .ensures .reply) (open-small _ _ _)
+answer-number-requires c κs = open-small _ _ _ _ (c .before .before .open-moves .ensures .reply)
 
 same-length : tie.Need-same-length
 same-length c = search needs
 
 returns : tie.Need-returns
 returns c =
-    let made = c .before .before .before .open-moves .ensures in (c .answer-number .ensures ∙ ap encoded (made .reply), made .output)
+    let made = c .before .before .before .open-moves .ensures in (c .answer-number .ensures ∙ ap countNumber (made .reply), made .output)
 
 pub wospinzo-open-moves-spec : {M : Type 1} → statement M
 wospinzo-open-moves-spec = tie.close (tie.spec open-moves-requires answer-number-requires same-length returns)

@@ -1,7 +1,7 @@
--- `wospinzo::wospinzo_plan` meets its contract: the plan's answer, whose value is small, as a number, and its output. Assumes nothing.
+-- `wospinzo::wospinzo_plan` meets its contract: the plan's answer, whose value is small, as a number, and its output.
 use mathlib.Core.Path.{ap, _∙_}
 use borrow.Author.Needs.{needs}
-use Rattle.wospinzo.specs.Encoding.{encoded}
+use Rattle.wospinzo.specs.Encoding.{countNumber}
 use Rattle.wospinzo.proofs.Small.{plan-small}
 use Rattle.wospinzo.proofs.wospinzo_plan.Statement.{statement}
 use Rattle.wospinzo.proofs.wospinzo_plan.Tie as tie
@@ -10,14 +10,14 @@ plan-requires : tie.Need-plan-requires
 plan-requires c κs = search needs
 
 answer-number-requires : tie.Need-answer-number-requires
-answer-number-requires c κs = rw (c .before .before .plan .ensures .0) (plan-small _ _ _)
+answer-number-requires c κs = let a = c .before .before .before .before .before .before .args in plan-small (a .threads) (a .history .now) _ _ (c .before .before .plan .ensures .reply)
 
 same-length : tie.Need-same-length
 same-length c = search needs
 
 returns : tie.Need-returns
 returns c =
-    let made = c .before .before .before .plan .ensures in (c .answer-number .ensures ∙ ap encoded (made .0), made .1)
+    let made = c .before .before .before .plan .ensures in (c .answer-number .ensures ∙ ap countNumber (made .reply), made .output)
 
 pub wospinzo-plan-spec : {M : Type 1} → statement M
 wospinzo-plan-spec = tie.close (tie.spec plan-requires answer-number-requires same-length returns)

@@ -1,8 +1,10 @@
 -- `Event::from_code` meets its contract: an arm's number is a row of the table `eventOf`, and no other number is.
--- Assumes nothing.
-use Prim.Native.Nat.{ℕ, zero, suc}
-use mathlib.Core.Path.{_≡_, refl, sym, ap}
-use Rattle.definitions.specs.Answers.{eventOf}
+use Prim.Native.Nat.{ℕ, _≤_, _<_}
+use native.Mathlib.Decide.{decLt}
+use native.Mathlib.Omega.{arith}
+use mathlib.Core.Path.{_≡_, sym, ap}
+use lib.ListN.{List·getD-eq-default}
+use Rattle.definitions.specs.Answers.{events, eventOf}
 use Rattle.definitions.specs.declared.MaybeEvent.the-variants.{Unknown}
 use Rattle.definitions.proofs.Event.from_code.Statement.{statement}
 use Rattle.definitions.proofs.Event.from_code.Tie as tie
@@ -10,50 +12,56 @@ use Rattle.definitions.proofs.Event.from_code.Tie as tie
 row : (code k : ℕ) → code ≡ k → eventOf k ≡ eventOf code
 row code k e = ap eventOf (sym e)
 
+-- no other code has a row: it is 0, or behind the table's end
+low : (code : ℕ) → code < 5 → (code ≡ 1 → ⊥) → (code ≡ 2 → ⊥) → (code ≡ 3 → ⊥) → (code ≡ 4 → ⊥) → code ≡ 0
+low code l a b c d = omega arith
+
+high : (code : ℕ) → 5 ≤ code → (code ≡ 5 → ⊥) → (code ≡ 6 → ⊥) → (code ≡ 7 → ⊥) → (code ≡ 8 → ⊥) → 9 ≤ code
+high code l a b c d = omega arith
+
+beyond : (code : ℕ) → 9 ≤ code → eventOf code ≡ Unknown
+unfolding eventOf events
+beyond code l = List·getD-eq-default events Unknown l
+
 outside : (code : ℕ) → (code ≡ 1 → ⊥) → (code ≡ 2 → ⊥) → (code ≡ 3 → ⊥) → (code ≡ 4 → ⊥) → (code ≡ 5 → ⊥)
     → (code ≡ 6 → ⊥) → (code ≡ 7 → ⊥) → (code ≡ 8 → ⊥) → Unknown ≡ eventOf code
-unfolding eventOf
-outside zero a b c d e f g h = refl
-outside (suc zero) a b c d e f g h = absurd (a refl)
-outside (suc (suc zero)) a b c d e f g h = absurd (b refl)
-outside (suc (suc (suc zero))) a b c d e f g h = absurd (c refl)
-outside (suc (suc (suc (suc zero)))) a b c d e f g h = absurd (d refl)
-outside (suc (suc (suc (suc (suc zero))))) a b c d e f g h = absurd (e refl)
-outside (suc (suc (suc (suc (suc (suc zero)))))) a b c d e f g h = absurd (f refl)
-outside (suc (suc (suc (suc (suc (suc (suc zero))))))) a b c d e f g h = absurd (g refl)
-outside (suc (suc (suc (suc (suc (suc (suc (suc zero)))))))) a b c d e f g h = absurd (h refl)
-outside (suc (suc (suc (suc (suc (suc (suc (suc (suc n))))))))) a b c d e f g h = refl
+unfolding eventOf events
+outside code a b c d e f g h = by (decLt code 5)
+  where
+    by : Dec (code < 5) → Unknown ≡ eventOf code
+    by (yes l) = ap eventOf (sym (low code l a b c d))
+    by (no l) = sym (beyond code (high code (omega arith) e f g h))
 
 returns : tie.Need-returns
-unfolding eventOf
+unfolding eventOf events
 returns c = row _ 1 (c .match .keys1)
 
 returns-2 : tie.Need-returns-2
-unfolding eventOf
+unfolding eventOf events
 returns-2 c = row _ 2 (c .match .keys2)
 
 returns-3 : tie.Need-returns-3
-unfolding eventOf
+unfolding eventOf events
 returns-3 c = row _ 3 (c .match .keys3)
 
 returns-4 : tie.Need-returns-4
-unfolding eventOf
+unfolding eventOf events
 returns-4 c = row _ 4 (c .match .keys4)
 
 returns-5 : tie.Need-returns-5
-unfolding eventOf
+unfolding eventOf events
 returns-5 c = row _ 5 (c .match .keys5)
 
 returns-6 : tie.Need-returns-6
-unfolding eventOf
+unfolding eventOf events
 returns-6 c = row _ 6 (c .match .keys6)
 
 returns-7 : tie.Need-returns-7
-unfolding eventOf
+unfolding eventOf events
 returns-7 c = row _ 7 (c .match .keys7)
 
 returns-8 : tie.Need-returns-8
-unfolding eventOf
+unfolding eventOf events
 returns-8 c = row _ 8 (c .match .keys8)
 
 returns-9 : tie.Need-returns-9

@@ -1,8 +1,7 @@
--- `lock::moves::make_move` meets its contract, by what its two steps ensure (proofs/Answered.antt).
--- Assumes nothing.
-use mathlib.Core.Path.{_∙_, sym}
-use Rattle.lock.proofs.Answered.{move-refused, examined-held}
+-- `make_move` meets its contract: the answer of `examine` gives the refusals 1 and 2, or what `try_move` asks.
+use mathlib.Core.Path.{sym, _∙_}
 use borrow.Author.Needs.{needs}
+use Rattle.lock.proofs.MoveReplies.{table-refused, found-sound}
 use Rattle.lock.proofs.moves.make_move.Statement.{statement}
 use Rattle.lock.proofs.moves.make_move.Tie as tie
 
@@ -16,13 +15,17 @@ enum-known-examined-2 : tie.Need-enum-known-examined-2
 enum-known-examined-2 c = search needs
 
 try-move-requires : tie.Need-try-move-requires
-try-move-requires c κs = examined-held _ _ _ (sym (c .before .before .before .before .examine .ensures) ∙ c .before .before .examined2 .given .1)
+try-move-requires c κs =
+    let known = c .before .before in
+    found-sound _ _ _ (sym (known .before .before .examine .ensures) ∙ known .examined2 .given .1)
 
 same-length : tie.Need-same-length
 same-length c = search needs
 
 returns : tie.Need-returns
-returns c = move-refused _ _ _ (sym (c .before .before .before .examine .ensures) ∙ c .before .examined .given .1)
+returns c =
+    let known = c .before in
+    table-refused _ _ _ (sym (known .before .before .examine .ensures) ∙ known .examined .given .1)
 
 same-length-2 : tie.Need-same-length-2
 same-length-2 c = search needs

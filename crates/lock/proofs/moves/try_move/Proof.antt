@@ -1,7 +1,6 @@
--- `lock::moves::try_move` meets its contract, by what its two steps ensure (proofs/Answered.antt).
--- Assumes nothing.
-use Rattle.lock.proofs.Answered.{try-refused, try-ready, try-carried}
+-- `try_move` meets its contract: a request that fails a test is turned down, and one that passes them is accepted.
 use borrow.Author.Needs.{needs}
+use Rattle.lock.proofs.MoveReplies.{request-refused, request-passed}
 use Rattle.lock.proofs.moves.try_move.Statement.{statement}
 use Rattle.lock.proofs.moves.try_move.Tie as tie
 
@@ -14,20 +13,26 @@ enum-known-tested c = search needs
 enum-told : tie.Need-enum-told
 enum-told c = search needs
 
-carry-out-requires : tie.Need-carry-out-requires
-carry-out-requires c κs = try-ready _ _ _ _ (c .before .before .before .before .before .before .pre) (c .before .before .before .test-request .ensures) (c .before .enum-told .given .1)
+apply-request-requires : tie.Need-apply-request-requires
+apply-request-requires c κs =
+    let told = c .before in
+    let tested = told .before .before in
+    request-passed _ _ _ _ (tested .before .before .before .pre) (tested .test-request .ensures) (told .enum-told .given .1)
 
 same-length : tie.Need-same-length
 same-length c = search needs
 
 returns : tie.Need-returns
-returns c = try-refused _ _ _ _ _ (c .before .before .before .before .before .before .pre) (c .before .before .before .test-request .ensures) (c .before .tested .given .1)
+returns c =
+    let told = c .before in
+    let tested = told .before .before in
+    request-refused _ _ _ _ _ (tested .before .before .before .pre) (tested .test-request .ensures) (told .tested .given .1)
 
 same-length-2 : tie.Need-same-length-2
 same-length-2 c = search needs
 
 returns-2 : tie.Need-returns-2
-returns-2 c = try-carried _ _ _ _ _ (try-ready _ _ _ _ (c .before .before .before .before .before .before .before .before .before .pre) (c .before .before .before .before .before .before .test-request .ensures) (c .before .before .before .before .enum-told .given .1)) (c .before .before .carry-out .ensures)
+returns-2 c = c .before .before .apply-request .ensures
 
 pub try-move-spec : {M : Type 1} → statement M
 try-move-spec =
@@ -36,7 +41,7 @@ try-move-spec =
     test-request-requires
     enum-known-tested
     enum-told
-    carry-out-requires
+    apply-request-requires
     same-length
     returns
     same-length-2

@@ -1,56 +1,58 @@
--- `lock::request::test_request` meets its contract: refusal 3 by its test, and the others by what `rules::test` ensures.
--- Assumes nothing.
+-- `test_request` meets its contract: the thread's test, then those of its phase.
 use native.Mathlib.Omega.{arith}
-use Prim.Native.Nat.{ℕ}
-use mathlib.Core.Path.{ap}
-use lib.ListN.{getD}
+use borrow.Author.Needs.{needs}
 use borrow.Author.Tests.{lt-ltb, le-ltb}
-use Rattle.definitions.specs.Answers.{firstRefusal}
-use Rattle.definitions.specs.Table.{tableOf}
-use Rattle.table.proofs.Laws.{sized-means}
-use Rattle.lock.proofs.Facts.{phase-le}
+use Rattle.definitions.specs.Answers.{answered}
+use Rattle.table.proofs.TableTests.{phase-read}
+use Rattle.theory.proofs.Bytes.{sized-e}
 use Rattle.lock.proofs.request.test_request.Statement.{statement}
 use Rattle.lock.proofs.request.test_request.Tie as tie
 
-shared-slice-read-count : tie.Need-shared-slice-read-count
-shared-slice-read-count c = let z = sized-means _ (c .before .before .pre .is-sized) in omega arith
+shared-slice-read-threads : tie.Need-shared-slice-read-threads
+shared-slice-read-threads c = omega (arith, sized-e _ (c .before .before .pre .is-sized))
 
 cast-threads : tie.Need-cast-threads
 cast-threads c = omega (arith, c .shared-slice-known2 .given 0)
 
+cast-thread : tie.Need-cast-thread
+cast-thread c = search needs
+
 returns : tie.Need-returns
-unfolding firstRefusal
+unfolding answered
 returns c = rw (le-ltb _ _ (c .if1 .taken))
 
 shared-slice-read-mutex : tie.Need-shared-slice-read-mutex
-shared-slice-read-mutex c = let z = sized-means _ (c .before .before .before .before .pre .is-sized) in omega arith
+shared-slice-read-mutex c = omega (arith, sized-e _ (c .before .before .before .before .before .pre .is-sized))
 
 phase-at-requires : tie.Need-phase-at-requires
-phase-at-requires c κs = let z = sized-means _ (c .before .before .before .before .pre .is-sized) in omega arith
+phase-at-requires c κs = search needs
 
-shared-slice-read-at : tie.Need-shared-slice-read-at
-shared-slice-read-at c = let z = sized-means _ (c .before .before .before .before .before .before .pre .is-sized) in omega arith
+shared-slice-read-phase : tie.Need-shared-slice-read-phase
+shared-slice-read-phase c = omega (arith, sized-e _ (c .before .before .before .before .before .before .before .pre .is-sized))
 
-cast-phase : tie.Need-cast-phase
-cast-phase c = omega (arith, c .shared-slice-known4 .given (c .before .phase-at .result))
-
-test-requires : tie.Need-test-requires
-test-requires c κs = omega (arith, phase-le (tableOf (c .before .before .before .before .before .before .args .table .now)) (c .before .before .before .before .before .before .pre .is-sound) (c .before .before .before .before .before .before .args .thread) (c .before .before .before .if1 .left), ap (λ (x : ℕ). getD (c .before .before .before .before .before .before .args .table .now) x 0) (c .before .phase-at .ensures))
+test-move-requires : tie.Need-test-move-requires
+test-move-requires c κs =
+    let at = c .before in
+    let left = at .before .before in
+    let start = left .before .before .before .before in
+    phase-read (start .args .table .now) (start .args .request .thread) _ (start .pre) (left .if1 .left) (at .phase-at .ensures)
 
 returns-2 : tie.Need-returns-2
-unfolding firstRefusal
-returns-2 c = rw (lt-ltb _ _ (c .before .before .before .before .if1 .left), ← c .before .before .phase-at .ensures) (c .test .ensures)
+unfolding answered
+returns-2 c =
+    let at = c .before .before in
+    rw (lt-ltb _ _ (at .before .before .if1 .left), ← at .phase-at .ensures) (c .test-move .ensures)
 
 pub test-request-spec : {M : Type 1} → statement M
 test-request-spec =
     tie.close
     (tie.spec
-    shared-slice-read-count
+    shared-slice-read-threads
     cast-threads
+    cast-thread
     returns
     shared-slice-read-mutex
     phase-at-requires
-    shared-slice-read-at
-    cast-phase
-    test-requires
+    shared-slice-read-phase
+    test-move-requires
     returns-2)

@@ -1,0 +1,43 @@
+-- `recount` meets its contract: a Bool cast to a number is 1 or 0.
+use Prim.Native.Nat.{_≤_}
+use native.Mathlib.Omega.{arith}
+use mathlib.Core.Bool.{Bool, true, false, cond}
+use mathlib.Core.Path.{_≡_, refl}
+use borrow.Author.Needs.{needs}
+use lib.Dec.{eqb}
+use mir.Val.{boolByte}
+use Rattle.apply.proofs.recount.Statement.{statement}
+use Rattle.apply.proofs.recount.Tie as tie
+
+record Cast (b : Bool) : Type 0 where
+  is : boolByte b ≡ cond b 1 0
+  most : boolByte b ≤ 1
+
+cast : (b : Bool) → Cast b
+cast true = record { is = refl; most = omega arith }
+cast false = record { is = refl; most = omega arith }
+
+-- the two casts
+casts : (c : tie.Start) → Cast (eqb (c .args .before) 1) × Cast (eqb (c .args .after) 1)
+casts c = (cast _, cast _)
+
+returns : tie.Need-returns
+returns c = rw (c .if1 .taken)
+
+cast-rest : tie.Need-cast-rest
+cast-rest c = search needs
+
+sub-rest : tie.Need-sub-rest
+sub-rest c = omega (arith, casts (c .before))
+
+cast-result : tie.Need-cast-result
+cast-result c = search needs
+
+add-result : tie.Need-add-result
+add-result c = omega (arith, casts (c .before))
+
+returns-2 : tie.Need-returns-2
+returns-2 c = omega (arith, casts (c .before))
+
+pub recount-spec : {M : Type 1} → statement M
+recount-spec = tie.close (tie.spec returns cast-rest sub-rest cast-result add-result returns-2)

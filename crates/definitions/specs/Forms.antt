@@ -1,0 +1,97 @@
+-- The forms of a script's lines: what a line says, read off the line alone, and the lines that spell a form.
+-- `formOf` reads a line; `threadsLine` and `spelled` write the line of a form. That the one is the inverse of the other is shown in crates/forms, proofs/Spelled.
+use Prim.Native.Nat.{ℕ, suc, _+_, _-_}
+use mathlib.Core.Bool.{Bool, cond, _&&_}
+use mathlib.Core.List.{List, [], _∷_, _++_}
+use lib.Dec.{eqb}
+use lib.ListN.{length, getD, take, drop}
+use Rattle.definitions.specs.Bounds.{mostDepth}
+use Rattle.definitions.specs.Codes.{go, callShared, callExclusive, setMove, clearMove, relent}
+use Rattle.definitions.specs.Moves.{ask}
+use Rattle.definitions.specs.Texts.{bytes, same, starts, Line, NumberRead, numberRead, decimal}
+use Rattle.definitions.specs.Threads.{every, between}
+use Rattle.definitions.specs.declared.Request.{Request}
+
+-- ---- reading
+
+-- what a line says: the number of threads, a request, a note, or nothing that the grammar has
+pub data Form : Type 0 where
+  threads : ℕ → Form
+  request : Request → Form
+  note : Form
+  bad : Form
+
+-- how many of xs are the byte c
+unfoldable pub occurrences : ℕ → List ℕ → ℕ
+occurrences c [] = 0
+occurrences c (x ∷ xs) = cond (eqb x c) 1 0 + occurrences c xs
+
+-- "any number of bytes 32 to 126, none too, whose round brackets balance, to depth 16 with the outermost as 1":
+-- the bytes between `(note ` and the note's own closing bracket. Their depth, the brackets opened less those closed, is from 0 to 16 throughout, and 0 at their end.
+unfoldable pub noteFits : List ℕ → Bool
+noteFits text =
+    every (length text) (λ k. between 32 126 (getD text k 0))
+    && (every (suc (length text)) (λ k.
+    between (occurrences 41 (take k text)) (occurrences 41 (take k text) + mostDepth) (occurrences 40 (take k text)))
+    && eqb (occurrences 40 text) (occurrences 41 text))
+
+-- `(note ...)`, from behind the space on: the note's own bracket is the line's last byte
+unfoldable pub noteForm : List ℕ → Form
+noteForm xs = cond (eqb (getD xs (length xs - 1) 0) 41 && noteFits (take (length xs - 1) xs)) note bad
+
+-- `(threads N)`, from N on
+abbrev pub threadsForm : NumberRead → Form
+threadsForm r = cond (r .fits && same (r .rest) (bytes ")")) (threads (r .value)) bad
+
+-- `K))`
+abbrev pub targetForm : ℕ → ℕ → NumberRead → Form
+targetForm thread mv r = cond (r .fits && same (r .rest) (bytes "))")) (request (ask thread mv (r .value))) bad
+
+-- `(T (go))`, `(T (call shared))`, `(T (call exclusive))`, `(T (set K))`, `(T (clear K))`, `(T (relent))`, from the space behind T on
+unfoldable pub actForm : ℕ → List ℕ → Form
+actForm thread xs =
+    cond (same xs (bytes " (go))")) (request (ask thread go 0))
+    (cond (same xs (bytes " (call shared))")) (request (ask thread callShared 0))
+    (cond (same xs (bytes " (call exclusive))")) (request (ask thread callExclusive 0))
+    (cond (same xs (bytes " (relent))")) (request (ask thread relent 0))
+    (cond (starts (bytes " (set ") xs) (targetForm thread setMove (numberRead (drop 6 xs)))
+    (cond (starts (bytes " (clear ") xs) (targetForm thread clearMove (numberRead (drop 8 xs))) bad)))))
+
+-- the thread's number, then the rest
+abbrev pub moveForm : NumberRead → Form
+moveForm r = cond (r .fits) (actForm (r .value) (r .rest)) bad
+
+-- "The reader of a form is handed that line alone."
+unfoldable pub formOf : List ℕ → Form
+formOf line =
+    cond (starts (bytes "(threads ") line) (threadsForm (numberRead (drop 9 line)))
+    (cond (starts (bytes "(note ") line) (noteForm (drop 6 line))
+    (cond (starts (bytes "(") line) (moveForm (numberRead (drop 1 line))) bad))
+
+-- a line's form; one that lacks its line feed is bad
+abbrev pub lineForm : Line → Form
+lineForm l = cond (l .ended) (formOf (l .text)) bad
+
+-- ---- spelling
+
+-- "First `(threads N)`": the line that says N
+abbrev pub threadsLine : ℕ → List ℕ
+threadsLine n = bytes "(threads " ++ (decimal n ++ bytes ")")
+
+-- what stands behind T, by the move's number: "`(T (go))`, `(T (call shared))`, `(T (call exclusive))`, `(T (set K))`, `(T (clear K))`, `(T (relent))`"
+unfoldable pub actText : ℕ → ℕ → List ℕ
+actText mv target =
+    getD
+    (bytes " (go))"
+    ∷ bytes " (call shared))"
+    ∷ bytes " (call exclusive))"
+    ∷ (bytes " (set " ++ (decimal target ++ bytes "))"))
+    ∷ (bytes " (clear " ++ (decimal target ++ bytes "))"))
+    ∷ bytes " (relent))"
+    ∷ [])
+    mv
+    []
+
+-- the line that says a request
+abbrev pub spelled : Request → List ℕ
+spelled r = bytes "(" ++ (decimal (r .thread) ++ actText (r .mv) (r .target))

@@ -1,0 +1,105 @@
+-- The run of a script, with what it prints, and what the program prints.
+-- A line's form is judged by the line alone; a line that lacks its line feed is a bad form; `(refused R L)` follows the events already printed.
+use Prim.Native.Nat.{ℕ, suc}
+use mathlib.Core.Bool.{cond}
+use mathlib.Core.List.{List, [], _∷_, _++_}
+use lib.Dec.{leb}
+use lib.ListN.{length, getD}
+use Rattle.definitions.specs.Answers.{Reply, accepted, refused, Seen, shown, quiet, test, Delivery, counted}
+use Rattle.definitions.specs.Bounds.{mostScript}
+use Rattle.definitions.specs.Forms.{Form, threads, request, note, bad, lineForm}
+use Rattle.definitions.specs.Moves.{moveReply, moveTable}
+use Rattle.definitions.specs.PlainLock.{Pair}
+use Rattle.definitions.specs.Table.{countFits, fresh}
+use Rattle.definitions.specs.Texts.{bytes, Line, linesOf, decimal}
+use Rattle.definitions.specs.declared.Request.{Request}
+
+-- "the name as listed above", by the event's code
+unfoldable pub eventName : ℕ → List ℕ
+eventName event =
+    getD
+    ([]
+    ∷ bytes "enter shared call"
+    ∷ bytes "enter shared return"
+    ∷ bytes "leave shared call"
+    ∷ bytes "leave shared return"
+    ∷ bytes "enter exclusive call"
+    ∷ bytes "enter exclusive return"
+    ∷ bytes "leave exclusive call"
+    ∷ bytes "leave exclusive return"
+    ∷ [])
+    event
+    []
+
+-- "prints `(event T (name))` for each event as it comes"; quiet prints nothing
+unfoldable pub eventLine : ℕ → Seen → List ℕ
+eventLine thread (shown event) =
+    bytes "(event " ++ (decimal thread ++ (bytes " (" ++ (eventName event ++ bytes "))\n")))
+eventLine thread quiet = []
+
+-- the lines of a history
+unfoldable pub eventLines : List Pair → List ℕ
+eventLines [] = []
+eventLines (x ∷ xs) = eventLine (x .thread) (shown (x .event)) ++ eventLines xs
+
+-- "then `(steps K)`, K being the moves made"
+unfoldable pub stepsLine : ℕ → List ℕ
+stepsLine steps = bytes "(steps " ++ (decimal steps ++ bytes ")\n")
+
+-- "`(refused R L)`, R the number (a bad form is 8, a bad N 1), L the line from 1"
+unfoldable pub refusedLine : ℕ → ℕ → List ℕ
+refusedLine number line =
+    bytes "(refused " ++ (decimal number ++ (bytes " " ++ (decimal line ++ bytes ")\n")))
+
+-- what a line does to the run: it stops it with a refusal's number, it is a note, or it makes a move, of which something is seen
+pub data Turn : Type 0 where
+  stops : ℕ → Turn
+  passes : Turn
+  makes : Request → Seen → Turn
+
+-- a line's request, which the table accepts or refuses
+abbrev pub turnFor : Request → Reply Seen → Turn
+turnFor r (accepted seen) = makes r seen
+turnFor r (refused number place) = stops number
+
+-- a second threads line is a bad form
+abbrev pub turnOf : List ℕ → Form → Turn
+turnOf table (threads n) = stops 8
+turnOf table (request r) = turnFor r (moveReply table r)
+turnOf table note = passes
+turnOf table bad = stops 8
+
+-- what is printed from a line on: `table` is the table before it, `line` its number, `steps` the moves made before it
+unfoldable pub printed : List ℕ → ℕ → ℕ → List Line → List ℕ
+printed table line steps [] = stepsLine steps
+printed table line steps (l ∷ ls) =
+    elim (turnOf table (lineForm l)) [
+      | stops number ↦ refusedLine number line
+      | passes ↦ printed table (suc line) steps ls
+      | makes r seen ↦ eventLine (r .thread) seen ++ printed (moveTable table r) (suc line) (suc steps) ls
+    ]
+
+-- "First `(threads N)`": the run starts fresh, at line 2; anything else is a bad form
+unfoldable pub printedFirst : Form → List Line → List ℕ
+printedFirst (threads n) ls = cond (countFits n) (printed (fresh n) 2 0 ls) (refusedLine 1 1)
+printedFirst (request r) ls = refusedLine 8 1
+printedFirst note ls = refusedLine 8 1
+printedFirst bad ls = refusedLine 8 1
+
+-- the whole output of a run; "an empty script's `(refused 8 1)`"
+unfoldable pub runText : List Line → List ℕ
+runText [] = refusedLine 8 1
+runText (l ∷ ls) = printedFirst (lineForm l) ls
+
+abbrev pub runOutputOf : List ℕ → List ℕ
+runOutputOf script = runText (linesOf script)
+
+-- "Only a script too long (8) or a short output (12) refuses the run itself."
+abbrev pub runEntry : List ℕ → Delivery ℕ
+runEntry script = counted (test 8 (leb (length script) mostScript) ∷ []) (runOutputOf script)
+
+-- ---- the program
+
+-- "The program reads standard input and prints the run's output, ..; for a script too long it prints `(refused 8 0)`."
+unfoldable pub programOutput : List ℕ → List ℕ
+programOutput input = cond (leb (length input) mostScript) (runOutputOf input) (refusedLine 8 0)

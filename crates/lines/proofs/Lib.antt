@@ -1,0 +1,2 @@
+-- Laws of lines, which the proofs of the walk share.
+pub mod FirstLines

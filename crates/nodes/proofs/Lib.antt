@@ -1,0 +1,2 @@
+-- Bytes written one behind the other.
+pub mod Writing

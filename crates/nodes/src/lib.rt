@@ -1,0 +1,97 @@
+// The nodes of all threads.
+use definitions::Answer;
+use definitions::PHASE_COUNT;
+use definitions::Refusal;
+use table::Examined;
+use table::phase_at;
+ghost use Prim.Native.Nat.{suc};
+ghost use mathlib.Core.Path.{_≡_};
+ghost use Rattle.definitions.specs.Answers.{answerReply};
+ghost use Rattle.definitions.specs.Bounds.{lastPhase};
+ghost use Rattle.definitions.specs.Nodes.{nodesEntry};
+ghost use Rattle.definitions.specs.Phases.{nodeOf};
+ghost use Rattle.definitions.specs.Table.{tableOf};
+ghost use Rattle.definitions.specs.Threads.{listOf};
+ghost use Rattle.theory.specs.Outputs.{Delivered};
+ghost use Rattle.theory.specs.Tables.{SoundBytes};
+
+// "node codes 0 to 10 in this order"
+const FREE: u8 = 0;
+
+const ES: u8 = 1;
+
+const LOE: u8 = 2;
+
+const SHARED: u8 = 3;
+
+const LS: u8 = 4;
+
+const EE: u8 = 5;
+
+const SAF: u8 = 6;
+
+const LOS: u8 = 7;
+
+const EXCLUSIVE: u8 = 8;
+
+const LE: u8 = 9;
+
+const OE: u8 = 10;
+
+// The node of a phase.
+fn node_of(phase: u8) -> u8
+    ensures { λ r. ⌜ r ≡ nodeOf phase ⌝ }
+{
+    match phase {
+        1..=4 => ES,
+        5 => LOE,
+        6 => SHARED,
+        7..=8 => LS,
+        9 => EE,
+        10..=12 => SAF,
+        13 => LOS,
+        14 => EXCLUSIVE,
+        15 => LE,
+        16..=17 => OE,
+        _ => FREE,
+    }
+}
+
+// The node of each phase, looked up once for all threads.
+fn nodes_by_phase() -> [u8; PHASE_COUNT]
+    ensures { λ r. ⌜ r ≡ listOf (suc lastPhase) nodeOf ⌝ }
+{
+    let mut codes = [0u8; PHASE_COUNT];
+    for phase in 0..PHASE_COUNT {
+        codes[phase] = node_of(phase as u8);
+    }
+    codes
+}
+
+// The nodes of a sound table's threads.
+fn put_nodes(table: &[u8], threads: usize, out: &mut [u8]) -> Answer
+    requires { ⌜ SoundBytes (now table) × (threads ≡ tableOf (now table) .threads) ⌝ }
+    ensures { λ r. ⌜ Delivered (nodesEntry (now (table .entry))) (now (out .entry)) (now (out .exit)) (answerReply r) ⌝ }
+{
+    let room = out.len();
+    if room < threads {
+        return Answer::Refused(Refusal::NoRoom, 0);
+    }
+    let codes = nodes_by_phase();
+    for i in 0..threads {
+        let phase = table[phase_at(i)];
+        out[i] = codes[phase as usize];
+    }
+    Answer::Done(threads)
+}
+
+// One byte a thread. Their number is answered.
+pub fn nodes(table: &[u8], out: &mut [u8]) -> Answer
+    ensures { λ r. ⌜ Delivered (nodesEntry (now (table .entry))) (now (out .entry)) (now (out .exit)) (answerReply r) ⌝ }
+{
+    let examined = table::examine(table);
+    match examined {
+        Examined::Sound(threads, _) => put_nodes(table, threads, out),
+        Examined::Refused(refusal) => Answer::Refused(refusal, 0),
+    }
+}

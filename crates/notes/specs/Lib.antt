@@ -1,0 +1,2 @@
+-- What the contracts of a note's test cite besides the definitions of the scope paper.
+pub mod Brackets

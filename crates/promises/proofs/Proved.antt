@@ -1,0 +1,79 @@
+-- Every line of specs/Promises, by citing the function's proof or the theorem.
+use mathlib.Core.Path.{sym}
+use Rattle.definitions.specs.Table.{tableOf}
+use Rattle.promises.specs.Promises.{Promises}
+use Rattle.forms.proofs.Spelled as spelled
+use Rattle.orders.proofs.EveryOrder as orders
+use Rattle.printout.proofs.Output as output
+use Rattle.printout.proofs.print_input.Met as printing
+use Rattle.runs.proofs.StepsAndEvents.{steps-counted}
+use Rattle.runs.proofs.Suffices as suffices
+use Rattle.theory.proofs.Bytes.{byte-keeps}
+use Rattle.theory.proofs.Discipline as discipline
+use Rattle.theory.proofs.Figure1 as figure
+use Rattle.theory.proofs.OpenMovesExact as exact
+use Rattle.theory.proofs.SoundKept as kept
+use Rattle.theory.proofs.Storages as storages
+use Rattle.wospinzo.proofs.Apart as apart
+use Rattle.wospinzo.proofs.wospinzo_check.Met as check
+use Rattle.wospinzo.proofs.wospinzo_fresh.Met as fresh
+use Rattle.wospinzo.proofs.wospinzo_move.Met as move
+use Rattle.wospinzo.proofs.wospinzo_nodes.Met as nodes
+use Rattle.wospinzo.proofs.wospinzo_open_moves.Met as open-moves
+use Rattle.wospinzo.proofs.wospinzo_plan.Met as plan
+use Rattle.wospinzo.proofs.wospinzo_run.Met as run
+use Rattle.wospinzo.proofs.wospinzo_version.Met as version
+use Rattle.promises.proofs.Rooms as rooms
+
+pub proved : {M : Type 1} → Promises M
+proved =
+    record {
+      wospinzo-version = version.met;
+      wospinzo-fresh = fresh.met;
+      wospinzo-move = move.met;
+      wospinzo-nodes = nodes.met;
+      wospinzo-open-moves = open-moves.met;
+      wospinzo-check = check.met;
+      wospinzo-plan = plan.met;
+      wospinzo-run = run.met;
+      move-told = apart.outcomes-apart;
+      count-told = apart.answers-apart;
+      refused-keeps = kept.refused-keeps;
+      fresh-room = rooms.fresh-exactly;
+      nodes-room = rooms.nodes-exactly;
+      open-room = λ table thread. exact.open-short (tableOf table) thread;
+      run-room = suffices.never-refused;
+      run-length = suffices.run-bound;
+      print-input = printing.met;
+      program-room = output.output-fits;
+      program-reads = output.read-enough;
+      threads-read = spelled.threads-read;
+      request-read = spelled.request-read;
+      note-read = spelled.note-read;
+      read-spelled = spelled.read-spelled;
+      bytes-keep = byte-keeps;
+      storage-reply = λ S. storages.reply-same S;
+      storage-step = λ S. storages.table-step S;
+      storage-history = λ S. storages.history-same S;
+      fresh-sound = kept.fresh-table-sound;
+      sound-kept = kept.sound-kept;
+      accepted-sound = kept.accepted-sound;
+      figure-1 = figure.figure-1;
+      discipline = discipline.discipline;
+      disciplined = discipline.disciplined;
+      reader-writes = discipline.reader-writes;
+      reader-local = discipline.reader-local;
+      open-paired = λ table thread. exact.open-paired (tableOf table) thread;
+      open-exact = λ table thread. exact.open-exact (tableOf table) thread;
+      safe = orders.safe;
+      exact = orders.exact;
+      planned = orders.planned;
+      checked = orders.checked;
+      checked-bad = orders.checked-bad;
+      plan-run = orders.plan-run;
+      history-bytes = λ n least most h t few. let f = orders.from-list n least most h t few in (f .0, f .1);
+      history-planned = λ n least most h t few out room. let f = orders.from-list n least most h t few .2 out room in record { reply = sym (f .0); output = sym (f .1) };
+      run-permitted = λ script. orders.run-shown script .0;
+      run-prints = λ script. let f = orders.run-shown script .1 in (f .0, f .1);
+      run-steps = steps-counted;
+    }

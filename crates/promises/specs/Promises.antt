@@ -1,0 +1,131 @@
+-- Everything that is promised and proved of the part, in the order of the three demands. proofs/Proved.antt proves it, each line by citing.
+-- The words are those of crates/definitions/specs and of the specs/ of the crates named below. `statement` is the contract of a function as it stands in its source, for every model `M` of memory.
+use Prim.Native.Nat.{ℕ, _+_, _*_, _≤_, _<_}
+use mathlib.Core.Bool.{true, not}
+use mathlib.Core.List.{List, _++_}
+use mathlib.Core.Logic.{_↔_}
+use mathlib.Core.Path.{_≡_}
+use lib.Dec.{T}
+use lib.ListN.{length, getD, take}
+use Rattle.definitions.specs.Answers.{accepted, refused, answerReply, outcomeReply, filled, deliveryReply, deliveryOutput}
+use Rattle.definitions.specs.Bounds.{mostThreads, mostScript, enoughOutput}
+use Rattle.definitions.specs.Chains.{historyIn, history, requestsOf}
+use Rattle.definitions.specs.Forms.{threads, request, note, noteFits, formOf, threadsLine, spelled}
+use Rattle.definitions.specs.Moves.{ask, stepReply, step, accepts, replyIn, stepIn, acceptsIn, moveReply, moveTable}
+use Rattle.definitions.specs.Nodes.{nodesOf, nodesEntry}
+use Rattle.definitions.specs.OpenMoves.{openMoves, openEntry}
+use Rattle.definitions.specs.PlainLock.{Pair, pairsOf, permitted, checkReply}
+use Rattle.definitions.specs.Plan.{plan, bytesOf, planEntry}
+use Rattle.definitions.specs.Run.{eventLines, stepsLine, runOutputOf, runEntry, programOutput}
+use Rattle.definitions.specs.Table.{Storage, itself, byteTable, tableOf, size, fresh, freshEntry, phaseAt, busyAt}
+use Rattle.definitions.specs.Texts.{bytes}
+use Rattle.definitions.specs.declared.Answer.{Answer}
+use Rattle.definitions.specs.declared.Outcome.{Outcome}
+use Rattle.definitions.specs.declared.Request.{Request}
+use Rattle.forms.specs.Grammar.{numberBound, Spellable, Spells}
+use Rattle.orders.specs.Histories.{mostEvents, historyBytes, AllBytes, Passes, FirstBad, Makes}
+use Rattle.runs.specs.Requests.{requestsIn, movesOf, threadsOf, moveLines}
+use Rattle.theory.specs.Outputs.{Delivered}
+use Rattle.theory.specs.Statements.{OutsideView, MayWrite, Disciplined, readerMove, Agree, Stands}
+use Rattle.theory.specs.Tables.{SoundBytes, Keeps}
+use Rattle.wospinzo.specs.Encoding.{moveNumber, countNumber}
+use Rattle.printout.proofs.print_input.Statement as printing
+use Rattle.wospinzo.proofs.wospinzo_check.Statement as check
+use Rattle.wospinzo.proofs.wospinzo_fresh.Statement as fresh-table
+use Rattle.wospinzo.proofs.wospinzo_move.Statement as move
+use Rattle.wospinzo.proofs.wospinzo_nodes.Statement as nodes
+use Rattle.wospinzo.proofs.wospinzo_open_moves.Statement as open-moves
+use Rattle.wospinzo.proofs.wospinzo_plan.Statement as plan-bytes
+use Rattle.wospinzo.proofs.wospinzo_run.Statement as run
+use Rattle.wospinzo.proofs.wospinzo_version.Statement as version
+
+pub record Promises (M : Type 1) : Type 2 where
+  -- ---- 1. Nothing breaks an entry
+
+  -- The entries (crates/wospinzo/src/lib.rt). Each may be called with any numbers and any lent bytes;
+  -- it answers what its definition says and leaves in every lent byte what its definition says, refused or not.
+  pub wospinzo-version : version.statement M
+  pub wospinzo-fresh : fresh-table.statement M
+  pub wospinzo-move : move.statement M
+  pub wospinzo-nodes : nodes.statement M
+  pub wospinzo-open-moves : open-moves.statement M
+  pub wospinzo-check : check.statement M
+  pub wospinzo-plan : plan-bytes.statement M
+  pub wospinzo-run : run.statement M
+  -- The number that an entry answers tells its reply.
+  pub move-told : (a b : Outcome) → moveNumber (outcomeReply a) ≡ moveNumber (outcomeReply b) → outcomeReply a ≡ outcomeReply b
+  pub count-told : (a b : Answer) → countNumber (answerReply a) ≡ countNumber (answerReply b) → answerReply a ≡ answerReply b
+  -- A refused move leaves every byte of the table.
+  pub refused-keeps : (table : List ℕ) (r : Request) → T (not (acceptsIn byteTable table r)) → moveTable table r ≡ table
+  -- Rooms that suffice: 3 + 3N bytes are exactly the fresh table, N bytes the nodes;
+  -- 4N bytes hold the open moves of a thread, and 65,536 bytes the output of any run, which is at most twice its script and 18 bytes.
+  pub fresh-room : (n : ℕ) (out : List ℕ) → 1 ≤ n → n ≤ mostThreads → length out ≡ size n
+      → Delivered (freshEntry n) out (fresh n) (accepted (size n))
+  pub nodes-room : (table out : List ℕ) → SoundBytes table → length out ≡ tableOf table .threads
+      → Delivered (nodesEntry table) out (nodesOf (tableOf table)) (accepted (tableOf table .threads))
+  pub open-room : (table : List ℕ) (thread : ℕ) → length (openEntry table thread .text) ≤ 4 * tableOf table .threads
+  pub run-room : (script out : List ℕ) → length script ≤ mostScript → enoughOutput ≤ length out
+      → Delivered (runEntry script) out (filled out (runOutputOf script)) (accepted (length (runOutputOf script)))
+  pub run-length : (script : List ℕ) → length script ≤ mostScript → length (runOutputOf script) ≤ 2 * length script + 18
+  -- The program's printing (crates/printout): what it prints always fits its buffer, and 30,001 bytes of the input decide it.
+  pub print-input : printing.statement M
+  pub program-room : (input : List ℕ) → length (programOutput input) ≤ enoughOutput
+  pub program-reads : (input : List ℕ) → programOutput (take (mostScript + 1) input) ≡ programOutput input
+  -- Reading a line is the inverse of spelling it: what is spelled is read, and every line spells what it is read as.
+  pub threads-read : (n : ℕ) → n < numberBound → formOf (threadsLine n) ≡ threads n
+  pub request-read : (r : Request) → Spellable r → formOf (spelled r) ≡ request r
+  pub note-read : (text : List ℕ) → noteFits text ≡ true → formOf (bytes "(note " ++ (text ++ bytes ")")) ≡ note
+  pub read-spelled : (line : List ℕ) → Spells line (formOf line)
+  -- ---- 2. Each move is the protocol's
+
+  -- The step is one on the record of the table; a storage that keeps what is written carries it, and lent bytes are such a storage.
+  pub bytes-keep : Keeps byteTable
+  pub storage-reply : {B : Type 0} (S : Storage B) (b : B) (r : Request) → T (S .fits b) → replyIn S b r ≡ stepReply (S .table b) r
+  pub storage-step : {B : Type 0} (S : Storage B) → Keeps S → (b : B) (r : Request) → T (S .fits b) → S .table (stepIn S b r) ≡ step (S .table b) r
+  pub storage-history : {B : Type 0} (S : Storage B) → Keeps S → (b : B) (rs : List Request) → T (S .fits b)
+      → historyIn S b rs ≡ historyIn itself (S .table b) rs
+  -- A fresh table is sound, a sound table stays so, and an accepted request is to a sound table.
+  pub fresh-sound : (n : ℕ) → 1 ≤ n → n ≤ mostThreads → SoundBytes (fresh n)
+  pub sound-kept : (table : List ℕ) (r : Request) → SoundBytes table → SoundBytes (moveTable table r)
+  pub accepted-sound : (table : List ℕ) (r : Request) → T (acceptsIn byteTable table r) → SoundBytes table × SoundBytes (moveTable table r)
+  -- From outside: an accepted request keeps every task in its node or takes one along one arrow of Figure 1, its condition met.
+  pub figure-1 : (table : List ℕ) (r : Request) → T (acceptsIn byteTable table r) → OutsideView table r
+  -- Who writes what, by the table's bytes and by their kinds.
+  pub discipline : (table : List ℕ) (r : Request) (k : ℕ) → (MayWrite (r .thread) (tableOf table .phase (r .thread)) k → ⊥)
+      → getD (moveTable table r) k 0 ≡ getD table k 0
+  pub disciplined : (table : List ℕ) (r : Request) → Disciplined (tableOf table) (r .thread) (tableOf (moveTable table r))
+  -- What a reader writes, and what it uses: its own three bytes decide its reply and what it writes.
+  pub reader-writes : (table : List ℕ) (r : Request) → T (readerMove (tableOf table) r)
+      → (k : ℕ) → (k ≡ phaseAt (r .thread) → ⊥) → (k ≡ busyAt (r .thread) → ⊥) → getD (moveTable table r) k 0 ≡ getD table k 0
+  pub reader-local : (a b : List ℕ) (r : Request) → SoundBytes a → SoundBytes b
+      → Agree (tableOf a) (tableOf b) (r .thread) → T (readerMove (tableOf a) r)
+      → (moveReply a r ≡ moveReply b r) × Agree (tableOf (moveTable a r)) (tableOf (moveTable b r)) (r .thread)
+  -- The open moves are pairs, and exactly the requests that are accepted.
+  pub open-paired : (table : List ℕ) (thread : ℕ) → (n : ℕ) × (length (openMoves (tableOf table) thread) ≡ 2 * n)
+  pub open-exact : (table : List ℕ) (thread mv target : ℕ)
+      → Stands (openMoves (tableOf table) thread) mv target ↔ T (accepts (tableOf table) (ask thread mv target))
+  -- ---- 3. Every order
+
+  -- What requests show is permitted, refused ones among them; every permitted history is shown by requests of 16 bits that are all accepted, and only such; the plan is such a list.
+  pub safe : (n : ℕ) → 1 ≤ n → n ≤ mostThreads → (rs : List Request) → T (permitted n (history (fresh n) rs))
+  pub exact : (n : ℕ) → 1 ≤ n → n ≤ mostThreads → (h : List Pair) → T (permitted n h) ↔ ((rs : List Request) × Makes n rs h)
+  pub planned : (n : ℕ) → 1 ≤ n → n ≤ mostThreads → (h : List Pair) → T (permitted n h) → Makes n (plan n h) h
+  -- The check answers the number of events of what is permitted, and else the first bad pair with the first test that it fails.
+  pub checked : (n : ℕ) (bytes : List ℕ) (events : ℕ) → (checkReply n bytes ≡ accepted events) ↔ Passes n bytes events
+  pub checked-bad : (n : ℕ) (bytes : List ℕ) (number place : ℕ) → checkReply n bytes ≡ refused number place → 9 ≤ number
+      → FirstBad n (pairsOf bytes) number place
+  -- Whenever the plan entry answers a number of moves, the triples that it wrote are that many requests, all accepted, and show the history.
+  pub plan-run : (n : ℕ) (bytes out : List ℕ) (moves : ℕ) → deliveryReply (planEntry n bytes) out ≡ accepted moves
+      → let written = requestsOf (take (3 * moves) (deliveryOutput (planEntry n bytes) out)) in
+      (length written ≡ moves) × Makes n written (pairsOf bytes)
+  -- Every permitted history of at most 30,000 pairs is that of some bytes that the check passes and the plan entry, with room, plans.
+  pub history-bytes : (n : ℕ) → 1 ≤ n → n ≤ mostThreads → (h : List Pair) → T (permitted n h) → length h ≤ mostEvents
+      → AllBytes (historyBytes h) × (checkReply n (historyBytes h) ≡ accepted (length h))
+  pub history-planned : (n : ℕ) → 1 ≤ n → n ≤ mostThreads → (h : List Pair) → T (permitted n h) → length h ≤ mostEvents
+      → (out : List ℕ) → length (bytesOf (plan n h)) ≤ length out
+      → Delivered (planEntry n (historyBytes h)) out (filled out (bytesOf (plan n h))) (accepted (length (plan n h)))
+  -- The events that a run prints are a permitted history, that of the moves that it made; `(steps K)` counts them, and they are all that the script states.
+  pub run-permitted : (script : List ℕ) → T (permitted (threadsOf script) (history (fresh (threadsOf script)) (movesOf script)))
+  pub run-prints : (script : List ℕ) → (last : List ℕ) × (runOutputOf script ≡ eventLines (history (fresh (threadsOf script)) (movesOf script)) ++ last)
+  pub run-steps : (script before : List ℕ) (k : ℕ) → runOutputOf script ≡ before ++ stepsLine k
+      → (k ≡ length (movesOf script)) × (movesOf script ≡ requestsIn (moveLines script))

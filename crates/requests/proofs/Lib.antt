@@ -1,0 +1,2 @@
+-- Which moves a phase has, as bits.
+pub mod Bits

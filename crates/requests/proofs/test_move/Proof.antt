@@ -1,0 +1,82 @@
+-- `test_move` meets its contract: each return rewrites with the tests that led there.
+use mathlib.Core.Bool.{true}
+use mathlib.Core.Path.{_≡_, sym, _∙_}
+use borrow.Author.Needs.{needs}
+use borrow.Author.Tests.{le-leb, lt-leb, not-true, not-false}
+use lib.Dec.{leb}
+use Rattle.definitions.specs.Answers.{answered}
+use Rattle.definitions.specs.Bounds.{lastMove}
+use Rattle.definitions.specs.Moves.{targetFits}
+use Rattle.definitions.specs.Phases.{hasMove}
+use Rattle.requests.proofs.test_move.Statement.{statement}
+use Rattle.requests.proofs.test_move.Tie as tie
+
+cast-if1 : tie.Need-cast-if1
+cast-if1 c = search needs
+
+returns : tie.Need-returns
+unfolding answered
+returns c = rw (lt-leb _ _ (c .if1 .taken))
+
+cast-small : tie.Need-cast-small
+cast-small c = search needs
+
+target-fits-requires : tie.Need-target-fits-requires
+target-fits-requires c κs = search needs
+
+has-move-requires : tie.Need-has-move-requires
+has-move-requires c κs = search needs
+
+-- test 4 is passed where the others are made
+known : (c : tie.After-has-move) → leb (c .before .before .before .args .mv) lastMove ≡ true
+known c = le-leb _ _ (c .before .before .if1 .left)
+
+returns-2 : tie.Need-returns-2
+unfolding answered
+returns-2 c =
+    let at = c .before in
+    rw (known at, sym (at .before .target-fits .ensures) ∙ not-true (at .before .target-fits .result) (c .if2 .taken))
+
+-- and test 5
+fits : (c : tie.Else2) → targetFits (c .before .before .before .before .args .threads) (c .before .before .before .before .args .mv) (c .before .before .before .before .args .target) ≡ true
+fits c = sym (c .before .before .target-fits .ensures) ∙ not-false _ (c .if2 .left)
+
+returns-3 : tie.Need-returns-3
+unfolding answered
+returns-3 c =
+    let at = c .before .before in
+    rw (known at, fits (c .before), sym (at .has-move .ensures) ∙ not-true (at .has-move .result) (c .if3 .taken))
+
+-- and test 6
+exists : (c : tie.Else3) → hasMove (c .before .before .before .before .before .args .mv) (c .before .before .before .before .before .args .phase) ≡ true
+exists c = sym (c .before .before .has-move .ensures) ∙ not-false _ (c .if3 .left)
+
+must-wait-requires : tie.Need-must-wait-requires
+must-wait-requires c κs = search needs
+
+returns-4 : tie.Need-returns-4
+unfolding answered
+returns-4 c =
+    let left = c .before .before in
+    rw (known (left .before .before), fits (left .before), exists left, sym (c .before .must-wait .ensures) ∙ c .if4 .taken)
+
+returns-5 : tie.Need-returns-5
+unfolding answered
+returns-5 c =
+    let left = c .before .before in
+    rw (known (left .before .before), fits (left .before), exists left, sym (c .before .must-wait .ensures) ∙ c .if4 .left)
+
+pub test-move-spec : {M : Type 1} → statement M
+test-move-spec =
+    tie.close
+    (tie.spec
+    cast-if1
+    returns
+    cast-small
+    target-fits-requires
+    has-move-requires
+    returns-2
+    returns-3
+    must-wait-requires
+    returns-4
+    returns-5)

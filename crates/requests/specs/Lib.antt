@@ -1,0 +1,2 @@
+-- The tests 4 to 7 of a request.
+pub mod RequestTests

@@ -1,0 +1,42 @@
+-- What the test of a request answers, and the tests 4 to 7 of a thread's request from the numbers that they speak of.
+use Prim.Native.Nat.{ℕ, zero, suc, _+_, _/_, _^_}
+use mathlib.Core.Bool.{Bool, cond, not}
+use mathlib.Core.List.{List, [], _∷_}
+use lib.Bits.{bitAnd}
+use lib.Dec.{leb, eqb}
+use Rattle.definitions.specs.Answers.{Reply, accepted, refused, numberOf, Test, test}
+use Rattle.definitions.specs.Bounds.{lastMove}
+use Rattle.definitions.specs.Moves.{namesThread, targetFits, mustWait}
+use Rattle.definitions.specs.Phases.{hasMove}
+use Rattle.requests.specs.declared.Tested.{Tested}
+use Rattle.requests.specs.declared.Tested.the-variants.{Passed, Refused}
+
+-- the reply that each answer of a test stands for: nothing more is known of a request that passes
+abbrev pub testedReply : Tested → Reply (Unit {0})
+testedReply Passed = accepted tt
+testedReply (Refused x) = refused (numberOf x) 0
+
+-- what `requestTests` asks behind the thread's number, of N, the thread's phase and the mutex
+abbrev pub laterTests : ℕ → ℕ → ℕ → ℕ → ℕ → List Test
+laterTests n phase mutex mv target =
+    test 4 (leb mv lastMove)
+    ∷ test 5 (targetFits n mv target)
+    ∷ test 6 (hasMove mv phase)
+    ∷ test 7 (not (mustWait phase mutex mv))
+    ∷ []
+
+-- a byte with a bit for each move below n, 1 where the phase has that move
+unfoldable pub bitsBelow : ℕ → ℕ → ℕ
+bitsBelow zero phase = 0
+bitsBelow (suc mv) phase = bitsBelow mv phase + cond (hasMove mv phase) (2 ^ mv) 0
+
+abbrev pub movesOf : ℕ → ℕ
+movesOf phase = bitsBelow (suc lastMove) phase
+
+-- the bit of a move in a byte
+abbrev pub hasBit : ℕ → ℕ → Bool
+hasBit moves mv = eqb (bitAnd (moves / 2 ^ mv) 1) 1
+
+-- how many targets, from 0 on, a move may name
+abbrev pub targetsOf : ℕ → ℕ → ℕ
+targetsOf n mv = cond (namesThread mv) n 1

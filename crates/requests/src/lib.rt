@@ -1,0 +1,122 @@
+// Which moves a phase has, and the tests 4 to 7 of a request, by value and apart from any storage.
+use definitions::CLEAR;
+use definitions::GO;
+use definitions::LAST_MOVE;
+use definitions::PHASE_COUNT;
+use definitions::Refusal;
+use definitions::SET;
+ghost use Prim.Native.Nat.{_≤_};
+ghost use mathlib.Core.Path.{_≡_};
+ghost use Rattle.definitions.specs.Answers.{answered};
+ghost use Rattle.definitions.specs.Bounds.{lastPhase, lastMove};
+ghost use Rattle.definitions.specs.Moves.{namesThread, targetFits, mustWait};
+ghost use Rattle.definitions.specs.Phases.{hasMove};
+ghost use Rattle.requests.specs.RequestTests.{testedReply, laterTests, movesOf, hasBit, targetsOf};
+
+// Which moves each phase has, one bit a move: go, call shared, call exclusive, set, clear, relent from the lowest bit on.
+pub const MOVES: [u8; PHASE_COUNT] = [
+    0b000110,
+    0b000001,
+    0b000001,
+    0b000001,
+    0b000001,
+    0b000001,
+    0b000001,
+    0b000001,
+    0b000001,
+    0b000001,
+    0b001000,
+    0b100001,
+    0b000001,
+    0b000001,
+    0b000001,
+    0b011000,
+    0b000001,
+    0b000001,
+];
+
+// A request that passed its tests, or why it is turned down.
+pub enum Tested {
+    Passed,
+    Refused(Refusal),
+}
+
+// The moves that a phase has, a bit each.
+pub fn moves_in(phase: u8) -> u8
+    requires { ⌜ phase ≤ lastPhase ⌝ }
+    ensures { λ r. ⌜ r ≡ movesOf phase ⌝ }
+{
+    let at = phase as usize;
+    MOVES[at]
+}
+
+// Whether a move's bit is 1.
+pub fn has_bit(moves: u8, mv: u8) -> bool
+    requires { ⌜ mv ≤ lastMove ⌝ }
+    ensures { λ r. ⌜ r ≡ hasBit moves mv ⌝ }
+{
+    (moves >> mv) & 1 == 1
+}
+
+// Set and clear name a thread.
+pub fn names_thread(mv: u8) -> bool
+    ensures { λ r. ⌜ r ≡ namesThread mv ⌝ }
+{
+    (mv == SET) | (mv == CLEAR)
+}
+
+// How many targets, from 0 on, a move may name: set and clear every thread, another move 0 alone.
+pub fn targets_of(threads: usize, mv: u8) -> usize
+    ensures { λ r. ⌜ r ≡ targetsOf threads mv ⌝ }
+{
+    if names_thread(mv) {
+        return threads;
+    }
+    1
+}
+
+// Refusal 5: "The target of set or clear isn't below N, or that of another move isn't 0."
+fn target_fits(threads: usize, mv: u8, target: usize) -> bool
+    ensures { λ r. ⌜ r ≡ targetFits threads mv target ⌝ }
+{
+    target < targets_of(threads, mv)
+}
+
+// Refusal 6: "The thread's phase has no such move."
+fn has_move(phase: u8, mv: u8) -> bool
+    requires { ⌜ (phase ≤ lastPhase) × (mv ≤ lastMove) ⌝ }
+    ensures { λ r. ⌜ r ≡ hasMove mv phase ⌝ }
+{
+    let moves = moves_in(phase);
+    has_bit(moves, mv)
+}
+
+// Refusal 7: "Go in phase 9 while the mutex is 1."
+pub fn must_wait(phase: u8, mutex: u8, mv: u8) -> bool
+    ensures { λ r. ⌜ r ≡ mustWait phase mutex mv ⌝ }
+{
+    (mv == GO) & ((phase == 9) & (mutex == 1))
+}
+
+// The tests 4 to 7 of a request by a thread in a phase, in their order.
+pub fn test_move(threads: usize, phase: u8, mutex: u8, mv: u16, target: u16) -> Tested
+    requires { ⌜ phase ≤ lastPhase ⌝ }
+    ensures { λ r. ⌜ testedReply r ≡ answered (laterTests threads phase mutex mv target) tt ⌝ }
+{
+    if (LAST_MOVE as u16) < mv {
+        return Tested::Refused(Refusal::NoMove);
+    }
+    let small = mv as u8;
+    let fits = target_fits(threads, small, target as usize);
+    let exists = has_move(phase, small);
+    if !fits {
+        return Tested::Refused(Refusal::BadTarget);
+    }
+    if !exists {
+        return Tested::Refused(Refusal::NotInPhase);
+    }
+    if must_wait(phase, mutex, small) {
+        return Tested::Refused(Refusal::MutexHeld);
+    }
+    Tested::Passed
+}

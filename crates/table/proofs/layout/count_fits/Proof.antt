@@ -1,0 +1,14 @@
+-- `layout::count_fits` meets its contract: the two comparisons are the definition's.
+use mathlib.Core.Path.{refl}
+use borrow.Author.Needs.{needs}
+use Rattle.table.proofs.layout.count_fits.Statement.{statement}
+use Rattle.table.proofs.layout.count_fits.Tie as tie
+
+cast-result : tie.Need-cast-result
+cast-result c = search needs
+
+returns : tie.Need-returns
+returns c = refl
+
+pub count-fits-spec : {M : Type 1} → statement M
+count-fits-spec = tie.close (tie.spec cast-result returns)

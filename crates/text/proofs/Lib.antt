@@ -1,0 +1,4 @@
+-- Laws of texts put into an output, which the writers' proofs share and callers cite.
+pub mod Parts
+pub mod Decimals
+pub mod Deliveries

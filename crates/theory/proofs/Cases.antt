@@ -1,0 +1,87 @@
+-- Cases of a number: one of a list (`or-at`), one of f 0, f 1, .. (`among-list`), one of a range (`among-range`), and a phase that has a move (`has-phase`).
+use Prim.Native.Nat.{ℕ, zero, suc, _+_, _-_, _≤_, _<_}
+use native.Mathlib.Nat.{not-suc-le-zero}
+use native.Mathlib.Omega.{arith}
+use mathlib.Core.Bool.{Bool, cond}
+use mathlib.Core.List.{List, [], _∷_, _++_}
+use mathlib.Core.Logic.{_⊎_, ⊎-elim}
+use mathlib.Core.Path.{_≡_, refl, sym, subst, ap}
+use lib.Dec.{T, leb, eqb, leb→le, eqb→eq}
+use lib.ListN.{List·getD-eq-default}
+use Rattle.definitions.specs.Bounds.{lastPhase}
+use Rattle.definitions.specs.Phases.{Row, noRow, rows, rowOf, hasMove}
+use Rattle.definitions.specs.Threads.{listOf, gather, among, between}
+use Rattle.theory.proofs.Quantifiers.{below-suc}
+use Rattle.theory.proofs.Tests.{and-l, and-r, or-e, or-l, or-r, eq-T, T-true, below?}
+
+-- ---- a number of a list
+
+-- x is the first number of a list, or one of the others
+module _ {P : Type 0} (x : ℕ) where
+  pub or-at : (y : ℕ) (ys : List ℕ) → (x ≡ y → P) → (T (among x ys) → P) → T (among x (y ∷ ys)) → P
+  unfolding among
+  or-at y ys here there t = ⊎-elim (λ u. here (eqb→eq x y u)) there (or-e (eqb x y) (among x ys) t)
+
+  pub none-of : T (among x []) → P
+  unfolding among
+  none-of t = absurd t
+
+pub among-here : (x y : ℕ) (ys : List ℕ) → x ≡ y → T (among x (y ∷ ys))
+unfolding among
+among-here x y ys e = or-l (eqb x y) (among x ys) (eq-T x y e)
+
+module _ (x : ℕ) where
+  among-front : (ys zs : List ℕ) → T (among x ys) → T (among x (ys ++ zs))
+  unfolding among
+  among-front [] zs t = absurd t
+  among-front (y ∷ ys) zs t =
+      ⊎-elim (or-l (eqb x y) (among x (ys ++ zs))) (λ u. or-r (eqb x y) (among x (ys ++ zs)) (among-front ys zs u)) (or-e (eqb x y) (among x ys) t)
+
+  among-back : (ys zs : List ℕ) → T (among x zs) → T (among x (ys ++ zs))
+  unfolding among
+  among-back [] zs t = t
+  among-back (y ∷ ys) zs t = or-r (eqb x y) (among x (ys ++ zs)) (among-back ys zs t)
+
+  pub among-gather : (f : ℕ → List ℕ) (n j : ℕ) → j < n → T (among x (f j)) → T (among x (gather n f))
+  unfolding gather
+  among-gather f zero j l t = absurd (not-suc-le-zero l)
+  among-gather f (suc n) j l t =
+      ⊎-elim (λ e. among-back (gather n f) (f n) (subst (λ (k : ℕ). T (among x (f k))) e t)) (λ k. among-front (gather n f) (f n) (among-gather f n j k t)) (below-suc j n l)
+
+-- the numbers f 0, f 1, .. up to n - 1
+pub among-list : (f : ℕ → ℕ) (n j : ℕ) → j < n → T (among (f j) (listOf n f))
+unfolding listOf
+among-list f zero j l = absurd (not-suc-le-zero l)
+among-list f (suc n) j l =
+    ⊎-elim (λ e. among-back (f j) (listOf n f) (f n ∷ []) (among-here (f j) (f n) [] (ap f e))) (λ k. among-front (f j) (listOf n f) (f n ∷ []) (among-list f n j k)) (below-suc j n l)
+
+-- the numbers from a to b
+pub among-range : (p a b : ℕ) → T (between a b p) → T (among p (listOf (suc b - a) (λ j. a + j)))
+among-range p a b t =
+    let l = leb→le a p (and-l (leb a p) (leb p b) t) in
+    let h = leb→le p b (and-r (leb a p) (leb p b) t) in
+    let back : a + (p - a) ≡ p = omega arith in
+    subst (λ (k : ℕ). T (among k (listOf (suc b - a) (λ j. a + j)))) back (among-list (λ j. a + j) (suc b - a) (p - a) (omega arith))
+
+-- ---- phases
+
+-- a number that is no phase has no row
+pub no-row : (p : ℕ) → lastPhase < p → rowOf p ≡ noRow
+unfolding rows
+no-row p h = List·getD-eq-default rows noRow h
+
+-- the phases that have a move, by trying them all
+unfoldable pub phasesWith : ℕ → List ℕ
+phasesWith mv = gather (suc lastPhase) (λ p. cond (hasMove mv p) (p ∷ []) [])
+
+pub has-phase : (mv p : ℕ) (ks : List ℕ) → phasesWith mv ≡ ks → T (hasMove mv p) → T (among p ks)
+unfolding phasesWith
+has-phase mv p ks e t = subst (λ (xs : List ℕ). T (among p xs)) e (⊎-elim inside outside (below? (suc lastPhase) p))
+  where
+    inside : p < suc lastPhase → T (among p (gather (suc lastPhase) (λ q. cond (hasMove mv q) (q ∷ []) [])))
+    inside l =
+        among-gather p (λ q. cond (hasMove mv q) (q ∷ []) []) (suc lastPhase) p l
+        (subst (λ (b : Bool). T (among p (cond b (p ∷ []) []))) (sym (T-true (hasMove mv p) t)) (among-here p p [] refl))
+
+    outside : suc lastPhase ≤ p → T (among p (gather (suc lastPhase) (λ q. cond (hasMove mv q) (q ∷ []) [])))
+    outside l = none-of mv (subst (λ (row : Row). T (among mv (row .moves))) (no-row p l) t)

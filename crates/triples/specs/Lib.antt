@@ -1,0 +1,2 @@
+-- What the writers repeat.
+pub mod Requests

@@ -1,0 +1,2 @@
+-- Shared laws first, then the theorems.
+pub mod Turns

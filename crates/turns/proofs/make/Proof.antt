@@ -1,0 +1,82 @@
+-- `turns::make` meets its contract: what the move answers says what the line does to the run (proofs/Turns).
+use borrow.Author.Needs.{needs}
+use Rattle.apply.specs.MoveMade.{MoveTried}
+use Rattle.turns.proofs.Turns.{refused-stops, quiet-passes, mover-fits, event-room, event-passes}
+use Rattle.turns.proofs.make.Statement.{statement}
+use Rattle.turns.proofs.make.Tie as tie
+
+-- at the match: where the function began, and what the move made
+abbrev start : tie.After-slice-known3 → tie.Start
+start p = p .before .before .before .before .before .before
+
+tried : (p : tie.After-slice-known3) → let t = p .before .before .try-move in MoveTried (start p .args .table .now) (start p .args .request) (t .last .0) (t .result)
+tried p = p .before .before .try-move .ensures
+
+try-move-requires : tie.Need-try-move-requires
+try-move-requires c κs = search needs
+
+enum-known-outcome : tie.Need-enum-known-outcome
+enum-known-outcome c = search needs
+
+enum-told : tie.Need-enum-told
+enum-told c = search needs
+
+enum-known-outcome-2 : tie.Need-enum-known-outcome-2
+enum-known-outcome-2 c = search needs
+
+code-requires : tie.Need-code-requires
+code-requires c κs = search needs
+
+cast-add-pair : tie.Need-cast-add-pair
+cast-add-pair c =
+    let o = c .before .before .before .before in
+    record { fits = mover-fits _ _ _ _ (tried (o .before .before)) _ (o .outcome2 .given .1) }
+
+add-pair-requires : tie.Need-add-pair-requires
+add-pair-requires c κs =
+    let o = c .before .before .before .before in
+    event-room _ _ _ _ (tried (o .before .before)) _ (o .outcome2 .given .1) _ (c .before .before .code .ensures) _ _ (start (o .before .before) .pre .1)
+
+same-length : tie.Need-same-length
+same-length c = search needs
+
+returns : tie.Need-returns
+returns c = refused-stops _ _ _ _ (tried (c .before .before .before)) _ _ (c .before .outcome .given .1)
+
+same-length-2 : tie.Need-same-length-2
+same-length-2 c = search needs
+
+returns-2 : tie.Need-returns-2
+returns-2 c = quiet-passes _ _ _ _ (tried (c .before .before)) _ _ (c .enum-told .given .1)
+
+same-length-3 : tie.Need-same-length-3
+same-length-3 c = search needs
+
+same-length-4 : tie.Need-same-length-4
+same-length-4 c = search needs
+
+returns-3 : tie.Need-returns-3
+returns-3 c =
+    let p = c .before .before in
+    let k = p .before .before .before in
+    let o = k .before .before in
+    event-passes _ _ _ _ (tried (o .before .before)) _ (o .outcome2 .given .1) _ (k .code .ensures) _ _ _ _ (p .add-pair .ensures)
+
+pub make-spec : {M : Type 1} → statement M
+make-spec =
+    tie.close
+    (tie.spec
+    try-move-requires
+    enum-known-outcome
+    enum-told
+    enum-known-outcome-2
+    code-requires
+    cast-add-pair
+    add-pair-requires
+    same-length
+    returns
+    same-length-2
+    returns-2
+    same-length-3
+    same-length-4
+    returns-3)

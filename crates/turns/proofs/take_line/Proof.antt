@@ -1,0 +1,71 @@
+-- `turns::take_line` meets its contract: the form that was read says what the line does to the run (proofs/Turns).
+use borrow.Author.Needs.{needs}
+use Rattle.turns.proofs.Turns.{threads-stops, bad-stops, note-passes, request-room, request-steps}
+use Rattle.turns.proofs.take_line.Statement.{statement}
+use Rattle.turns.proofs.take_line.Tie as tie
+
+-- where the function began, from behind the reading of the form
+abbrev start : tie.After-read-form → tie.Start
+start p = p .before .before .before .before
+
+read-form-requires : tie.Need-read-form-requires
+read-form-requires c κs = search needs
+
+enum-told : tie.Need-enum-told
+enum-told c = search needs
+
+enum-known-form : tie.Need-enum-known-form
+enum-known-form c = search needs
+
+make-requires : tie.Need-make-requires
+make-requires c κs =
+    let f = c .before .before .before in
+    let p = f .before .before in
+    (start p .pre .0, request-room _ _ (p .read-form .ensures) _ _ _ _ (f .form .given .1) (start p .pre .1))
+
+enum-told-2 : tie.Need-enum-told-2
+enum-told-2 c = search needs
+
+enum-told-3 : tie.Need-enum-told-3
+enum-told-3 c = search needs
+
+returns : tie.Need-returns
+returns c = let p = c .before .before in threads-stops _ _ (p .read-form .ensures) _ _ _ (c .enum-told .given .1)
+
+same-length : tie.Need-same-length
+same-length c = search needs
+
+same-length-2 : tie.Need-same-length-2
+same-length-2 c = search needs
+
+returns-2 : tie.Need-returns-2
+returns-2 c =
+    let called = c .before .before .before .before in
+    let f = called .before .before .before .before in
+    let p = f .before .before in
+    let a = start p .args in
+    let m = called .make in
+    request-steps _ _ (p .read-form .ensures) (a .table .now) _ (a .history .now) (a .at) (f .form .given .1) (m .last .0) (m .last .1 .1 .1 .0) (m .result) (m .ensures)
+
+returns-3 : tie.Need-returns-3
+returns-3 c = let p = c .before .before in note-passes _ _ (p .read-form .ensures) _ _ _ _ (start p .pre .0) (c .enum-told2 .given .1)
+
+returns-4 : tie.Need-returns-4
+returns-4 c = let p = c .before .before in bad-stops _ _ (p .read-form .ensures) _ _ (c .enum-told3 .given .1)
+
+pub take-line-spec : {M : Type 1} → statement M
+take-line-spec =
+    tie.close
+    (tie.spec
+    read-form-requires
+    enum-told
+    enum-known-form
+    make-requires
+    enum-told-2
+    enum-told-3
+    returns
+    same-length
+    same-length-2
+    returns-2
+    returns-3
+    returns-4)

@@ -1,0 +1,24 @@
+// Calls every entry from C++: the answers are those of a reader's first moves.
+#include "wospinzo.h"
+
+int main()
+{
+    uint8_t table[WOSPINZO_TABLE_SIZE(2)], out[64];
+    const uint8_t history[] = {0, 1, 0, 2};
+    const uint8_t script[] = {'(', 't', 'h', 'r', 'e', 'a', 'd', 's', ' ', '1', ')', '\n'};
+
+    bool good = wospinzo_version() == WOSPINZO_VERSION;
+    good = good && wospinzo_value(wospinzo_fresh(2, table, sizeof table)) == sizeof table;
+    good = good && wospinzo_threads(table) == 2 && wospinzo_mutex(table) == 0 && wospinzo_target(table) == WOSPINZO_NO_TARGET;
+    good = good && wospinzo_value(wospinzo_move(table, sizeof table, 0, WOSPINZO_CALL_SHARED, 0)) == WOSPINZO_ENTER_SHARED_CALL;
+    good = good && wospinzo_value(wospinzo_move(table, sizeof table, 0, WOSPINZO_GO, 0)) == WOSPINZO_QUIET;
+    good = good && wospinzo_phase(table, 0) == WOSPINZO_PHASE_READ_FORBIDDEN && wospinzo_busy(table, 0) == 1;
+    good = good && wospinzo_forbidden(table, 1) == 0 && wospinzo_phase(table, 1) == WOSPINZO_PHASE_FREE;
+    good = good && wospinzo_value(wospinzo_nodes(table, sizeof table, out, sizeof out)) == 2 && out[0] == WOSPINZO_ES;
+    good = good && wospinzo_value(wospinzo_open_moves(table, sizeof table, 1, out, sizeof out)) == 4;
+    good = good && wospinzo_value(wospinzo_check(2, history, sizeof history)) == 2;
+    good = good && wospinzo_value(wospinzo_plan(2, history, sizeof history, out, sizeof out)) == 4;
+    good = good && wospinzo_value(wospinzo_run(script, sizeof script, out, sizeof out)) == 10;
+    good = good && wospinzo_refusal(wospinzo_check(201, history, sizeof history)) == WOSPINZO_BAD_SIZE;
+    return good ? 0 : 1;
+}

@@ -1,0 +1,197 @@
+/*
+ * Calls each entry on inputs of several sizes, one callgrind dump a call. The
+ * label of a dump is the entry, the sizes, and what the input is; count.py adds
+ * up the instructions of the archive's own functions in each.
+ */
+#include <stdint.h>
+#include <stdio.h>
+#include <string.h>
+#include <valgrind/callgrind.h>
+
+#include "wospinzo.h"
+
+enum { MOST_PLAN = 13725300 };
+
+static uint8_t table[WOSPINZO_MAX_TABLE_SIZE], kept[WOSPINZO_MAX_TABLE_SIZE];
+static uint8_t history[WOSPINZO_MAX_HISTORY], script[WOSPINZO_MAX_SCRIPT], out[MOST_PLAN];
+static uint64_t answer;
+static uint32_t version;
+static unsigned failures;
+
+#define COUNT(expected, call, ...)                                             \
+    do {                                                                       \
+        char label[160];                                                       \
+        snprintf(label, sizeof label, __VA_ARGS__);                            \
+        CALLGRIND_ZERO_STATS;                                                  \
+        answer = (call);                                                       \
+        CALLGRIND_DUMP_STATS_AT(label);                                        \
+        if (wospinzo_refusal(answer) != (expected)) {                          \
+            fprintf(stderr, "%s: refusal %u\n", label, wospinzo_refusal(answer)); \
+            failures++;                                                        \
+        }                                                                      \
+    } while (0)
+
+static void move(uint16_t thread, uint16_t mv, uint16_t target)
+{
+    if (!wospinzo_accepted(wospinzo_move(table, wospinzo_threads(table) * 3u + 3u, thread, mv, target))) {
+        fprintf(stderr, "thread %u: move %u in phase %u was refused\n", thread, mv, wospinzo_phase(table, thread));
+        failures++;
+    }
+}
+
+static void fresh(uint16_t n)
+{
+    if (!wospinzo_accepted(wospinzo_fresh(n, table, sizeof table))) failures++;
+}
+
+/* A call that is counted, on the table as it is, which is put back after it. */
+static void counted(unsigned expected, uint16_t n, uint16_t thread, uint16_t mv, uint16_t target, const char *what)
+{
+    memcpy(kept, table, sizeof table);
+    COUNT(expected, wospinzo_move(table, WOSPINZO_TABLE_SIZE(n), thread, mv, target), "move %u %s", n, what);
+    memcpy(table, kept, sizeof table);
+}
+
+/* Counts the move, then makes it. */
+static void step(uint16_t n, uint16_t thread, uint16_t mv, uint16_t target, const char *what)
+{
+    counted(WOSPINZO_ACCEPTED, n, thread, mv, target, what);
+    move(thread, mv, target);
+}
+
+/* Every way of a reader and of a writer, each move counted on its way. */
+static void moves(uint16_t n)
+{
+    uint16_t last = (uint16_t)(n - 1), t;
+
+    fresh(n);
+    step(n, last, WOSPINZO_CALL_SHARED, 0, "call shared");
+    step(n, last, WOSPINZO_GO, 0, "go in 1");
+    step(n, last, WOSPINZO_GO, 0, "go in 2, open");
+    step(n, last, WOSPINZO_GO, 0, "go in 5");
+    step(n, last, WOSPINZO_GO, 0, "go in 6");
+    step(n, last, WOSPINZO_GO, 0, "go in 7");
+    step(n, last, WOSPINZO_GO, 0, "go in 8");
+    step(n, last, WOSPINZO_CALL_EXCLUSIVE, 0, "call exclusive");
+    counted(WOSPINZO_NOT_IN_PHASE, n, last, WOSPINZO_RELENT, 0, "refused by 6");
+    counted(WOSPINZO_BAD_TARGET, n, last, WOSPINZO_GO, 1, "refused by 5");
+    counted(WOSPINZO_NO_MOVE, n, last, 6, 0, "refused by 4");
+    counted(WOSPINZO_NO_THREAD, n, n, WOSPINZO_GO, 0, "refused by 3");
+    step(n, last, WOSPINZO_GO, 0, "go in 9");
+    for (t = 0; t < n; t++) {
+        step(n, last, WOSPINZO_SET, t, t == last ? "set in 10, last" : "set in 10");
+        if (t == 0) {
+            step(n, last, WOSPINZO_RELENT, 0, "relent");
+            step(n, last, WOSPINZO_GO, 0, "go in 12");
+            step(n, last, WOSPINZO_SET, t, "set in 10, again");
+        }
+        step(n, last, WOSPINZO_GO, 0, t == last ? "go in 11, every flag" : "go in 11, not every flag");
+    }
+    step(n, last, WOSPINZO_GO, 0, "go in 13");
+    if (n > 1) {
+        move(0, WOSPINZO_CALL_SHARED, 0);
+        move(0, WOSPINZO_GO, 0);
+        step(n, 0, WOSPINZO_GO, 0, "go in 2, forbidden");
+        step(n, 0, WOSPINZO_GO, 0, "go in 3");
+        step(n, 0, WOSPINZO_GO, 0, "go in 4");
+        move(1 % n == last ? 0 : 1, n > 2 ? WOSPINZO_CALL_EXCLUSIVE : WOSPINZO_GO, 0);
+        if (n > 2) counted(WOSPINZO_MUTEX_HELD, n, 1, WOSPINZO_GO, 0, "refused by 7");
+    }
+    step(n, last, WOSPINZO_GO, 0, "go in 14");
+    step(n, last, WOSPINZO_SET, 0, "set in 15");
+    for (t = 0; t < n; t++) step(n, last, WOSPINZO_CLEAR, t, t == last ? "clear, last" : "clear");
+    step(n, last, WOSPINZO_GO, 0, "go in 16");
+    step(n, last, WOSPINZO_GO, 0, "go in 17");
+    table[0] = (uint8_t)(n == 1 ? 2 : n - 1);
+    COUNT(WOSPINZO_BAD_SIZE, wospinzo_move(table, WOSPINZO_TABLE_SIZE(n), 0, WOSPINZO_GO, 0), "move %u refused by 1", n);
+    table[0] = (uint8_t)n;
+    table[1] = 1;
+    COUNT(WOSPINZO_UNSOUND, wospinzo_move(table, WOSPINZO_TABLE_SIZE(n), 0, WOSPINZO_GO, 0), "move %u refused by 2", n);
+}
+
+/* The nodes, and the open moves of a thread that has most of them. */
+static void lists(uint16_t n)
+{
+    uint16_t t;
+
+    fresh(n);
+    COUNT(WOSPINZO_ACCEPTED, wospinzo_fresh(n, out, sizeof out), "fresh %u", n);
+    COUNT(WOSPINZO_ACCEPTED, wospinzo_nodes(table, WOSPINZO_TABLE_SIZE(n), out, sizeof out), "nodes %u", n);
+    COUNT(WOSPINZO_ACCEPTED, wospinzo_open_moves(table, WOSPINZO_TABLE_SIZE(n), 0, out, sizeof out), "open_moves %u in 0", n);
+    move(0, WOSPINZO_CALL_EXCLUSIVE, 0);
+    move(0, WOSPINZO_GO, 0);
+    COUNT(WOSPINZO_ACCEPTED, wospinzo_open_moves(table, WOSPINZO_TABLE_SIZE(n), 0, out, sizeof out), "open_moves %u in 10", n);
+    for (t = 0; t < n; t++) {
+        move(0, WOSPINZO_SET, t);
+        move(0, WOSPINZO_GO, 0);
+    }
+    move(0, WOSPINZO_GO, 0);
+    move(0, WOSPINZO_GO, 0);
+    COUNT(WOSPINZO_ACCEPTED, wospinzo_open_moves(table, WOSPINZO_TABLE_SIZE(n), 0, out, sizeof out), "open_moves %u in 15", n);
+}
+
+/* Rounds of shared by n threads in turn, and rounds of exclusive. */
+static void histories(uint16_t n, size_t events)
+{
+    size_t k;
+
+    for (k = 0; k < events; k++) {
+        history[2 * k] = (uint8_t)(k / 4 % n);
+        history[2 * k + 1] = (uint8_t)(1 + k % 4);
+    }
+    COUNT(WOSPINZO_ACCEPTED, wospinzo_check(n, history, 2 * events), "check %u %zu shared", n, events);
+    COUNT(WOSPINZO_ACCEPTED, wospinzo_plan(n, history, 2 * events, out, sizeof out), "plan %u %zu %zu shared", n, events, events / 4 * 7);
+    for (k = 0; k < events; k++) history[2 * k + 1] = (uint8_t)(5 + k % 4);
+    COUNT(WOSPINZO_ACCEPTED, wospinzo_check(n, history, 2 * events), "check %u %zu exclusive", n, events);
+    COUNT(WOSPINZO_ACCEPTED, wospinzo_plan(n, history, 2 * events, out, sizeof out), "plan %u %zu %zu exclusive", n, events, events / 4 * (3u * n + 6u));
+}
+
+/* A script that repeats a text behind its first lines, as often as it fits. */
+static void scripts(const char *first, const char *text, size_t most, const char *what)
+{
+    size_t head = strlen(first), size = strlen(text), length = head;
+
+    memcpy(script, first, head);
+    while (length + size <= most) {
+        memcpy(script + length, text, size);
+        length += size;
+    }
+    COUNT(WOSPINZO_ACCEPTED, wospinzo_run(script, length, out, WOSPINZO_RUN_ROOM), "run %zu %s", length, what);
+}
+
+int main(void)
+{
+    static const uint16_t counts[] = {1, 2, 8, 50, 100, 200};
+    static const size_t lengths[] = {4, 400, 30000}, sizes[] = {100, 3000, 30000};
+    static const char round[] = "(0 (call shared))\n(0 (go))\n(0 (go))\n(0 (go))\n(0 (go))\n(0 (go))\n(0 (go))\n";
+    /* Task 1 is in exclusive, and task 0 has called shared: its goes are turned away again and again. */
+    static const char away[] = "(threads 2)\n(1 (call exclusive))\n(1 (go))\n(1 (set 0))\n(1 (go))\n(1 (set 1))\n(1 (go))\n(1 (go))\n(0 (call shared))\n";
+    static char brackets[64];
+    uint16_t n;
+    size_t i;
+
+    snprintf(brackets, sizeof brackets, "(note %.16s%.16s)\n", "((((((((((((((((", "))))))))))))))))");
+    CALLGRIND_ZERO_STATS;
+    version = wospinzo_version();
+    CALLGRIND_DUMP_STATS_AT("version");
+    if (version != WOSPINZO_VERSION) failures++;
+    for (i = 0; i < sizeof counts / sizeof *counts; i++) moves(counts[i]);
+    for (n = 1; n <= WOSPINZO_MAX_THREADS; n++) {
+        lists(n);
+        histories(n, 40);
+    }
+    for (i = 0; i < sizeof lengths / sizeof *lengths; i++) {
+        histories(1, lengths[i]);
+        histories(8, lengths[i]);
+        histories(200, lengths[i]);
+    }
+    for (i = 0; i < sizeof sizes / sizeof *sizes; i++) {
+        scripts("(threads 1)\n", round, sizes[i], "shared rounds");
+        scripts("(threads 200)\n", round, sizes[i], "shared rounds of 200");
+        if (sizes[i] > sizeof away) scripts(away, "(0 (go))\n", sizes[i], "go alone");
+        scripts("(threads 1)\n", "(note )\n", sizes[i], "shortest notes");
+        scripts("(threads 1)\n", brackets, sizes[i], "notes of brackets");
+        scripts("(threads 1)\n", "(note abcdefghijklmnopqrstuvwxyz)\n", sizes[i], "notes of letters");
+    }
+    return failures != 0;
+}
