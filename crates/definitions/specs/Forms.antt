@@ -1,5 +1,5 @@
 -- The forms of a script's lines: what a line says, read off the line alone, and the lines that spell a form.
--- `formOf` reads a line; `threadsLine` and `spelled` write the line of a form. That the one is the inverse of the other is shown in crates/forms, proofs/Spelled.
+-- `formOf` reads a line; `threadsLine` and `spelled` write the line of a form. That the one is the inverse of the other is shown in crates/forms, proofs/Spelling.
 use Prim.Native.Nat.{ℕ, suc, _+_, _-_}
 use mathlib.Core.Bool.{Bool, cond, _&&_}
 use mathlib.Core.List.{List, [], _∷_, _++_}

@@ -1,4 +1,4 @@
--- The lines of a history: how long one is, and what is left of them, from a pair on, while they are measured and while they are put.
+-- The lines of a history: what is left of them, from a pair on, while they are measured and while they are put.
 use Prim.Native.Nat.{ℕ, _+_, _*_, _/_, _≤_, _<_}
 use native.Mathlib.Nat.{zero-add}
 use native.Mathlib.Omega.{arith}
@@ -7,15 +7,10 @@ use mathlib.Core.Path.{_≡_, ap}
 use lib.ListN.{length, getD, drop, length-append}
 use Rattle.definitions.specs.Answers.{shown}
 use Rattle.definitions.specs.PlainLock.{pairsOf}
-use Rattle.definitions.specs.Run.{eventName, eventLine, eventLines}
-use Rattle.definitions.specs.Texts.{bytes, decimal}
+use Rattle.definitions.specs.Run.{eventLine, eventLines}
 use Rattle.theory.specs.Outputs.{RoomAt, PutAt}
 use Rattle.text.proofs.Parts.{Partly, room-part, part-put, all-parts}
 use Rattle.theory.proofs.Pairs.{pairs-next, pairs-end}
-
-pub event-size : (thread code : ℕ) → length (eventLine thread (shown code)) ≡ 12 + length (decimal thread) + length (eventName code)
-unfolding eventLine bytes
-event-size thread code = simp length-append (omega arith)
 
 -- the lines of the pairs from index k on
 abbrev pub linesFrom : List ℕ → ℕ → List ℕ

@@ -11,23 +11,23 @@ use Rattle.definitions.specs.Threads.{every, among, listOf}
 use Rattle.theory.proofs.Lists.{length-listOf, getD-listOf}
 use Rattle.theory.proofs.Matches.{NoneOf, left-over}
 
-abbrev rows : ℕ
-rows = lastEvent + 1
+abbrev codeCount : ℕ
+codeCount = lastEvent + 1
 
 -- a code above the last has no name
 pub unnamed : (code : ℕ) → lastEvent < code → eventName code ≡ []
 unfolding eventName listOf
 unnamed code h =
-    let past : length (listOf rows eventName) ≤ code = omega (arith, length-listOf rows eventName) in
-    let row : eventName code ≡ getD (listOf rows eventName) code [] = refl in
-    row ∙ List·getD-eq-default (listOf rows eventName) [] past
+    let past : length (listOf codeCount eventName) ≤ code = omega (arith, length-listOf codeCount eventName) in
+    let row : eventName code ≡ getD (listOf codeCount eventName) code [] = refl in
+    row ∙ List·getD-eq-default (listOf codeCount eventName) [] past
 
 -- the table of lengths
 abbrev lengths : List ℕ
-lengths = listOf rows (λ code. length (eventName code))
+lengths = listOf codeCount (λ code. length (eventName code))
 
 pub length-at : (code : ℕ) → code ≤ lastEvent → getD lengths code 0 ≡ length (eventName code)
-length-at code known = getD-listOf rows (λ k. length (eventName k)) code 0 (omega arith)
+length-at code known = getD-listOf codeCount (λ k. length (eventName k)) code 0 (omega arith)
 
 -- the codes that the arms of a match name, the last first
 abbrev codes : List ℕ
@@ -35,4 +35,4 @@ codes = 8 ∷ 7 ∷ 6 ∷ 5 ∷ 4 ∷ 3 ∷ 2 ∷ 1 ∷ []
 
 pub no-name : (code : ℕ) → NoneOf code codes → eventName code ≡ []
 unfolding eventName every among
-no-name code none = ⊎-elim (ap eventName) (unnamed code) (left-over rows code codes none tt)
+no-name code none = ⊎-elim (ap eventName) (unnamed code) (left-over codeCount code codes none tt)

@@ -1,3 +1,3 @@
 -- Laws of the readers' answers; then the theorems on the grammar.
 pub mod Closings
-pub mod Spelled
+pub mod Spelling

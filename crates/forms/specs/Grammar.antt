@@ -1,5 +1,5 @@
 -- The words of the theorems on spelling: which requests can be spelled, and which lines spell a form.
--- The lines themselves are `threadsLine` and `spelled` of the definitions; proofs/Spelled.antt shows that reading is their inverse.
+-- The lines themselves are `threadsLine` and `spelled` of the definitions; proofs/Spelling.antt shows that reading is their inverse.
 use Prim.Native.Nat.{ℕ, _≤_, _<_}
 use mathlib.Core.Bool.{true}
 use mathlib.Core.List.{List, _++_}

@@ -111,7 +111,7 @@ fn read_note(part: &[u8]) -> Form
     }
 }
 
-// The form of a line. proofs/Spelled.antt shows that this is the inverse of the spelling of forms.
+// The form of a line. proofs/Spelling.antt shows that this is the inverse of the spelling of forms.
 pub fn read_form(line: &[u8]) -> Form
     ensures { λ r. ⌜ formFor r ≡ formOf (now (line .entry)) ⌝ }
 {

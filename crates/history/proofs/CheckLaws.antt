@@ -20,10 +20,11 @@ use Rattle.history.specs.declared.Standing.{Standing}
 use Rattle.history.specs.declared.Verdict.{Verdict}
 use Rattle.history.specs.declared.Verdict.the-variants.{Fits, Bad}
 use Rattle.theory.proofs.Lengths.{pairs-length}
+use Rattle.theory.proofs.Lists.{zeros}
 use Rattle.theory.proofs.Pairs.{pairAt}
 use Rattle.theory.proofs.Quantifiers.{howMany-none}
 use Rattle.theory.proofs.Replies.{all-passed, passed, failed, peel, pass}
-use Rattle.theory.proofs.TestLists.{accepted-e, one-more, first-failed}
+use Rattle.theory.proofs.TestLists.{answered-e, one-more, first-failed}
 use Rattle.theory.proofs.Tests.{and-l, and-r, and-i, true-T, false-T, eq-T, same?}
 use Rattle.theory.proofs.Writes.{update-same, update-other}
 use Rattle.history.proofs.PlainLaws.{noPair, places-more, in-round}
@@ -33,11 +34,6 @@ use Rattle.history.proofs.StandingLaws.{tests-same, is-counted, same-st
 
 abbrev pub placesIn : List ℕ → Places
 placesIn a = λ t. getD a t 0
-
-zeros : (m t : ℕ) → _≡_ {A = ℕ} (getD (replicate m 0) t 0) 0
-zeros zero t = refl
-zeros (suc m) zero = refl
-zeros (suc m) (suc t) = zeros m t
 
 placesIn-set : (a : List ℕ) (x : Pair) → x .thread < length a → placesIn (set a (x .thread) (placeAfter (x .event))) ≡ advanced (placesIn a) x
 placesIn-set a x l = fun-ext (λ t. at t (same? t (x .thread)))
@@ -134,7 +130,7 @@ module _ (n : ℕ) (bytes a : List ℕ) (shared exclusive k : ℕ) (s : Passed n
   -- one that fits leads on
   module _ (v : Verdict) (z : Standing) (w : v ≡ Fits z) (judged : VerdictOf v) where
     fits-here : T (passesAll (countTests n standing k x)) × (standingAfter standing (x .event) ≡ z)
-    fits-here = accepted-e (countTests n standing k x) (standingAfter standing (x .event)) z (sym (rw w at (judged k)))
+    fits-here = answered-e (countTests n standing k x) (standingAfter standing (x .event)) z (sym (rw w at (judged k)))
 
     passes-here : T (passesAll (countTests n standing k x))
     passes-here = fits-here .0

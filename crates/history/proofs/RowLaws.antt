@@ -70,11 +70,11 @@ meets s event few-shared few-exclusive = by (eqb event 2) (eqb event 6)
     by false true = most-none (s .shared) (s .exclusive)
     by false false = le-leb (s .shared + writer * s .exclusive) any (omega arith)
 
--- ---- what is added to a count
+-- ---- what is count-after to a count
 
-added : (count place event : ℕ) → count < less → (event ≡ place + 1 → 1 ≤ count)
+count-after : (count place event : ℕ) → count < less → (event ≡ place + 1 → 1 ≤ count)
     → (count + change place event) % 2 ^ 16 ≡ count + cond (eqb event place) 1 0 - cond (eqb event (place + 1)) 1 0
-added count place event few some = by (same? event place) (same? event (place + 1))
+count-after count place event few some = by (same? event place) (same? event (place + 1))
   where
     by : (event ≡ place) ⊎ (event ≡ place → ⊥) → (event ≡ place + 1) ⊎ (event ≡ place + 1 → ⊥)
         → (count + change place event) % 2 ^ 16 ≡ count + cond (eqb event place) 1 0 - cond (eqb event (place + 1)) 1 0
@@ -100,8 +100,8 @@ module _ (n thread : ℕ) (s : Standing) (code : ℕ) (c : Counted n thread s) w
     moved-known l next =
         rw (row-known code known)
         (same-standing refl
-        (added (s .shared) 2 code (omega (arith, c .few, c .shared-most)) (λ e. c .in-shared l (left 2 (omega arith) (λ d. omega arith) e)))
-        (added (s .exclusive) 6 code (omega (arith, c .few, c .exclusive-most)) (λ e. c .in-exclusive l (left 6 (omega arith) (λ d. omega arith) e))))
+        (count-after (s .shared) 2 code (omega (arith, c .few, c .shared-most)) (λ e. c .in-shared l (left 2 (omega arith) (λ d. omega arith) e)))
+        (count-after (s .exclusive) 6 code (omega (arith, c .few, c .exclusive-most)) (λ e. c .in-exclusive l (left 6 (omega arith) (λ d. omega arith) e))))
       where
         left : (at : ℕ) → 1 ≤ at → (at ≡ 4 → ⊥) → code ≡ at + 1 → s .place ≡ at
         left at some no-4 e = eqb→eq (s .place) at (subst T (sym (leaves-by (s .place) code at some no-4 next)) (eq-T code (at + 1) e))

@@ -14,7 +14,7 @@ use Rattle.table.specs.declared.tests.Examined.the-variants as examined
 use Rattle.theory.specs.Outputs.{Delivered}
 use Rattle.theory.specs.Tables.{SoundBytes}
 use Rattle.listing.specs.Pairs.{openPairs}
-use Rattle.listing.specs.declared.Standing.{Standing}
+use Rattle.listing.specs.declared.Mover.{Mover}
 use Rattle.table.proofs.TableTests.{refusal-is, sound-passes}
 use Rattle.theory.proofs.Bytes.{sized-e}
 use Rattle.theory.proofs.Outputs.{turned-down, with-tests}
@@ -40,7 +40,7 @@ module _ (bytes : List ℕ) (i : ℕ) (out : List ℕ) where
         turned-down (openEntry bytes i) out 0 3 0
         (behind 0 (tableTests bytes) (threadTest ∷ []) (sound-passes bytes h) ∙ failed threadTest [] 0 (false-T _ (le-ltb i (tableOf bytes .threads) l)))
 
-    pub listed : (at : Standing) (out′ : List ℕ) (r : Reply ℕ) → i < tableOf bytes .threads
+    pub listed : (at : Mover) (out′ : List ℕ) (r : Reply ℕ) → i < tableOf bytes .threads
         → at .threads ≡ tableOf bytes .threads → at .phase ≡ tableOf bytes .phase i → at .mutex ≡ tableOf bytes .mutex
         → Delivered (counted [] (openPairs at)) out out′ r → Delivered (openEntry bytes i) out out′ r
     listed at out′ r l a b c d =

@@ -16,7 +16,7 @@ use Rattle.definitions.specs.Sound.{sound}
 use Rattle.definitions.specs.Table.{Table}
 use Rattle.definitions.specs.Threads.{gather}
 use Rattle.listing.specs.Pairs.{openTargets, pairs, pairsBelow, openPairs}
-use Rattle.listing.specs.declared.Standing.{Standing}
+use Rattle.listing.specs.declared.Mover.{Mover}
 use Rattle.theory.proofs.Replies.{accepted-is}
 use Rattle.theory.proofs.Tests.{T-true}
 
@@ -74,7 +74,7 @@ module _ (s : Table) (i : ℕ) (h : T (sound s)) (l : i < s .threads) where
 
   -- ---- all moves
 
-  pub open-list : (at : Standing) → at .threads ≡ s .threads → at .phase ≡ s .phase i → at .mutex ≡ s .mutex → 1 ≤ s .threads
+  pub open-list : (at : Mover) → at .threads ≡ s .threads → at .phase ≡ s .phase i → at .mutex ≡ s .mutex → 1 ≤ s .threads
       → openMoves s i ≡ openPairs at
   unfolding openMoves pairsBelow pairs openTargets
   open-list at a b c e =

@@ -13,7 +13,7 @@ use Rattle.definitions.specs.Moves.{namesThread}
 use Rattle.definitions.specs.Threads.{gather}
 use Rattle.theory.specs.Outputs.{RoomAt, PutAt}
 use Rattle.listing.specs.Pairs.{isOpen, openTargets, pairs, pairsBelow}
-use Rattle.listing.specs.declared.Standing.{Standing}
+use Rattle.listing.specs.declared.Mover.{Mover}
 use Rattle.theory.proofs.Lengths.{gather-length}
 use Rattle.theory.proofs.Outputs.{put-written, room-first, room-second, both}
 
@@ -48,7 +48,7 @@ module _ {out out′ : List ℕ} {start at : ℕ} (mv t : ℕ) (p : PutAt out st
 
 -- ---- all moves
 
-module _ (at : Standing) where
+module _ (at : Mover) where
   pub targets-most : (mv : ℕ) → at .threads ≤ mostThreads → openTargets at mv ≤ mostThreads
   unfolding openTargets
   targets-most mv l = by (isOpen at mv) (namesThread mv)

@@ -13,10 +13,10 @@ ghost use Rattle.definitions.specs.Answers.{answerReply, counted};
 ghost use Rattle.definitions.specs.Bounds.{mostThreads, lastMove};
 ghost use Rattle.definitions.specs.OpenMoves.{openEntry};
 ghost use Rattle.theory.specs.Outputs.{RoomAt, PutAt, Delivered};
-ghost use Rattle.listing.specs.Pairs.{Stands, isOpen, openTargets, pairs, openPairs};
+ghost use Rattle.listing.specs.Pairs.{MoverFits, isOpen, openTargets, pairs, openPairs};
 
-// Where a thread stands: N, its phase, the moves that the phase has, a bit each, and the mutex.
-struct Standing {
+// What is known of the thread that would move: N, its phase, the moves that the phase has, a bit each, and the mutex.
+struct Mover {
     threads: usize,
     phase: u8,
     moves: u8,
@@ -24,16 +24,16 @@ struct Standing {
 }
 
 // Whether a move is open.
-fn is_open(at: Standing, mv: u8) -> bool
-    requires { ⌜ Stands at × (mv ≤ lastMove) ⌝ }
+fn is_open(at: Mover, mv: u8) -> bool
+    requires { ⌜ MoverFits at × (mv ≤ lastMove) ⌝ }
     ensures { λ r. ⌜ r ≡ isOpen at mv ⌝ }
 {
     requests::has_bit(at.moves, mv) & !requests::must_wait(at.phase, at.mutex, mv)
 }
 
 // With how many targets, from 0 on.
-fn open_targets(at: Standing, mv: u8) -> usize
-    requires { ⌜ Stands at × (mv ≤ lastMove) ⌝ }
+fn open_targets(at: Mover, mv: u8) -> usize
+    requires { ⌜ MoverFits at × (mv ≤ lastMove) ⌝ }
     ensures { λ r. ⌜ r ≡ openTargets at mv ⌝ }
 {
     if !is_open(at, mv) {
@@ -42,8 +42,8 @@ fn open_targets(at: Standing, mv: u8) -> usize
     requests::targets_of(at.threads, mv)
 }
 
-fn count_open(at: Standing) -> usize
-    requires { ⌜ Stands at ⌝ }
+fn count_open(at: Mover) -> usize
+    requires { ⌜ MoverFits at ⌝ }
     ensures { λ r. ⌜ r ≡ length (openPairs at) ⌝ }
 {
     let mut bytes: usize = 0;
@@ -68,8 +68,8 @@ fn put_pairs(out: &mut [u8], start: usize, mv: u8, targets: usize) -> usize
 }
 
 // The pairs of all moves.
-fn put_open(out: &mut [u8], at: Standing) -> usize
-    requires { ⌜ Stands at × RoomAt (now out) 0 (openPairs at) ⌝ }
+fn put_open(out: &mut [u8], at: Mover) -> usize
+    requires { ⌜ MoverFits at × RoomAt (now out) 0 (openPairs at) ⌝ }
     ensures { λ r. ⌜ PutAt (now (out .entry)) 0 (openPairs at) (now (out .exit)) r ⌝ }
 {
     let mut next: usize = 0;
@@ -80,8 +80,8 @@ fn put_open(out: &mut [u8], at: Standing) -> usize
     next
 }
 
-fn list_open(out: &mut [u8], at: Standing) -> Answer
-    requires { ⌜ Stands at ⌝ }
+fn list_open(out: &mut [u8], at: Mover) -> Answer
+    requires { ⌜ MoverFits at ⌝ }
     ensures { λ r. ⌜ Delivered (counted [] (openPairs at)) (now (out .entry)) (now (out .exit)) (answerReply r) ⌝ }
 {
     let bytes = count_open(at);
@@ -106,7 +106,7 @@ pub fn open_moves(table: &[u8], thread: u16, out: &mut [u8]) -> Answer
             let mutex = table[MUTEX_AT];
             let phase = table[phase_at(i)];
             let moves = requests::moves_in(phase);
-            let at = Standing {
+            let at = Mover {
                 threads,
                 phase,
                 moves,

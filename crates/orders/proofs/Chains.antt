@@ -15,8 +15,8 @@ use Rattle.definitions.specs.Sound.{sound}
 use Rattle.definitions.specs.Table.{Table, freshTable, applied, itself, byteTable, fresh}
 use Rattle.definitions.specs.declared.Request.{Request}
 use Rattle.theory.proofs.Bytes.{byte-keeps, fresh-table, fresh-sized}
-use Rattle.theory.proofs.Kept.{kept-sound}
 use Rattle.theory.proofs.Replies.{accepted-is, all-passed}
+use Rattle.theory.proofs.SoundSteps.{kept-sound}
 use Rattle.theory.proofs.Storages.{reply-same, accepts-e, accepts-i, accepted-stores, history-same, accepts-all-same}
 use Rattle.theory.proofs.Tests.{and-l, and-r, and-i}
 use Rattle.theory.proofs.Ways.{Accepted, accepted-e, accepted-i}

@@ -17,7 +17,7 @@ use Rattle.history.proofs.CheckLaws.{formed, bad-size, bad-form, by-pairs, test
 use Rattle.theory.proofs.Lengths.{pairs-length}
 use Rattle.theory.proofs.Quantifiers.{every-at}
 use Rattle.theory.proofs.Replies.{all-passed}
-use Rattle.theory.proofs.TestLists.{accepted-e, gathered, failed-first}
+use Rattle.theory.proofs.TestLists.{answered-e, gathered, failed-first}
 
 -- ---- accepted
 
@@ -49,7 +49,7 @@ module _ (n : ℕ) (bytes : List ℕ) where
   pub check-accepted : (events : ℕ) → (checkReply n bytes ≡ accepted events) ↔ Passes n bytes events
   unfolding checkReply
   check-accepted events = (
-    λ e. let r = accepted-e (checkTests n bytes) (length (pairsOf bytes)) events e in subst (Passes n bytes) (r .1) (passes-e (r .0)),
+    λ e. let r = answered-e (checkTests n bytes) (length (pairsOf bytes)) events e in subst (Passes n bytes) (r .1) (passes-e (r .0)),
     λ p. all-passed (length (pairsOf bytes)) (checkTests n bytes) (passes-i events p) ∙ ap accepted (passes-count events p),
   )
 

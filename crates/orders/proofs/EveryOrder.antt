@@ -21,11 +21,11 @@ use Rattle.definitions.specs.Table.{freshTable, countFits, fresh}
 use Rattle.definitions.specs.Texts.{Line, linesOf}
 use Rattle.definitions.specs.Threads.{every}
 use Rattle.definitions.specs.declared.Request.{Request}
-use Rattle.runs.specs.Requests.{movesFrom, movesFirst, movesOfLines, movesOf, threadsFirst, threadsOfLines, threadsOf}
+use Rattle.runs.specs.Requests.{Closes, movesFrom, movesFirst, movesOfLines, movesOf, threadsFirst, threadsOfLines, threadsOf}
 use Rattle.orders.specs.Histories.{mostEvents, historyBytes, AllBytes, Passes, FirstBad, Makes}
 use Rattle.orders.specs.Rounds.{placeOf}
 use Rattle.history.proofs.PlainLaws.{permitted-is}
-use Rattle.runs.proofs.StepsAndEvents.{Closes, events-printed}
+use Rattle.runs.proofs.StepsAndEvents.{events-printed}
 use Rattle.theory.proofs.Lengths.{bytes-length}
 use Rattle.theory.proofs.Stages.{fresh-fits}
 use Rattle.theory.proofs.Tests.{and-l, and-r, cond-either}

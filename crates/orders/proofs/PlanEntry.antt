@@ -13,7 +13,7 @@ use Rattle.definitions.specs.declared.Request.{Request}
 use Rattle.theory.proofs.Lengths.{bytes-length}
 use Rattle.theory.proofs.Outputs.{whole}
 use Rattle.theory.proofs.Replies.{peel}
-use Rattle.theory.proofs.TestLists.{accepted-e, passes-append}
+use Rattle.theory.proofs.TestLists.{answered-e, passes-append}
 use Rattle.theory.proofs.Tests.{and-l, and-r}
 
 bytes-read : (rs : List Request) → requestsOf (bytesOf rs) ≡ rs
@@ -40,7 +40,7 @@ module _ (n : ℕ) (bytes out : List ℕ) where
   plan-accepted k e =
       let tests = checkTests n bytes in
       let last = roomTest (bytesOf moves) out ∷ [] in
-      let r = accepted-e _ (length moves) k e in
+      let r = answered-e _ (length moves) k e in
       let p = subst T (passes-append tests last) (r .0) in (
         and-l (passesAll tests) (passesAll last) p,
         leb→le (length (bytesOf moves)) (length out) (peel (roomTest (bytesOf moves) out) [] (and-r (passesAll tests) (passesAll last) p) .0),

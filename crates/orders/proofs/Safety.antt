@@ -19,8 +19,8 @@ use Rattle.definitions.specs.Threads.{every, some, between, implies}
 use Rattle.definitions.specs.declared.Request.{Request}
 use Rattle.orders.specs.Rounds.{placeOf, placesOf}
 use Rattle.history.proofs.PlainLaws.{pairFits, permittedFrom}
-use Rattle.theory.proofs.Kept.{kept-sound}
 use Rattle.theory.proofs.Quantifiers.{every-at, none-i}
+use Rattle.theory.proofs.SoundSteps.{kept-sound}
 use Rattle.theory.proofs.Soundness.{All, Sound, sound-e}
 use Rattle.theory.proofs.Storages.{accepts-e, refused-stays}
 use Rattle.theory.proofs.Tests.{and-i, implies-e, decided, not-i}

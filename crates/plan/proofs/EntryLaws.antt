@@ -16,7 +16,7 @@ use Rattle.plan.specs.MoveCounts.{Bounded, CountOf}
 use Rattle.history.proofs.CheckLaws.{tests-e}
 use Rattle.theory.proofs.Lengths.{pairs-length, bytes-length}
 use Rattle.theory.proofs.Outputs.{turned-down, no-room, whole, delivered-as}
-use Rattle.theory.proofs.TestLists.{accepted-e}
+use Rattle.theory.proofs.TestLists.{answered-e}
 
 module _ (n : ℕ) (bytes out : List ℕ) (a : Answer) (e : answerReply a ≡ checkReply n bytes) where
   -- the check's refusal is the plan's
@@ -28,7 +28,7 @@ module _ (n : ℕ) (bytes out : List ℕ) (a : Answer) (e : answerReply a ≡ ch
   module _ (events : ℕ) (q : a ≡ Done events) where
     checked : T (passesAll (checkTests n bytes)) × (length (pairsOf bytes) ≡ events)
     unfolding checkReply
-    checked = accepted-e (checkTests n bytes) (length (pairsOf bytes)) events (sym e ∙ ap answerReply q)
+    checked = answered-e (checkTests n bytes) (length (pairsOf bytes)) events (sym e ∙ ap answerReply q)
 
     pub bounded : Bounded n bytes events
     bounded =

@@ -16,7 +16,7 @@ use Rattle.definitions.specs.declared.Answer.{Answer}
 use Rattle.definitions.specs.declared.Answer.the-variants.{Done, Refused}
 use Rattle.definitions.specs.declared.Refusal.{Refusal}
 use Rattle.theory.specs.Outputs.{Delivered}
-use Rattle.printout.specs.Printed.{Printed}
+use Rattle.printout.specs.Buffer.{Printed}
 use Rattle.runs.proofs.Suffices.{suffices}
 use Rattle.theory.proofs.Outputs.{whole, with-tests}
 use Rattle.theory.proofs.Replies.{pass, no-test}

@@ -1,2 +1,2 @@
 -- What the promise of the program's output cites besides the definitions of the scope paper.
-pub mod Printed
+pub mod Buffer

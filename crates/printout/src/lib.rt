@@ -9,7 +9,7 @@ ghost use Rattle.definitions.specs.Answers.{answerReply, counted};
 ghost use Rattle.definitions.specs.Bounds.{enoughOutput};
 ghost use Rattle.definitions.specs.Run.{programOutput};
 ghost use Rattle.theory.specs.Outputs.{Delivered};
-ghost use Rattle.printout.specs.Printed.{Printed};
+ghost use Rattle.printout.specs.Buffer.{Printed};
 
 // The program's output, if it has room.
 fn write_output(input: &[u8], out: &mut [u8]) -> Answer

@@ -1,4 +1,4 @@
--- Everything that is promised and proved of the part, in the order of the three demands. proofs/Proved.antt proves it, each line by citing.
+-- Everything that is promised and proved of the part, in the order of the three demands. proofs/Citations.antt proves it, each line by citing.
 -- The words are those of crates/definitions/specs and of the specs/ of the crates named below. `statement` is the contract of a function as it stands in its source, for every model `M` of memory.
 use Prim.Native.Nat.{ℕ, _+_, _*_, _≤_, _<_}
 use mathlib.Core.Bool.{true, not}
@@ -6,10 +6,10 @@ use mathlib.Core.List.{List, _++_}
 use mathlib.Core.Logic.{_↔_}
 use mathlib.Core.Path.{_≡_}
 use lib.Dec.{T}
-use lib.ListN.{length, getD, take}
+use lib.ListN.{length, getD, take, drop}
 use Rattle.definitions.specs.Answers.{accepted, refused, answerReply, outcomeReply, filled, deliveryReply, deliveryOutput}
 use Rattle.definitions.specs.Bounds.{mostThreads, mostScript, enoughOutput}
-use Rattle.definitions.specs.Chains.{historyIn, history, requestsOf}
+use Rattle.definitions.specs.Chains.{historyIn, history, acceptsAll, requestsOf}
 use Rattle.definitions.specs.Forms.{threads, request, note, noteFits, formOf, threadsLine, spelled}
 use Rattle.definitions.specs.Moves.{ask, stepReply, step, accepts, replyIn, stepIn, acceptsIn, moveReply, moveTable}
 use Rattle.definitions.specs.Nodes.{nodesOf, nodesEntry}
@@ -17,14 +17,16 @@ use Rattle.definitions.specs.OpenMoves.{openMoves, openEntry}
 use Rattle.definitions.specs.PlainLock.{Pair, pairsOf, permitted, checkReply}
 use Rattle.definitions.specs.Plan.{plan, bytesOf, planEntry}
 use Rattle.definitions.specs.Run.{eventLines, stepsLine, runOutputOf, runEntry, programOutput}
-use Rattle.definitions.specs.Table.{Storage, itself, byteTable, tableOf, size, fresh, freshEntry, phaseAt, busyAt}
+use Rattle.definitions.specs.Sound.{sound}
+use Rattle.definitions.specs.Table.{Table, Storage, itself, byteTable, tableOf, size, fresh, freshEntry, phaseAt, busyAt}
 use Rattle.definitions.specs.Texts.{bytes}
 use Rattle.definitions.specs.declared.Answer.{Answer}
 use Rattle.definitions.specs.declared.Outcome.{Outcome}
 use Rattle.definitions.specs.declared.Request.{Request}
 use Rattle.forms.specs.Grammar.{numberBound, Spellable, Spells}
 use Rattle.orders.specs.Histories.{mostEvents, historyBytes, AllBytes, Passes, FirstBad, Makes}
-use Rattle.runs.specs.Requests.{requestsIn, movesOf, threadsOf, moveLines}
+use Rattle.runs.specs.Requests.{Closes, requestsIn, movesOf, threadsOf, moveLines}
+use Rattle.soundness.specs.Pass.{foundOf, passes}
 use Rattle.theory.specs.Outputs.{Delivered}
 use Rattle.theory.specs.Statements.{OutsideView, MayWrite, Disciplined, readerMove, Agree, Stands}
 use Rattle.theory.specs.Tables.{SoundBytes, Keeps}
@@ -42,8 +44,10 @@ use Rattle.wospinzo.proofs.wospinzo_version.Statement as version
 pub record Promises (M : Type 1) : Type 2 where
   -- ---- 1. Nothing breaks an entry
 
-  -- The entries (crates/wospinzo/src/lib.rt). Each may be called with any numbers and any lent bytes;
-  -- it answers what its definition says and leaves in every lent byte what its definition says, refused or not.
+  -- The entries (crates/wospinzo/src/lib.rt). Each may be called with any numbers and any lent bytes, and says what it answers and what it leaves in every lent byte, refused or not.
+  -- The version answers `version`. The move, asked r, answers `moveNumber (moveReply table r)` and leaves `moveTable table r`. The check answers `countNumber (checkReply n history)`.
+  -- The others write: they answer `countNumber (deliveryReply d out)` and leave `deliveryOutput d out`, where d is
+  -- `freshEntry n`, `nodesEntry table`, `openEntry table thread`, `planEntry n history` or `runEntry script`. Lent bytes that are only read stay.
   pub wospinzo-version : version.statement M
   pub wospinzo-fresh : fresh-table.statement M
   pub wospinzo-move : move.statement M
@@ -75,6 +79,7 @@ pub record Promises (M : Type 1) : Type 2 where
   pub threads-read : (n : ℕ) → n < numberBound → formOf (threadsLine n) ≡ threads n
   pub request-read : (r : Request) → Spellable r → formOf (spelled r) ≡ request r
   pub note-read : (text : List ℕ) → noteFits text ≡ true → formOf (bytes "(note " ++ (text ++ bytes ")")) ≡ note
+  pub spelled-once : (r q : Request) → Spellable r → Spellable q → spelled r ≡ spelled q → r ≡ q
   pub read-spelled : (line : List ℕ) → Spells line (formOf line)
   -- ---- 2. Each move is the protocol's
 
@@ -90,6 +95,8 @@ pub record Promises (M : Type 1) : Type 2 where
   pub accepted-sound : (table : List ℕ) (r : Request) → T (acceptsIn byteTable table r) → SoundBytes table × SoundBytes (moveTable table r)
   -- From outside: an accepted request keeps every task in its node or takes one along one arrow of Figure 1, its condition met.
   pub figure-1 : (table : List ℕ) (r : Request) → T (acceptsIn byteTable table r) → OutsideView table r
+  -- The soundness test makes one pass over the threads: what it decides is `sound`.
+  pub one-pass : (s : Table) → passes s (foundOf s (s .threads)) ≡ sound s
   -- Who writes what, by the table's bytes and by their kinds.
   pub discipline : (table : List ℕ) (r : Request) (k : ℕ) → (MayWrite (r .thread) (tableOf table .phase (r .thread)) k → ⊥)
       → getD (moveTable table r) k 0 ≡ getD table k 0
@@ -112,8 +119,12 @@ pub record Promises (M : Type 1) : Type 2 where
   pub planned : (n : ℕ) → 1 ≤ n → n ≤ mostThreads → (h : List Pair) → T (permitted n h) → Makes n (plan n h) h
   -- The check answers the number of events of what is permitted, and else the first bad pair with the first test that it fails.
   pub checked : (n : ℕ) (bytes : List ℕ) (events : ℕ) → (checkReply n bytes ≡ accepted events) ↔ Passes n bytes events
+  pub checked-count : (n : ℕ) (bytes : List ℕ) (events : ℕ) → Passes n bytes events → (length (pairsOf bytes) ≡ events) × (events ≤ mostEvents)
   pub checked-bad : (n : ℕ) (bytes : List ℕ) (number place : ℕ) → checkReply n bytes ≡ refused number place → 9 ≤ number
       → FirstBad n (pairsOf bytes) number place
+  -- Where the check passes and the output has room, the plan entry answers the plan's number of moves and writes three bytes a move.
+  pub plan-entry : (n : ℕ) (bytes out : List ℕ) (events : ℕ) → checkReply n bytes ≡ accepted events → length (bytesOf (plan n (pairsOf bytes))) ≤ length out
+      → let moves = plan n (pairsOf bytes) in Delivered (planEntry n bytes) out (bytesOf moves ++ drop (3 * length moves) out) (accepted (length moves))
   -- Whenever the plan entry answers a number of moves, the triples that it wrote are that many requests, all accepted, and show the history.
   pub plan-run : (n : ℕ) (bytes out : List ℕ) (moves : ℕ) → deliveryReply (planEntry n bytes) out ≡ accepted moves
       → let written = requestsOf (take (3 * moves) (deliveryOutput (planEntry n bytes) out)) in
@@ -124,8 +135,11 @@ pub record Promises (M : Type 1) : Type 2 where
   pub history-planned : (n : ℕ) → 1 ≤ n → n ≤ mostThreads → (h : List Pair) → T (permitted n h) → length h ≤ mostEvents
       → (out : List ℕ) → length (bytesOf (plan n h)) ≤ length out
       → Delivered (planEntry n (historyBytes h)) out (filled out (bytesOf (plan n h))) (accepted (length (plan n h)))
-  -- The events that a run prints are a permitted history, that of the moves that it made; `(steps K)` counts them, and they are all that the script states.
+  -- The events that a run prints are a permitted history, that of the moves that it made, all of them accepted.
+  -- One last line follows them; `(steps K)` counts the moves, and they are all that the script states.
+  pub run-accepted : (script : List ℕ) → T (acceptsAll (fresh (threadsOf script)) (movesOf script))
   pub run-permitted : (script : List ℕ) → T (permitted (threadsOf script) (history (fresh (threadsOf script)) (movesOf script)))
-  pub run-prints : (script : List ℕ) → (last : List ℕ) × (runOutputOf script ≡ eventLines (history (fresh (threadsOf script)) (movesOf script)) ++ last)
+  pub run-prints : (script : List ℕ) → (last : List ℕ)
+      × (runOutputOf script ≡ eventLines (history (fresh (threadsOf script)) (movesOf script)) ++ last) × Closes (movesOf script) last
   pub run-steps : (script before : List ℕ) (k : ℕ) → runOutputOf script ≡ before ++ stepsLine k
       → (k ≡ length (movesOf script)) × (movesOf script ≡ requestsIn (moveLines script))

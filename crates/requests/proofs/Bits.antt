@@ -7,23 +7,23 @@ use lib.Dec.{T}
 use Rattle.definitions.specs.Bounds.{lastPhase, lastMove}
 use Rattle.definitions.specs.Phases.{rows, hasMove}
 use Rattle.definitions.specs.Threads.{every, among}
-use Rattle.requests.specs.RequestTests.{bitsBelow, movesOf, hasBit}
+use Rattle.requests.specs.RequestTests.{bitsBelow, moveBits, hasBit}
 use Rattle.theory.proofs.Quantifiers.{every-at}
 
-same : (a b : Bool) → T (Bool·beq a b) → a ≡ b
-same true true t = refl
-same true false t = absurd t
-same false true t = absurd t
-same false false t = refl
+agrees-eq : (a b : Bool) → T (Bool·beq a b) → a ≡ b
+agrees-eq true true t = refl
+agrees-eq true false t = absurd t
+agrees-eq false true t = absurd t
+agrees-eq false false t = refl
 
 agrees : ℕ → ℕ → Bool
-agrees phase mv = Bool·beq (hasBit (movesOf phase) mv) (hasMove mv phase)
+agrees phase mv = Bool·beq (hasBit (moveBits phase) mv) (hasMove mv phase)
 
 all-agree : (phase mv : ℕ) → phase ≤ lastPhase → mv ≤ lastMove → T (agrees phase mv)
 unfolding agrees every among rows bitsBelow
 all-agree phase mv p m =
     every-at (agrees phase) (suc lastMove) (every-at (λ q. every (suc lastMove) (agrees q)) (suc lastPhase) tt phase (omega arith)) mv (omega arith)
 
-pub bit-is : (phase mv : ℕ) → phase ≤ lastPhase → mv ≤ lastMove → hasBit (movesOf phase) mv ≡ hasMove mv phase
+pub bit-is : (phase mv : ℕ) → phase ≤ lastPhase → mv ≤ lastMove → hasBit (moveBits phase) mv ≡ hasMove mv phase
 unfolding agrees
-bit-is phase mv p m = same (hasBit (movesOf phase) mv) (hasMove mv phase) (all-agree phase mv p m)
+bit-is phase mv p m = agrees-eq (hasBit (moveBits phase) mv) (hasMove mv phase) (all-agree phase mv p m)

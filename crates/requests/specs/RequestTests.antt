@@ -30,8 +30,8 @@ unfoldable pub bitsBelow : ℕ → ℕ → ℕ
 bitsBelow zero phase = 0
 bitsBelow (suc mv) phase = bitsBelow mv phase + cond (hasMove mv phase) (2 ^ mv) 0
 
-abbrev pub movesOf : ℕ → ℕ
-movesOf phase = bitsBelow (suc lastMove) phase
+abbrev pub moveBits : ℕ → ℕ
+moveBits phase = bitsBelow (suc lastMove) phase
 
 -- the bit of a move in a byte
 abbrev pub hasBit : ℕ → ℕ → Bool

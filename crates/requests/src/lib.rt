@@ -11,7 +11,7 @@ ghost use Rattle.definitions.specs.Answers.{answered};
 ghost use Rattle.definitions.specs.Bounds.{lastPhase, lastMove};
 ghost use Rattle.definitions.specs.Moves.{namesThread, targetFits, mustWait};
 ghost use Rattle.definitions.specs.Phases.{hasMove};
-ghost use Rattle.requests.specs.RequestTests.{testedReply, laterTests, movesOf, hasBit, targetsOf};
+ghost use Rattle.requests.specs.RequestTests.{testedReply, laterTests, moveBits, hasBit, targetsOf};
 
 // Which moves each phase has, one bit a move: go, call shared, call exclusive, set, clear, relent from the lowest bit on.
 pub const MOVES: [u8; PHASE_COUNT] = [
@@ -44,7 +44,7 @@ pub enum Tested {
 // The moves that a phase has, a bit each.
 pub fn moves_in(phase: u8) -> u8
     requires { ⌜ phase ≤ lastPhase ⌝ }
-    ensures { λ r. ⌜ r ≡ movesOf phase ⌝ }
+    ensures { λ r. ⌜ r ≡ moveBits phase ⌝ }
 {
     let at = phase as usize;
     MOVES[at]

@@ -7,7 +7,7 @@ use mathlib.Core.List.{List}
 use mathlib.Core.Logic.{⊎-elim}
 use mathlib.Core.Path.{_≡_, refl, sym, subst, ap, _∙_}
 use lib.Dec.{T}
-use lib.ListN.{length, length-append}
+use lib.ListN.{length}
 use Rattle.definitions.specs.Answers.{Reply, accepted, isAccepted, Seen, shown}
 use Rattle.definitions.specs.Bounds.{lastMove}
 use Rattle.definitions.specs.Moves.{Effect, effect, moveReply, moveTable}
@@ -19,6 +19,7 @@ use Rattle.definitions.specs.Threads.{every, among, implies}
 use Rattle.definitions.specs.declared.Request.{Request}
 use Rattle.runs.specs.Length.{credit}
 use Rattle.theory.proofs.Bytes.{byte-keeps, fresh-table}
+use Rattle.theory.proofs.Lengths.{event-size}
 use Rattle.theory.proofs.Numbers.{decimal-some}
 use Rattle.theory.proofs.Quantifiers.{below-suc, every-at}
 use Rattle.theory.proofs.Storages.{accepts-e, accepted-reply, accepted-table}
@@ -75,11 +76,6 @@ moved s i p q l e =
     omega arith
 
 -- ---- what a move prints
-
--- "(event T (name))" and its line feed
-pub event-size : (thread event : ℕ) → length (eventLine thread (shown event)) ≡ length (decimal thread) + (12 + length (eventName event))
-unfolding eventLine bytes
-event-size thread event = simp length-append (omega arith)
 
 -- phase 0 has only the calls, by trying the moves
 only-calls : (mv : ℕ) → mv ≤ lastMove → T (hasMove mv 0) → T (isCall mv)

@@ -19,7 +19,7 @@ use Rattle.definitions.specs.Run.{eventLine, eventLines, stepsLine, refusedLine
 use Rattle.definitions.specs.Table.{countFits, byteTable, fresh}
 use Rattle.definitions.specs.Texts.{Line, linesOf}
 use Rattle.definitions.specs.declared.Request.{Request}
-use Rattle.runs.specs.Requests.{requestIn, requestsIn, movesFrom, movesFirst, movesOfLines, movesOf, threadsFirst, threadsOfLines, threadsOf, moveLines}
+use Rattle.runs.specs.Requests.{requestIn, requestsIn, movesFrom, movesFirst, movesOfLines, movesOf, threadsFirst, threadsOfLines, threadsOf, moveLines, Closes}
 use Rattle.theory.proofs.Tests.{true-T, and-i}
 use Rattle.runs.proofs.LastLine.{steps-once, steps-not-refused}
 
@@ -229,10 +229,6 @@ whole-run script = lines-run (linesOf script)
 -- every move is accepted in turn from the fresh table
 pub all-accepted : (script : List ℕ) → T (acceptsAll (fresh (threadsOf script)) (movesOf script))
 all-accepted script = whole-run script .accepted
-
--- a steps line with the number of moves, or a refused line
-abbrev pub Closes : List Request → List ℕ → Type 0
-Closes rs last = (last ≡ stepsLine (length rs)) ⊎ ((number : ℕ) × (line : ℕ) × (last ≡ refusedLine number line))
 
 closes : (n : ℕ) (ls : List Line) (rs : List Request) (output : List ℕ) (r : WholeRun n ls rs output) → Closes rs (r .last)
 closes n ls rs output r = by (r .ending)

@@ -2,10 +2,12 @@
 use Prim.Native.Nat.{ℕ}
 use mathlib.Core.Bool.{cond}
 use mathlib.Core.List.{List, [], _∷_, _++_}
-use lib.ListN.{drop}
+use mathlib.Core.Logic.{_⊎_}
+use mathlib.Core.Path.{_≡_}
+use lib.ListN.{length, drop}
 use Rattle.definitions.specs.Forms.{Form, threads, request, note, bad, lineForm}
 use Rattle.definitions.specs.Moves.{moveTable}
-use Rattle.definitions.specs.Run.{stops, passes, makes, turnOf}
+use Rattle.definitions.specs.Run.{stepsLine, refusedLine, stops, passes, makes, turnOf}
 use Rattle.definitions.specs.Table.{countFits, fresh}
 use Rattle.definitions.specs.Texts.{Line, linesOf}
 use Rattle.definitions.specs.declared.Request.{Request}
@@ -64,3 +66,7 @@ threadsOf script = threadsOfLines (linesOf script)
 -- the lines behind the first
 abbrev pub moveLines : List ℕ → List Line
 moveLines script = drop 1 (linesOf script)
+
+-- the last line of an output: a steps line with the number of moves, or a refused line
+abbrev pub Closes : List Request → List ℕ → Type 0
+Closes rs last = (last ≡ stepsLine (length rs)) ⊎ ((number : ℕ) × (line : ℕ) × (last ≡ refusedLine number line))

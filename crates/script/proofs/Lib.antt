@@ -1,5 +1,5 @@
 -- Shared laws first, then the theorems.
 pub mod Histories
-pub mod Printed
+pub mod PrintedText
 pub mod Loop
 pub mod Entry

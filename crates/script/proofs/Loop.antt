@@ -30,7 +30,7 @@ use Rattle.theory.proofs.Numbers.{decimal-some}
 use Rattle.theory.proofs.Outputs.{same-size, put-front}
 use Rattle.theory.proofs.SoundKept.{sound-kept}
 use Rattle.script.proofs.Histories.{linesIn, lines-append}
-use Rattle.script.proofs.Printed.{turnAt, at-done, at-unended, at-stop, at-pass}
+use Rattle.script.proofs.PrintedText.{turnAt, at-done, at-unended, at-stop, at-pass}
 
 -- the lines of the history so far, and what is printed from here on, are the whole output
 pub record AtLine (script table₀ history₀ whole table history : List ℕ) (from line steps count at : ℕ) : Type 0 where

@@ -4,21 +4,16 @@ use Prim.Native.Nat.{ℕ, zero, suc, _+_, _≤_, _<_}
 use native.Mathlib.Nat.{add-zero, zero-add}
 use native.Mathlib.Omega.{arith}
 use mathlib.Core.Bool.{Bool, true, false, cond, not, _||_, or-false}
-use mathlib.Core.Logic.{⊎-elim}
 use mathlib.Core.Path.{_≡_, refl, sym, subst, ap, _∙_}
 use borrow.Author.Tests.{ne-eqb}
 use lib.Dec.{T, ltb, eqb, ltb→lt}
 use Rattle.definitions.specs.Bounds.{lastPhase}
-use Rattle.definitions.specs.Phases.{Row, rows, holds}
+use Rattle.definitions.specs.Phases.{rows, holds}
 use Rattle.definitions.specs.Threads.{every, some, howMany, implies}
 use Rattle.soundness.specs.Pass.{holderPhase, total}
-use Rattle.theory.proofs.Cases.{no-row}
+use Rattle.theory.proofs.Cases.{holder-phase}
 use Rattle.theory.proofs.Quantifiers.{every-at}
-use Rattle.theory.proofs.Tests.{below?, implies-e, not-i, T-false, T-true, true-T}
-
--- a holder's number is a phase: another number has no row
-pub holder-phase : (p : ℕ) → T (holds p) → p ≤ lastPhase
-holder-phase p t = ⊎-elim (λ l. omega arith) (λ l. absurd (subst (λ (row : Row). T (row .holder)) (no-row p l) t)) (below? (suc lastPhase) p)
+use Rattle.theory.proofs.Tests.{implies-e, not-i, T-false, T-true, true-T}
 
 -- the phases of two holders add up to more than any phase, by trying the phases
 holder-high : (p : ℕ) → T (holds p) → lastPhase < p + p

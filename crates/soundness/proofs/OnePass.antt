@@ -16,11 +16,11 @@ use Rattle.soundness.specs.Pass.{tallyBelow, fitBelow, foundOf, mutexAgr
 use Rattle.soundness.specs.declared.Aim.{Aim}
 use Rattle.soundness.specs.declared.Found.the-variants.{Good, Bad}
 use Rattle.soundness.specs.declared.Tally.{Tally}
-use Rattle.theory.proofs.Cases.{or-at, none-of}
+use Rattle.theory.proofs.Cases.{or-at, none-of, holder-phase}
 use Rattle.theory.proofs.Quantifiers.{every-at}
 use Rattle.theory.proofs.Tests.{and-l, and-r, implies-e}
 use Rattle.soundness.proofs.Bools.{and-cong}
-use Rattle.soundness.proofs.Holders.{holder-phase, Holders, none, one, many, holders}
+use Rattle.soundness.proofs.Holders.{Holders, none, one, many, holders}
 use Rattle.soundness.proofs.Rules.{each-fits, flags-of, mutex-is, target-is, open-is, is-10, is-11, is-13, is-15}
 
 -- ---- the decision, by the sum of the holders' phases

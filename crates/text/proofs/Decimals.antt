@@ -13,20 +13,20 @@ use Rattle.theory.proofs.Outputs.{none, same-size}
 -- ---- measured
 
 -- the digits behind those of `high` are counted, and one more
-pub record Counted (n digits high : ℕ) : Type 0 where
+pub record DigitsCounted (n digits high : ℕ) : Type 0 where
   pub sum : digits + length (decimal high) ≡ length (decimal n) + 1
 
-pub counted-none : (n : ℕ) → Counted n 1 n
+pub counted-none : (n : ℕ) → DigitsCounted n 1 n
 counted-none n = record { sum = omega arith }
 
-pub counted-more : (n digits high : ℕ) → 10 ≤ high → Counted n digits high → Counted n (digits + 1) (high / 10)
+pub counted-more : (n digits high : ℕ) → 10 ≤ high → DigitsCounted n digits high → DigitsCounted n (digits + 1) (high / 10)
 counted-more n digits high h w = record { sum = omega (arith, w .sum, decimal-longer high (length (decimal (high / 10))) h refl) }
 
-pub counted-all : (n digits high : ℕ) → high < 10 → Counted n digits high → digits ≡ length (decimal n)
+pub counted-all : (n digits high : ℕ) → high < 10 → DigitsCounted n digits high → digits ≡ length (decimal n)
 counted-all n digits high h w = omega (arith, w .sum, ap length (decimal-small high h))
 
 -- a number of the code has 20 digits at most
-pub counted-few : (n digits high : ℕ) → n < 2 ^ 64 → Counted n digits high → digits ≤ 20
+pub counted-few : (n digits high : ℕ) → n < 2 ^ 64 → DigitsCounted n digits high → digits ≤ 20
 counted-few n digits high h w = omega (arith, w .sum, decimal-some high, decimal-short n 20 (omega arith) (omega arith))
 
 -- ---- put

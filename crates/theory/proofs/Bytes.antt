@@ -1,16 +1,17 @@
 -- The byte table is a storage that keeps what is written (`byte-keeps`); its size as numbers; and the fresh table's bytes.
-use Prim.Native.Nat.{ℕ, zero, suc, _+_, _*_, _≤_, _<_}
+use Prim.Native.Nat.{ℕ, suc, _+_, _*_, _≤_, _<_}
 use native.Mathlib.Omega.{arith}
 use mathlib.Core.List.{List, [], _∷_}
 use mathlib.Core.Logic.{_⊎_, inl, inr}
 use mathlib.Core.Path.{_≡_, refl, sym, subst, ap, _∙_, fun-ext}
 use lib.Dec.{T, leb, eqb, leb→le, le→leb, eqb→eq}
-use lib.ListN.{length, getD, set, replicate, length-set, length-replicate}
+use lib.ListN.{length, getD, set, length-set, length-replicate}
 use lib.Seq.{getD-set-same, getD-set-other}
 use Rattle.definitions.specs.Bounds.{mostThreads}
 use Rattle.definitions.specs.Table.{Table, countFits, freshTable, Write, mutex≔, target≔, phase≔, busy≔, forbidden≔, update, appliedOne}
 use Rattle.definitions.specs.Table.{applied, size, phaseAt, busyAt, forbiddenAt, tableOf, sized, storedOne, stored, byteTable, fresh}
 use Rattle.theory.specs.Tables.{Sized, WriteFits, WritesFit, Keeps}
+use Rattle.theory.proofs.Lists.{zeros}
 use Rattle.theory.proofs.Tests.{and-l, and-r, and-i, eq-T, same?}
 use Rattle.theory.proofs.Writes.{update-same, update-other, same-table, applied-threads, applied-keeps}
 
@@ -136,11 +137,6 @@ byte-keeps =
     }
 
 -- ---- the fresh table
-
-zeros : (m k : ℕ) → getD {A = ℕ} (replicate m 0) k 0 ≡ 0
-zeros zero k = refl
-zeros (suc m) zero = refl
-zeros (suc m) (suc k) = zeros m k
 
 below : (n : ℕ) (at : ℕ → ℕ) (m : ℕ) → ((j : ℕ) → at j ≡ 3 + m + 3 * j) → column (fresh n) at ≡ (λ j. 0)
 unfolding fresh

@@ -9,7 +9,7 @@ use mathlib.Core.Path.{_≡_, refl, sym, subst, ap}
 use lib.Dec.{T, leb, eqb, leb→le, eqb→eq}
 use lib.ListN.{List·getD-eq-default}
 use Rattle.definitions.specs.Bounds.{lastPhase}
-use Rattle.definitions.specs.Phases.{Row, noRow, rows, rowOf, hasMove}
+use Rattle.definitions.specs.Phases.{Row, noRow, rows, rowOf, hasMove, holds}
 use Rattle.definitions.specs.Threads.{listOf, gather, among, between}
 use Rattle.theory.proofs.Quantifiers.{below-suc}
 use Rattle.theory.proofs.Tests.{and-l, and-r, or-e, or-l, or-r, eq-T, T-true, below?}
@@ -69,6 +69,10 @@ among-range p a b t =
 pub no-row : (p : ℕ) → lastPhase < p → rowOf p ≡ noRow
 unfolding rows
 no-row p h = List·getD-eq-default rows noRow h
+
+-- so a holder's number is a phase
+pub holder-phase : (p : ℕ) → T (holds p) → p ≤ lastPhase
+holder-phase p t = ⊎-elim (λ l. omega arith) (λ l. absurd (subst (λ (row : Row). T (row .holder)) (no-row p l) t)) (below? (suc lastPhase) p)
 
 -- the phases that have a move, by trying them all
 unfoldable pub phasesWith : ℕ → List ℕ

@@ -38,18 +38,18 @@ use Rattle.theory.proofs.Ways.{set-again, clear-flag, clear-last, relea
 -- ---- who writes what
 
 -- the byte that a write is to
-abbrev placeOf : Write → ℕ
-placeOf (mutex≔ v) = 1
-placeOf (target≔ v) = 2
-placeOf (phase≔ j v) = phaseAt j
-placeOf (busy≔ j v) = busyAt j
-placeOf (forbidden≔ j v) = forbiddenAt j
+abbrev byteOf : Write → ℕ
+byteOf (mutex≔ v) = 1
+byteOf (target≔ v) = 2
+byteOf (phase≔ j v) = phaseAt j
+byteOf (busy≔ j v) = busyAt j
+byteOf (forbidden≔ j v) = forbiddenAt j
 
 abbrev MayWriteAll : ℕ → ℕ → List Write → Type 0
 MayWriteAll i p [] = Unit {0}
-MayWriteAll i p (w ∷ ws) = MayWrite i p (placeOf w) × MayWriteAll i p ws
+MayWriteAll i p (w ∷ ws) = MayWrite i p (byteOf w) × MayWriteAll i p ws
 
-write-other : (bytes : List ℕ) (w : Write) (k : ℕ) → (k ≡ placeOf w → ⊥) → getD (storedOne bytes w) k 0 ≡ getD bytes k 0
+write-other : (bytes : List ℕ) (w : Write) (k : ℕ) → (k ≡ byteOf w → ⊥) → getD (storedOne bytes w) k 0 ≡ getD bytes k 0
 write-other bytes (mutex≔ v) k h = getD-set-other bytes 1 k v 0 h
 write-other bytes (target≔ v) k h = getD-set-other bytes 2 k v 0 h
 write-other bytes (phase≔ j v) k h = getD-set-other bytes (phaseAt j) k v 0 h
@@ -267,9 +267,9 @@ own-tests s r t =
 abbrev ownReply : Table → Request → Reply Seen
 ownReply o r = answered (requestTests o r) (effect o r .shows)
 
-own-reply : (s : Table) (r : Request) → T (sound s) → T (readerMove s r) → stepReply s r ≡ ownReply (ownOf s (r .thread)) r
+reader-reply : (s : Table) (r : Request) → T (sound s) → T (readerMove s r) → stepReply s r ≡ ownReply (ownOf s (r .thread)) r
 unfolding stepReply
-own-reply s r z t =
+reader-reply s r z t =
     passed (test 2 (sound s)) (requestTests s r) (effect s r .shows) z
     ∙ (ap (λ (ts : List Test). answered ts (effect s r .shows)) (own-tests s r t)
     ∙ ap (λ (x : Effect). answered (requestTests (ownOf s (r .thread)) r) (x .shows)) (own-effect s r t))
@@ -277,10 +277,10 @@ own-reply s r z t =
 abbrev ownStep : Table → Request → Table → Table
 ownStep o r s = leaves (ownReply o r) (applied s (effect o r .writes)) s
 
-own-step : (s : Table) (r : Request) → T (sound s) → T (readerMove s r) → step s r ≡ ownStep (ownOf s (r .thread)) r s
+reader-step : (s : Table) (r : Request) → T (sound s) → T (readerMove s r) → step s r ≡ ownStep (ownOf s (r .thread)) r s
 unfolding step
-own-step s r z t =
-    ap (λ (x : Reply Seen). leaves x (applied s (effect s r .writes)) s) (own-reply s r z t)
+reader-step s r z t =
+    ap (λ (x : Reply Seen). leaves x (applied s (effect s r .writes)) s) (reader-reply s r z t)
     ∙ ap (λ (x : Effect). leaves (ownReply (ownOf s (r .thread)) r) (applied s (x .writes)) s) (own-effect s r t)
 
 -- the same writes to tables that agree
@@ -313,9 +313,9 @@ reader-on s t r y z a m =
     let o = ownOf s i in
     let same : ownOf s i ≡ ownOf t i = own-same s t i a in
     let n : T (readerMove t r) = subst (λ (x : Table). T (readerMove x r)) same m in (
-      own-reply s r y m ∙ (ap (λ (x : Table). ownReply x r) same ∙ sym (own-reply t r z n)),
-      subst (λ (x : Table). Agree x (step t r) i) (sym (own-step s r y m))
-          (subst (λ (x : Table). Agree (ownStep o r s) x i) (sym (own-step t r z n ∙ ap (λ (x : Table). ownStep x r t) (sym same))) (agree-step o s t r a)),
+      reader-reply s r y m ∙ (ap (λ (x : Table). ownReply x r) same ∙ sym (reader-reply t r z n)),
+      subst (λ (x : Table). Agree x (step t r) i) (sym (reader-step s r y m))
+          (subst (λ (x : Table). Agree (ownStep o r s) x i) (sym (reader-step t r z n ∙ ap (λ (x : Table). ownStep x r t) (sym same))) (agree-step o s t r a)),
     )
 
 -- and on bytes

@@ -21,9 +21,9 @@ use Rattle.definitions.specs.Threads.{every, listOf, among, between, implies}
 use Rattle.definitions.specs.declared.Request.{Request}
 use Rattle.theory.specs.Statements.{OutsideView}
 use Rattle.theory.proofs.Bytes.{byte-keeps}
-use Rattle.theory.proofs.Kept.{settled}
 use Rattle.theory.proofs.Lists.{getD-listOf, listOf-same, listOf-set, anyIn-listOf}
 use Rattle.theory.proofs.Quantifiers.{every-at}
+use Rattle.theory.proofs.SoundSteps.{settled}
 use Rattle.theory.proofs.Soundness.{All, Sound, sound-e}
 use Rattle.theory.proofs.Storages.{accepts-e, accepted-reply, accepted-table}
 use Rattle.theory.proofs.Tests.{not-i, implies-e, same?}

@@ -1,4 +1,4 @@
--- Lengths of the lists that the definitions make: one list for each thread put together, a history's pairs, a plan's bytes, the fresh table. For every n.
+-- Lengths of the lists that the definitions make: one list for each thread put together, a history's pairs, a plan's bytes, the fresh table, an event's line. For every n.
 use Prim.Native.Nat.{ℕ, zero, suc, _+_, _*_, _/_, _≤_}
 use native.Mathlib.Nat.{suc-mul, mul-suc}
 use native.Mathlib.Omega.{arith}
@@ -6,9 +6,12 @@ use mathlib.Core.Bool.{Bool, true, false, cond}
 use mathlib.Core.List.{List, [], _∷_, _++_}
 use mathlib.Core.Path.{_≡_, refl}
 use lib.ListN.{length, length-append, length-replicate}
+use Rattle.definitions.specs.Answers.{shown}
 use Rattle.definitions.specs.PlainLock.{pairsOf}
 use Rattle.definitions.specs.Plan.{bytesOf}
+use Rattle.definitions.specs.Run.{eventName, eventLine}
 use Rattle.definitions.specs.Table.{size, fresh}
+use Rattle.definitions.specs.Texts.{bytes, decimal}
 use Rattle.definitions.specs.Threads.{howMany, gather}
 use Rattle.definitions.specs.declared.Request.{Request}
 
@@ -49,3 +52,8 @@ bytes-length (r ∷ rs) = omega (arith, bytes-length rs)
 pub fresh-length : (n : ℕ) → length (fresh n) ≡ size n
 unfolding fresh
 fresh-length n = omega (arith, length-replicate {A = ℕ} (3 * n) 0)
+
+-- an event's line, `(event T (name))` and its line feed
+pub event-size : (thread event : ℕ) → length (eventLine thread (shown event)) ≡ 12 + length (decimal thread) + length (eventName event)
+unfolding eventLine bytes
+event-size thread event = simp length-append (omega arith)

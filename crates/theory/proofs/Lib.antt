@@ -17,7 +17,7 @@ pub mod Bytes
 pub mod Ways
 pub mod Soundness
 pub mod Stages
-pub mod Kept
+pub mod SoundSteps
 -- the theorems
 pub mod Storages
 pub mod SoundKept

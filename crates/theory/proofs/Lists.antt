@@ -1,4 +1,4 @@
--- Laws of `listOf`, the list of one entry for each thread below n: its length, its entries, one entry written, and what `anyIn` says of it; and a list from an index on. For every n.
+-- Laws of `listOf`, the list of one entry for each thread below n: its length, its entries, one entry written, and what `anyIn` says of it; a list from an index on; and zeros. For every n.
 use Prim.Native.Nat.{ℕ, zero, suc, _+_, _-_, _<_}
 use native.Mathlib.Nat.{not-suc-le-zero}
 use native.Mathlib.Numerals.{add-one}
@@ -8,7 +8,7 @@ use mathlib.Core.List.{List, [], _∷_, _++_}
 use mathlib.Core.Logic.{_⊎_, inl, inr, ⊎-elim}
 use mathlib.Core.Path.{_≡_, refl, sym, subst, ap, _∙_}
 use lib.Dec.{T}
-use lib.ListN.{length, getD, set, take, drop, length-append, length-set, length-drop, List·getD-append}
+use lib.ListN.{length, getD, set, replicate, take, drop, length-append, length-set, length-drop, List·getD-append}
 use lib.Seq.{getD-at, getD-set-same, getD-set-other, ext-getD, take-all}
 use Rattle.definitions.specs.Nodes.{anyIn}
 use Rattle.definitions.specs.Threads.{listOf, among}
@@ -63,3 +63,9 @@ anyIn-listOf wanted n f h =
 -- a list from n on, as it is lent
 pub from-on : (xs : List ℕ) (n : ℕ) → take (length xs - n) (drop n xs) ≡ drop n xs
 from-on xs n = take-all (length xs - n) (drop n xs) (omega (arith, length-drop n xs))
+
+-- zeros, also behind their end
+pub zeros : (m k : ℕ) → getD {A = ℕ} (replicate m 0) k 0 ≡ 0
+zeros zero k = refl
+zeros (suc m) zero = refl
+zeros (suc m) (suc k) = zeros m k

@@ -12,7 +12,7 @@ use Rattle.definitions.specs.Table.{Table, tableOf, byteTable, fresh}
 use Rattle.definitions.specs.declared.Request.{Request}
 use Rattle.theory.specs.Tables.{SoundBytes}
 use Rattle.theory.proofs.Bytes.{byte-keeps, fresh-sized}
-use Rattle.theory.proofs.Kept.{step-sound}
+use Rattle.theory.proofs.SoundSteps.{step-sound}
 use Rattle.theory.proofs.Stages.{fresh-sound}
 use Rattle.theory.proofs.Storages.{accepts-e, refused-stays, table-step, fits-step}
 use Rattle.theory.proofs.Ways.{accepted-e}

@@ -20,8 +20,8 @@ passes-append [] us = refl
 passes-append (t ∷ ts) us = ap (λ (b : Bool). t .passed && b) (passes-append ts us) ∙ sym (and-assoc (t .passed) (passesAll ts) (passesAll us))
 
 -- what is in store is answered where all are passed
-pub accepted-e : {A : Type 0} (ts : List Test) (a b : A) → answered ts a ≡ accepted b → T (passesAll ts) × (a ≡ b)
-accepted-e {A} ts a b e =
+pub answered-e : {A : Type 0} (ts : List Test) (a b : A) → answered ts a ≡ accepted b → T (passesAll ts) × (a ≡ b)
+answered-e {A} ts a b e =
     let p = subst T (accepted-is a ts) (subst (λ (r : Reply A). T (isAccepted r)) (sym e) tt) in
     let d = all-passed a ts p in
     (p, cc)
@@ -37,7 +37,7 @@ module _ {A : Type 0} (a : A) (ts : List Test) where
   refusal t = by (answered ts a) refl
     where
       by : (r : Reply A) → answered ts a ≡ r → (number : ℕ) × (place : ℕ) × (answered ts a ≡ refused number place)
-      by (accepted b) e = absurd (no-both (passesAll ts) (accepted-e ts a b e .0) t)
+      by (accepted b) e = absurd (no-both (passesAll ts) (answered-e ts a b e .0) t)
       by (refused number place) e = (number, place, e)
 
 module _ (f : ℕ → List Test) where

@@ -22,7 +22,7 @@ value-more : (xs : List ℕ) (n : ℕ) → n < length xs → valueFrom 0 (take (
 value-more xs n h = rw (add-one, take-suc xs n 0) (value-behind 0 (take n xs) (getD xs n 0))
 
 -- the first n bytes are digits, three at most, and this is their value
-pub record Taken (xs : List ℕ) (n value : ℕ) : Type 0 where
+pub record ReadSoFar (xs : List ℕ) (n value : ℕ) : Type 0 where
   pub few : n ≤ 3
   pub digits : n ≤ length (digitsOf xs)
   pub worth : value ≡ valueFrom 0 (take n xs)
@@ -33,13 +33,13 @@ pub record Next (xs : List ℕ) (n value : ℕ) : Type 0 where
   pub low : 48 ≤ getD xs n 0
   pub high : getD xs n 0 ≤ 57
   pub small : value < 100
-  pub more : Taken xs (n + 1) (10 * value + (getD xs n 0 - 48))
+  pub more : ReadSoFar xs (n + 1) (10 * value + (getD xs n 0 - 48))
 
-pub taken-none : (xs : List ℕ) → Taken xs 0 0
+pub none-read : (xs : List ℕ) → ReadSoFar xs 0 0
 unfolding valueFrom
-taken-none xs = record { few = omega arith; digits = omega arith; worth = refl }
+none-read xs = record { few = omega arith; digits = omega arith; worth = refl }
 
-module _ {xs : List ℕ} {n value : ℕ} (t : Taken xs n value) where
+module _ {xs : List ℕ} {n value : ℕ} (t : ReadSoFar xs n value) where
   pub next : isDigit (getD xs n 0) ≡ true → (n ≡ 3 → ⊥) → Next xs n value
   next e h =
       let more = digit-more xs n (t .digits) e in
@@ -67,7 +67,7 @@ head-digit xs h = ap (λ (l : List ℕ). getD l 0 0) (sym (take-digits xs)) ∙ 
 pub number-none : (xs : List ℕ) → length (digitsOf xs) ≡ 0 → Unknown ≡ numberFor xs
 number-none xs e = unread xs (rw e)
 
-module _ {xs : List ℕ} {n value : ℕ} (t : Taken xs n value) where
+module _ {xs : List ℕ} {n value : ℕ} (t : ReadSoFar xs n value) where
   -- too many
   pub number-long : isDigit (getD xs n 0) ≡ true → n ≡ 3 → Unknown ≡ numberFor xs
   number-long e h =

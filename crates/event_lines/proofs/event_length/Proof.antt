@@ -1,7 +1,7 @@
 -- `event_lines::event_length` meets its contract.
 use native.Mathlib.Omega.{arith}
 use borrow.Author.Needs.{needs}
-use Rattle.event_lines.proofs.EventLines.{event-size}
+use Rattle.theory.proofs.Lengths.{event-size}
 use Rattle.event_lines.proofs.event_length.Statement.{statement}
 use Rattle.event_lines.proofs.event_length.Tie as tie
 

@@ -8,14 +8,14 @@ use Rattle.definitions.specs.Bounds.{lastMove}
 use Rattle.definitions.specs.Threads.{gather}
 use Rattle.theory.specs.Outputs.{RoomAt, PutAt}
 use Rattle.listing.specs.Pairs.{openTargets, pairs, pairsBelow, openPairs}
-use Rattle.listing.specs.declared.Standing.{Standing}
+use Rattle.listing.specs.declared.Mover.{Mover}
 use Rattle.theory.proofs.Outputs.{none, room-second, both}
 use Rattle.listing.proofs.PairLists.{targets-most, below-next, below-most}
 use Rattle.listing.proofs.put_open.Statement.{statement}
 use Rattle.listing.proofs.put_open.Tie as tie
 
 -- one more move
-module _ (at : Standing) (out out′ : List ℕ) (next mv : ℕ) (room : RoomAt out 0 (openPairs at)) (less : mv ≤ lastMove) (p : PutAt out 0 (pairsBelow at mv) out′ next) where
+module _ (at : Mover) (out out′ : List ℕ) (next mv : ℕ) (room : RoomAt out 0 (openPairs at)) (less : mv ≤ lastMove) (p : PutAt out 0 (pairsBelow at mv) out′ next) where
   room-more : RoomAt out 0 (pairsBelow at mv ++ pairs mv (openTargets at mv))
   room-more =
       let long = below-most at (mv + 1) (suc lastMove) (omega arith) in

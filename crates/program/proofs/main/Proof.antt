@@ -7,7 +7,7 @@ use borrow.Author.Needs.{needs}
 use lib.ListN.{length, take, drop, length-replicate}
 use lib.Seq.{length-take-le, take-at}
 use Rattle.definitions.specs.Run.{programOutput}
-use Rattle.printout.specs.Printed.{Printed}
+use Rattle.printout.specs.Buffer.{Printed}
 use Rattle.program.specs.Input.{WithinRoom}
 use Rattle.program.specs.declared.Input.{Input}
 use Rattle.program.specs.declared.Input.the-variants.{Bytes}

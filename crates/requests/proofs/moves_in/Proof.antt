@@ -5,7 +5,7 @@ use borrow.Author.Needs.{needs}
 use Rattle.definitions.specs.Bounds.{lastPhase}
 use Rattle.definitions.specs.Phases.{rows}
 use Rattle.definitions.specs.Threads.{listOf, among}
-use Rattle.requests.specs.RequestTests.{bitsBelow, movesOf}
+use Rattle.requests.specs.RequestTests.{bitsBelow, moveBits}
 use Rattle.theory.proofs.Lists.{getD-listOf}
 use Rattle.requests.proofs.moves_in.Statement.{statement}
 use Rattle.requests.proofs.moves_in.Tie as tie
@@ -15,7 +15,7 @@ array-read-result c = search needs
 
 returns : tie.Need-returns
 unfolding listOf rows among bitsBelow
-returns c = getD-listOf (suc lastPhase) movesOf (c .args .phase) 0 (omega arith)
+returns c = getD-listOf (suc lastPhase) moveBits (c .args .phase) 0 (omega arith)
 
 pub moves-in-spec : {M : Type 1} → statement M
 moves-in-spec = tie.close (tie.spec array-read-result returns)

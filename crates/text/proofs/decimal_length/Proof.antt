@@ -1,11 +1,11 @@
 -- `text::decimal_length` meets its contract. The loop's invariant: the digits behind those of `front` are counted. The measure is `front`.
 use native.Mathlib.Omega.{arith}
-use Rattle.text.proofs.Decimals.{Counted, counted-none, counted-more, counted-all, counted-few}
+use Rattle.text.proofs.Decimals.{DigitsCounted, counted-none, counted-more, counted-all, counted-few}
 use Rattle.text.proofs.decimal_length.Statement.{statement}
 use Rattle.text.proofs.decimal_length.Tie as tie
 
 abbrev Inv-loop : tie.InvT-loop
-Inv-loop n digits₀ front₀ digits front = Counted n digits front
+Inv-loop n digits₀ front₀ digits front = DigitsCounted n digits front
 
 abbrev μ-loop : tie.MeasureT-loop
 μ-loop n digits₀ front₀ digits front = front

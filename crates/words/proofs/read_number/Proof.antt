@@ -8,12 +8,12 @@ use mathlib.Core.Path.{_≡_, sym, _∙_}
 use lib.ListN.{length}
 use Rattle.definitions.specs.Texts.{digitsOf}
 use Rattle.theory.proofs.Digits.{digits-within, digit-end}
-use Rattle.words.proofs.NumberReading.{Taken, Next, taken-none, next, number-none, number-long, number-no, number-yes}
+use Rattle.words.proofs.NumberReading.{ReadSoFar, Next, none-read, next, number-none, number-long, number-no, number-yes}
 use Rattle.words.proofs.read_number.Statement.{statement}
 use Rattle.words.proofs.read_number.Tie as tie
 
 abbrev Inv-loop : tie.InvT-loop
-Inv-loop part value₀ digits₀ value digits = Taken part digits value
+Inv-loop part value₀ digits₀ value digits = ReadSoFar part digits value
 
 abbrev μ-loop : tie.MeasureT-loop
 μ-loop part value₀ digits₀ value digits = 3 - digits
@@ -36,7 +36,7 @@ all-taken c =
     omega arith
 
 loop-holds : tie.Need-loop-holds Inv-loop μ-loop
-loop-holds c = taken-none _
+loop-holds c = none-read _
 
 digit-at-requires : tie.Need-digit-at-requires Inv-loop μ-loop
 digit-at-requires c κs = tt

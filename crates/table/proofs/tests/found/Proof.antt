@@ -17,7 +17,7 @@ use Rattle.soundness.specs.Pass.{TallyRoom, threadFits, holderPhase, total, tal
 use Rattle.soundness.specs.declared.Found.{Found}
 use Rattle.soundness.specs.declared.Found.the-variants.{Good, Bad}
 use Rattle.soundness.specs.declared.Tally.{Tally}
-use Rattle.soundness.proofs.Holders.{holder-phase}
+use Rattle.theory.proofs.Cases.{holder-phase}
 use Rattle.theory.proofs.Quantifiers.{every-at, howMany-most}
 use Rattle.theory.proofs.Tests.{cond-either, not-i, T-false}
 use Rattle.table.proofs.tests.found.Statement.{statement}

@@ -2,12 +2,13 @@
 use mathlib.Core.Path.{sym}
 use Rattle.definitions.specs.Table.{tableOf}
 use Rattle.promises.specs.Promises.{Promises}
-use Rattle.forms.proofs.Spelled as spelled
+use Rattle.forms.proofs.Spelling as spelled
 use Rattle.orders.proofs.EveryOrder as orders
 use Rattle.printout.proofs.Output as output
 use Rattle.printout.proofs.print_input.Met as printing
-use Rattle.runs.proofs.StepsAndEvents.{steps-counted}
+use Rattle.runs.proofs.StepsAndEvents.{all-accepted, events-printed, steps-counted}
 use Rattle.runs.proofs.Suffices as suffices
+use Rattle.soundness.proofs.OnePass.{one-pass}
 use Rattle.theory.proofs.Bytes.{byte-keeps}
 use Rattle.theory.proofs.Discipline as discipline
 use Rattle.theory.proofs.Figure1 as figure
@@ -50,6 +51,7 @@ proved =
       threads-read = spelled.threads-read;
       request-read = spelled.request-read;
       note-read = spelled.note-read;
+      spelled-once = spelled.spelled-once;
       read-spelled = spelled.read-spelled;
       bytes-keep = byte-keeps;
       storage-reply = λ S. storages.reply-same S;
@@ -59,6 +61,7 @@ proved =
       sound-kept = kept.sound-kept;
       accepted-sound = kept.accepted-sound;
       figure-1 = figure.figure-1;
+      one-pass = one-pass;
       discipline = discipline.discipline;
       disciplined = discipline.disciplined;
       reader-writes = discipline.reader-writes;
@@ -69,11 +72,14 @@ proved =
       exact = orders.exact;
       planned = orders.planned;
       checked = orders.checked;
+      checked-count = orders.checked-count;
       checked-bad = orders.checked-bad;
+      plan-entry = λ n bytes out events e room. let f = orders.plan-entry n bytes out events e room in record { reply = sym (f .0); output = sym (f .1) };
       plan-run = orders.plan-run;
       history-bytes = λ n least most h t few. let f = orders.from-list n least most h t few in (f .0, f .1);
       history-planned = λ n least most h t few out room. let f = orders.from-list n least most h t few .2 out room in record { reply = sym (f .0); output = sym (f .1) };
+      run-accepted = all-accepted;
       run-permitted = λ script. orders.run-shown script .0;
-      run-prints = λ script. let f = orders.run-shown script .1 in (f .0, f .1);
+      run-prints = events-printed;
       run-steps = steps-counted;
     }

@@ -10,18 +10,18 @@ use lib.Dec.{T, eqb, eqb→eq}
 use Rattle.definitions.specs.Answers.{leaves}
 use Rattle.definitions.specs.Bounds.{lastPhase, noTarget}
 use Rattle.definitions.specs.Moves.{Effect, effect, allForbidden, noneForbiddenBut, stepReply, step, accepts}
-use Rattle.definitions.specs.Phases.{Row, rows, busyIn, holds, reading}
+use Rattle.definitions.specs.Phases.{rows, busyIn, holds, reading}
 use Rattle.definitions.specs.Sound.{sound}
 use Rattle.definitions.specs.Table.{Table, mutex≔, target≔, phase≔, busy≔, forbidden≔, update, applied}
 use Rattle.definitions.specs.Threads.{every, between, implies}
 use Rattle.definitions.specs.declared.Request.{Request}
 use Rattle.theory.specs.Tables.{WritesFit}
-use Rattle.theory.proofs.Cases.{no-row}
+use Rattle.theory.proofs.Cases.{holder-phase}
 use Rattle.theory.proofs.Quantifiers.{every-at, not-every}
 use Rattle.theory.proofs.Replies.{leaves-yes, leaves-no}
 use Rattle.theory.proofs.Soundness.{All, In, Holds, Reads, Sound, sound-e, sound-i}
 use Rattle.theory.proofs.Stages.{range-holds, Fits, Stage, held-sound, nobody-sound, stage-10, stage-11, stage-13, stage-15, stage-16}
-use Rattle.theory.proofs.Tests.{T-ne, decided, no-both, or-e, or-l, or-r, same?, eq-T, implies-e, below?}
+use Rattle.theory.proofs.Tests.{T-ne, decided, no-both, or-e, or-l, or-r, same?, eq-T, implies-e}
 use Rattle.theory.proofs.Ways.{Way, way, accepted-e}
 use Rattle.theory.proofs.Ways.{call-shared, raise-busy, find-open, find-forbidden, back-off, try-again, enter-shared, leave-shared, lower-busy, return-shared}
 use Rattle.theory.proofs.Ways.{call-exclusive, take-mutex, set-flag, find-busy, last-flag, next-flag, relents, give-up, enter-exclusive, leave-exclusive}
@@ -75,10 +75,6 @@ unfolding rows every
 reading-busy q l t =
     eqb→eq (busyIn q) 1
     (implies-e (reading q) (eqb (busyIn q) 1) (every-at (λ x. implies (reading x) (eqb (busyIn x) 1)) (suc lastPhase) tt q (omega arith)) t)
-
--- a holder's number is a phase: another number has no row
-holder-phase : (q : ℕ) → T (holds q) → q ≤ lastPhase
-holder-phase q t = ⊎-elim (λ l. omega arith) (λ l. absurd (subst (λ (row : Row). T (row .holder)) (no-row q l) t)) (below? (suc lastPhase) q)
 
 -- ---- the tables after a move
 
