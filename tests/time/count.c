@@ -116,6 +116,14 @@ static void lists(uint16_t n)
 
     fresh(n);
     COUNT(WOSPINZO_ACCEPTED, wospinzo_fresh(n, out, sizeof out), "fresh %u", n);
+    COUNT(WOSPINZO_NO_ROOM, wospinzo_fresh(n, out, WOSPINZO_TABLE_SIZE(n) - 1), "fresh %u refused by 12", n);
+    COUNT(WOSPINZO_NO_ROOM, wospinzo_nodes(table, WOSPINZO_TABLE_SIZE(n), out, n - 1u), "nodes %u refused by 12", n);
+    COUNT(WOSPINZO_NO_ROOM, wospinzo_open_moves(table, WOSPINZO_TABLE_SIZE(n), 0, out, 1), "open_moves %u refused by 12", n);
+    COUNT(WOSPINZO_NO_THREAD, wospinzo_open_moves(table, WOSPINZO_TABLE_SIZE(n), n, out, sizeof out), "open_moves %u refused by 3", n);
+    table[1] = 1;
+    COUNT(WOSPINZO_UNSOUND, wospinzo_nodes(table, WOSPINZO_TABLE_SIZE(n), out, sizeof out), "nodes %u refused by 2", n);
+    COUNT(WOSPINZO_UNSOUND, wospinzo_open_moves(table, WOSPINZO_TABLE_SIZE(n), 0, out, sizeof out), "open_moves %u refused by 2", n);
+    table[1] = 0;
     COUNT(WOSPINZO_ACCEPTED, wospinzo_nodes(table, WOSPINZO_TABLE_SIZE(n), out, sizeof out), "nodes %u", n);
     COUNT(WOSPINZO_ACCEPTED, wospinzo_open_moves(table, WOSPINZO_TABLE_SIZE(n), 0, out, sizeof out), "open_moves %u in 0", n);
     move(0, WOSPINZO_CALL_EXCLUSIVE, 0);
@@ -130,6 +138,19 @@ static void lists(uint16_t n)
     COUNT(WOSPINZO_ACCEPTED, wospinzo_open_moves(table, WOSPINZO_TABLE_SIZE(n), 0, out, sizeof out), "open_moves %u in 15", n);
 }
 
+/* A history whose last pair is bad; one that is permitted is put back. */
+static void bad_last(unsigned expected, uint16_t n, size_t events, uint8_t thread, uint8_t event)
+{
+    uint8_t *last = history + 2 * (events - 1), was[2];
+
+    memcpy(was, last, 2);
+    last[0] = thread;
+    last[1] = event;
+    COUNT(expected, wospinzo_check(n, history, 2 * events), "check %u %zu the last pair is refused by %u", n, events, expected);
+    COUNT(expected, wospinzo_plan(n, history, 2 * events, out, sizeof out), "plan %u %zu 0 the last pair is refused by %u", n, events, expected);
+    memcpy(last, was, 2);
+}
+
 /* Rounds of shared by n threads in turn, and rounds of exclusive. */
 static void histories(uint16_t n, size_t events)
 {
@@ -141,7 +162,23 @@ static void histories(uint16_t n, size_t events)
     }
     COUNT(WOSPINZO_ACCEPTED, wospinzo_check(n, history, 2 * events), "check %u %zu shared", n, events);
     COUNT(WOSPINZO_ACCEPTED, wospinzo_plan(n, history, 2 * events, out, sizeof out), "plan %u %zu %zu shared", n, events, events / 4 * 7);
-    for (k = 0; k < events; k++) history[2 * k + 1] = (uint8_t)(5 + k % 4);
+    COUNT(WOSPINZO_NO_ROOM, wospinzo_plan(n, history, 2 * events, out, 0), "plan %u %zu 0 refused by 12", n, events);
+    COUNT(WOSPINZO_BAD_FORM, wospinzo_check(n, history, 2 * events - 1), "check %u %zu refused by 8", n, events);
+    COUNT(WOSPINZO_BAD_SIZE, wospinzo_check(0, history, 2 * events), "check 0 %zu refused by 1", events);
+    bad_last(WOSPINZO_UNKNOWN_PAIR, n, events, 0, 9);
+    bad_last(WOSPINZO_UNKNOWN_PAIR, n, events, (uint8_t)n, 1);
+    bad_last(WOSPINZO_NOT_NEXT, n, events, 0, 8);
+    if (n > 1) {
+        /* Task 0 is in shared, task 1 returns from enter exclusive. */
+        uint8_t *end = history + 2 * (events - 4);
+        const uint8_t crossed[] = {0, 1, 0, 2, 1, 5};
+        memcpy(end, crossed, sizeof crossed);
+        bad_last(WOSPINZO_OCCUPIED, n, events, 1, 6);
+    }
+    for (k = 0; k < events; k++) {
+        history[2 * k] = (uint8_t)(k / 4 % n);
+        history[2 * k + 1] = (uint8_t)(5 + k % 4);
+    }
     COUNT(WOSPINZO_ACCEPTED, wospinzo_check(n, history, 2 * events), "check %u %zu exclusive", n, events);
     COUNT(WOSPINZO_ACCEPTED, wospinzo_plan(n, history, 2 * events, out, sizeof out), "plan %u %zu %zu exclusive", n, events, events / 4 * (3u * n + 6u));
 }
@@ -157,6 +194,9 @@ static void scripts(const char *first, const char *text, size_t most, const char
         length += size;
     }
     COUNT(WOSPINZO_ACCEPTED, wospinzo_run(script, length, out, WOSPINZO_RUN_ROOM), "run %zu %s", length, what);
+    COUNT(WOSPINZO_NO_ROOM, wospinzo_run(script, length, out, 1), "run %zu %s, refused by 12", length, what);
+    script[length - 1] = ' ';
+    COUNT(WOSPINZO_ACCEPTED, wospinzo_run(script, length, out, WOSPINZO_RUN_ROOM), "run %zu %s, the last line refused", length, what);
 }
 
 int main(void)
