@@ -3,6 +3,7 @@
 // promise of the part cites.
 ghost use mathlib.Core.Path.{_≡_};
 ghost use Rattle.definitions.specs.Answers.{codeOf, eventOf, numberOf};
+ghost use Rattle.definitions.specs.Table.{countFits};
 
 // "N threads, 1 to 200"
 pub const MOST_THREADS: u8 = 200;
@@ -32,9 +33,6 @@ pub const RELENT: u8 = 5;
 // "The move is above 5."
 pub const LAST_MOVE: u8 = RELENT;
 
-// How many moves there are.
-pub const MOVE_COUNT: usize = LAST_MOVE as usize + 1;
-
 // "The history has an odd length or exceeds 60,000 bytes"
 pub const MOST_HISTORY: usize = 60_000;
 
@@ -46,6 +44,13 @@ pub const ENOUGH_OUTPUT: usize = 65_536;
 
 // "to depth 16 with the outermost as 1"
 pub const MOST_DEPTH: u8 = 16;
+
+// Whether N is from 1 to 200.
+pub fn count_fits(threads: usize) -> bool
+    ensures { λ r. ⌜ r ≡ countFits threads ⌝ }
+{
+    (1 <= threads) & (threads <= MOST_THREADS as usize)
+}
 
 // "A request is thread, move and target, 16 bits each"
 pub struct Request {

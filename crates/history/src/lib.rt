@@ -3,8 +3,8 @@
 use definitions::Answer;
 use definitions::Event;
 use definitions::MOST_HISTORY;
-use definitions::MOST_THREADS;
 use definitions::Refusal;
+use definitions::count_fits;
 ghost use Prim.Native.Nat.{ℕ, _+_, _%_, _^_, _≤_};
 ghost use mathlib.Core.Bool.{cond};
 ghost use mathlib.Core.Path.{_≡_};
@@ -162,8 +162,8 @@ fn check_pairs(threads: u16, history: &[u8]) -> Answer
 pub fn check(threads: u16, history: &[u8]) -> Answer
     ensures { λ r. ⌜ answerReply r ≡ checkReply threads (now (history .entry)) ⌝ }
 {
-    let counted = (1 <= threads) & (threads <= MOST_THREADS as u16);
-    if !counted {
+    let count = threads as usize;
+    if !count_fits(count) {
         return Answer::Refused(Refusal::BadSize, 0);
     }
     let formed = (history.len() % 2 == 0) & (history.len() <= MOST_HISTORY);

@@ -1,7 +1,6 @@
 // The run of a script. One pass over its lines makes the moves and keeps the history that they show, byte pairs, thread then event; the output is printed from it.
 use definitions::Answer;
 use definitions::MOST_SCRIPT;
-use definitions::MOST_THREADS;
 use definitions::Refusal;
 use forms::Form;
 use forms::read_form;
@@ -9,6 +8,7 @@ use lines::Next;
 use lines::next_line;
 use printing::Ending;
 use printing::print;
+use table::MOST_SIZE;
 use table::fresh;
 use turns::Step;
 use turns::take_line;
@@ -27,9 +27,6 @@ const SHORTEST_MOVE: usize = 9;
 
 // A history of so many bytes has room for an event of every move that a script can make.
 const MOST_SHOWN: usize = 2 * (MOST_SCRIPT / SHORTEST_MOVE);
-
-// The bytes of the largest table.
-const MOST_TABLE: usize = 3 + 3 * MOST_THREADS as usize;
 
 // A run that has ended: how many bytes its history has, and how it ended.
 struct Ran {
@@ -98,7 +95,7 @@ fn run_from(script: &[u8], start: usize, threads: u16, history: &mut [u8]) -> Ra
     requires { ⌜ (start ≤ length (now script)) × Roomy (now script) (now history) ⌝ }
     ensures { λ r. ⌜ Recorded (printedFirst (forms.threads threads) (linesOf (drop start (now (script .entry))))) (now (history .exit)) r ⌝ }
 {
-    let mut bytes = [0u8; MOST_TABLE];
+    let mut bytes = [0u8; MOST_SIZE];
     let made = fresh(threads, &mut bytes);
     let Answer::Done(size) = made else {
         return stopped(0, Refusal::BadSize, 1);

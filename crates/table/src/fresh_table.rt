@@ -1,11 +1,11 @@
 // A fresh table: "A fresh table has mutex 0, target 255, all else 0."
 use crate::layout::TARGET_AT;
 use crate::layout::THREADS_AT;
-use crate::layout::count_fits;
 use crate::layout::size_of;
 use definitions::Answer;
 use definitions::NO_TARGET;
 use definitions::Refusal;
+use definitions::count_fits;
 ghost use Prim.Native.Nat.{_≤_};
 ghost use mathlib.Core.Path.{_≡_};
 ghost use lib.ListN.{length};

@@ -2,7 +2,7 @@
 use definitions::MOST_THREADS;
 ghost use Prim.Native.Nat.{_<_, _^_};
 ghost use mathlib.Core.Path.{_≡_};
-ghost use Rattle.definitions.specs.Table.{countFits, size, phaseAt, busyAt, forbiddenAt};
+ghost use Rattle.definitions.specs.Table.{size, phaseAt, busyAt, forbiddenAt};
 
 // "Byte 0 is N, byte 1 the mutex (0 or 1), byte 2 the target"
 pub const THREADS_AT: usize = 0;
@@ -41,9 +41,5 @@ pub fn size_of(threads: usize) -> usize
     3 + 3 * threads
 }
 
-// "N threads, 1 to 200"
-pub fn count_fits(threads: usize) -> bool
-    ensures { λ r. ⌜ r ≡ countFits threads ⌝ }
-{
-    (1 <= threads) & (threads <= MOST_THREADS as usize)
-}
+// The bytes of the largest table.
+pub const MOST_SIZE: usize = 3 + 3 * MOST_THREADS as usize;

@@ -5,6 +5,7 @@ mod layout;
 mod tests;
 
 pub use fresh_table::fresh;
+pub use layout::MOST_SIZE;
 pub use layout::MUTEX_AT;
 pub use layout::TARGET_AT;
 pub use layout::THREADS_AT;
