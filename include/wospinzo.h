@@ -16,7 +16,7 @@
  *   byte 0           N, 1 to 200
  *   byte 1           the mutex, 0 or 1
  *   byte 2           the target, a thread number, or 255 for none
- *   byte 3 + 3i      the phase of thread i, 0 to 17
+ *   byte 3 + 3i      the phase of thread i, 0 to 18
  *   byte 4 + 3i      its busy flag, 0 or 1
  *   byte 5 + 3i      its forbidden flag, 0 or 1
  *
@@ -47,7 +47,7 @@ extern "C" {
 /* The version of this header; wospinzo_version answers that of the archive.
  * docs/CHANGELOG.md says what a version promises. */
 #define WOSPINZO_VERSION_MAJOR 1
-#define WOSPINZO_VERSION_MINOR 0
+#define WOSPINZO_VERSION_MINOR 1
 #define WOSPINZO_VERSION_PATCH 0
 #define WOSPINZO_VERSION \
     (65536 * WOSPINZO_VERSION_MAJOR + 256 * WOSPINZO_VERSION_MINOR + WOSPINZO_VERSION_PATCH)
@@ -88,7 +88,8 @@ enum wospinzo_move_code {
     WOSPINZO_CALL_EXCLUSIVE = 2,
     WOSPINZO_SET = 3,
     WOSPINZO_CLEAR = 4,
-    WOSPINZO_RELENT = 5
+    WOSPINZO_RELENT = 5,
+    WOSPINZO_HOLD = 6
 };
 
 /* The events that a move shows. A quiet move answers WOSPINZO_QUIET. */
@@ -104,13 +105,13 @@ enum wospinzo_event {
     WOSPINZO_LEAVE_EXCLUSIVE_RETURN = 8
 };
 
-/* The phases, each named for what the thread does next there. */
+/* The phases, each with what the thread does next there. */
 enum wospinzo_phase_number {
     WOSPINZO_PHASE_FREE = 0,             /* nothing: it is outside the lock */
     WOSPINZO_PHASE_RAISE_BUSY = 1,       /* a reader raises its busy flag */
     WOSPINZO_PHASE_READ_FORBIDDEN = 2,   /* it reads its forbidden flag */
     WOSPINZO_PHASE_BACK_OFF = 3,         /* it found 1: it lowers busy */
-    WOSPINZO_PHASE_TRY_AGAIN = 4,        /* and starts again */
+    WOSPINZO_PHASE_TRY_AGAIN = 4,        /* it starts again (go), or takes the mutex first (hold) */
     WOSPINZO_PHASE_ENTER_SHARED = 5,     /* it found 0: its return is shown */
     WOSPINZO_PHASE_IN_SHARED = 6,        /* it reads the settings, then leaves */
     WOSPINZO_PHASE_LOWER_BUSY = 7,       /* it lowers busy */
@@ -123,13 +124,14 @@ enum wospinzo_phase_number {
     WOSPINZO_PHASE_IN_EXCLUSIVE = 14,    /* it writes the settings, then leaves */
     WOSPINZO_PHASE_CLEAR_FLAGS = 15,     /* it clears the flags (clear t) */
     WOSPINZO_PHASE_LET_MUTEX_GO = 16,    /* it lets the mutex go */
-    WOSPINZO_PHASE_LEAVE_EXCLUSIVE = 17  /* its return is shown */
+    WOSPINZO_PHASE_LEAVE_EXCLUSIVE = 17, /* its return is shown */
+    WOSPINZO_PHASE_HOLD_MUTEX = 18       /* a reader gives the mutex back and starts again */
 };
 
 /* The nodes, each with its phases. */
 enum wospinzo_node {
     WOSPINZO_FREE = 0,      /* 0: outside the lock */
-    WOSPINZO_ES = 1,        /* 1 to 4: entering shared */
+    WOSPINZO_ES = 1,        /* 1 to 4 and 18: entering shared */
     WOSPINZO_LOE = 2,       /* 5: no writer can enter any more */
     WOSPINZO_SHARED = 3,    /* 6: in the shared section */
     WOSPINZO_LS = 4,        /* 7 and 8: leaving shared */
@@ -147,10 +149,10 @@ enum wospinzo_refusal_number {
     WOSPINZO_BAD_SIZE = 1,     /* N is 0 or above 200, or the table isn't 3 + 3N bytes */
     WOSPINZO_UNSOUND = 2,      /* the table isn't sound: no move could have left it */
     WOSPINZO_NO_THREAD = 3,    /* the thread number isn't below N */
-    WOSPINZO_NO_MOVE = 4,      /* the move is above 5 */
+    WOSPINZO_NO_MOVE = 4,      /* the move is above 6 */
     WOSPINZO_BAD_TARGET = 5,   /* set or clear: not below N; another move: not 0 */
     WOSPINZO_NOT_IN_PHASE = 6, /* the thread's phase has no such move */
-    WOSPINZO_MUTEX_HELD = 7,   /* go in phase 9 while the mutex is 1: try again later */
+    WOSPINZO_MUTEX_HELD = 7,   /* go in phase 9, or hold in 4, while the mutex is 1: try again later */
     WOSPINZO_BAD_FORM = 8,     /* a history of odd length or too long; a script too long */
     WOSPINZO_UNKNOWN_PAIR = 9, /* the event isn't 1 to 8, or its thread isn't below N */
     WOSPINZO_NOT_NEXT = 10,    /* the event isn't its thread's next */
@@ -237,7 +239,9 @@ uint64_t wospinzo_fresh(uint16_t threads, uint8_t *out, size_t out_len);
  *   call exclusive  phase 0 to 9, event 5
  *   go              the thread's next step. A reader takes 3 from its call
  *                   into Shared where no flag stops it, 2 out of it (the first
- *                   shows event 3), and 1 to be Free again. A writer takes the
+ *                   shows event 3), and 1 to be Free again. One that a flag
+ *                   stops comes to phase 4; go there starts again, and so does
+ *                   go in 18, which gives the mutex back. A writer takes the
  *                   mutex with the first; in phase 11 it reads its target's
  *                   busy flag and goes on, or to 12 where that is 1; go in 13
  *                   enters Exclusive, go in 14 leaves it.
@@ -245,6 +249,10 @@ uint64_t wospinzo_fresh(uint16_t threads, uint8_t *out, size_t out_len);
  *                   phase 15: sets it
  *   clear t         phase 15: clears t's forbidden flag; the last one leads on
  *   relent          phase 11 to 12, without looking at the target
+ *   hold            phase 4 to 18: a reader takes the mutex. No call waits: the
+ *                   host asks again later while 7 is answered, and makes go in
+ *                   4 when its time is over. A thread that stays in 18 keeps
+ *                   every writer out: make go there at once.
  */
 WOSPINZO_USE_ANSWER
 uint64_t wospinzo_move(uint8_t *table, size_t table_len, uint16_t thread, uint16_t move,

@@ -109,7 +109,7 @@ const fn kind(name: &'static str, from: u8, mov: u16, to: u8) -> Kind {
     }
 }
 
-const KINDS: [Kind; 24] = [
+const KINDS: [Kind; 27] = [
     kind("phase 0, call shared", 0, 1, 1),
     kind("phase 0, call exclusive", 0, 2, 9),
     kind("phase 1, go", 1, 0, 2),
@@ -117,6 +117,8 @@ const KINDS: [Kind; 24] = [
     kind("phase 2, go, forbidden", 2, 0, 3),
     kind("phase 3, go", 3, 0, 4),
     kind("phase 4, go", 4, 0, 1),
+    kind("phase 4, hold, mutex 0", 4, 6, 18),
+    kind("phase 4, hold, refused (7)", 4, 6, 4),
     kind("phase 5, go", 5, 0, 6),
     kind("phase 6, go", 6, 0, 7),
     kind("phase 7, go", 7, 0, 8),
@@ -134,6 +136,7 @@ const KINDS: [Kind; 24] = [
     kind("phase 15, clear", 15, 4, 15),
     kind("phase 16, go", 16, 0, 17),
     kind("phase 17, go", 17, 0, 0),
+    kind("phase 18, go", 18, 0, 1),
 ];
 
 /// A request and the table that it is made on.
@@ -152,8 +155,11 @@ fn requests(kind: &Kind, threads: usize) -> Vec<Request> {
         let Some(thread) = (0..threads).find(|&t| table[3 + 3 * t] == kind.from) else {
             continue;
         };
-        let takes_target = kind.mov == model::SET || kind.mov == model::CLEAR;
-        let target = if takes_target { r.below(threads) } else { 0 };
+        let target = if model::takes_target(kind.mov) {
+            r.below(threads)
+        } else {
+            0
+        };
         let mut after = table.clone();
         model::make_move(&mut after, thread as u16, kind.mov, target as u16);
         if after[3 + 3 * thread] == kind.to {

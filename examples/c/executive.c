@@ -3,8 +3,11 @@
  *
  * Each turn gives every task one move. Readers read the settings piece by
  * piece, a piece a turn, and look for tearing: words of two versions in one
- * read. Panel tasks rewrite the settings, a piece a turn too. The program
- * counts reads, writes and torn reads, of which there must be none.
+ * read. Panel tasks rewrite the settings now and then, a piece a turn too. A
+ * reader that is turned away waits for the mutex, for some turns at most,
+ * before it tries again; it gives the mutex back in the turn in which it took
+ * it. The program counts reads, writes and torn reads, of which there must be
+ * none.
  */
 #include <stdio.h>
 #include <stdlib.h>
@@ -12,6 +15,8 @@
 #include "wospinzo.h"
 
 enum { READERS = 6, PANELS = 2, TASKS = READERS + PANELS, TURNS = 20000, PIECES = 4, WORDS = 8 };
+/* In turns: a reader's wait for the mutex, at most; a panel's rest after it wrote, at least. */
+enum { HOLD_TURNS = 16, PANEL_REST = 100 };
 
 struct task {
     unsigned rest;    /* turns to let pass before the next call */
@@ -19,6 +24,7 @@ struct task {
     unsigned piece;   /* the next piece to read or write there */
     uint32_t version; /* the version being written, or first met in reading */
     int torn;         /* whether the read met another version too */
+    unsigned waited;  /* turns since its last move in which it was refused the mutex */
 };
 
 struct request {
@@ -29,7 +35,7 @@ struct request {
 static uint8_t table[WOSPINZO_TABLE_SIZE(TASKS)];
 static struct task tasks[TASKS];
 static uint32_t settings[PIECES][WORDS];
-static unsigned long reads, writes, torn_reads, waits;
+static unsigned long reads, writes, torn_reads, waits, holds, timeouts;
 
 static int is_panel(uint16_t task)
 {
@@ -52,6 +58,10 @@ static struct request next_move(uint16_t task)
     switch (wospinzo_phase(table, task)) {
     case WOSPINZO_PHASE_FREE:
         request.move = is_panel(task) ? WOSPINZO_CALL_EXCLUSIVE : WOSPINZO_CALL_SHARED;
+        break;
+    case WOSPINZO_PHASE_TRY_AGAIN:
+        if (tasks[task].waited < HOLD_TURNS)
+            request.move = WOSPINZO_HOLD;
         break;
     case WOSPINZO_PHASE_SET_FLAG:
         request.move = WOSPINZO_SET;
@@ -108,16 +118,38 @@ static void heed(uint16_t number, struct task *task, uint64_t event)
         break;
     case WOSPINZO_LEAVE_SHARED_RETURN:
     case WOSPINZO_LEAVE_EXCLUSIVE_RETURN:
-        task->rest = 5u + 3u * number;
+        task->rest = (is_panel(number) ? PANEL_REST : 5u) + 3u * number;
         break;
+    }
+}
+
+/* Makes the task's next move, and heeds the answer. */
+static void step(uint16_t number)
+{
+    struct task *task = &tasks[number];
+    struct request request = next_move(number);
+    unsigned phase = wospinzo_phase(table, number);
+    uint64_t answer = wospinzo_move(table, sizeof table, number, request.move, request.target);
+
+    if (wospinzo_accepted(answer)) {
+        task->waited = 0;
+        if (request.move == WOSPINZO_HOLD)
+            holds++;
+        else if (phase == WOSPINZO_PHASE_TRY_AGAIN)
+            timeouts++;
+        heed(number, task, wospinzo_value(answer));
+    } else if (wospinzo_refusal(answer) == WOSPINZO_MUTEX_HELD) {
+        task->waited++;
+        waits++;
+    } else {
+        printf("task %u: refusal %u\n", (unsigned)number, wospinzo_refusal(answer));
+        exit(2);
     }
 }
 
 static void turn(uint16_t number)
 {
     struct task *task = &tasks[number];
-    struct request request;
-    uint64_t answer;
 
     if (task->rest > 0) {
         task->rest--;
@@ -130,16 +162,10 @@ static void turn(uint16_t number)
             read_piece(task);
         return;
     }
-    request = next_move(number);
-    answer = wospinzo_move(table, sizeof table, number, request.move, request.target);
-    if (wospinzo_accepted(answer)) {
-        heed(number, task, wospinzo_value(answer));
-    } else if (wospinzo_refusal(answer) == WOSPINZO_MUTEX_HELD) {
-        waits++;
-    } else {
-        printf("task %u: refusal %u\n", (unsigned)number, wospinzo_refusal(answer));
-        exit(2);
-    }
+    step(number);
+    /* A reader gives the mutex back at once: while it has it, no panel gets in. */
+    if (wospinzo_phase(table, number) == WOSPINZO_PHASE_HOLD_MUTEX)
+        step(number);
 }
 
 int main(void)
@@ -152,7 +178,8 @@ int main(void)
     for (turns = 0; turns < TURNS; turns++)
         for (task = 0; task < TASKS; task++)
             turn(task);
-    printf("%d tasks, %d turns: %lu reads, %lu writes, %lu waits for the mutex, %lu torn reads\n",
-           (int)TASKS, (int)TURNS, reads, writes, waits, torn_reads);
-    return torn_reads == 0 && reads > 0 && writes > 0 ? 0 : 1;
+    printf("%d tasks, %d turns: %lu reads, %lu writes, %lu waits for the mutex, %lu holds, "
+           "%lu timeouts, %lu torn reads\n",
+           (int)TASKS, (int)TURNS, reads, writes, waits, holds, timeouts, torn_reads);
+    return torn_reads == 0 && reads > 0 && writes > 0 && holds > 0 && timeouts > 0 ? 0 : 1;
 }

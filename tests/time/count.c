@@ -10,7 +10,7 @@
 
 #include "wospinzo.h"
 
-enum { MOST_PLAN = 13725300 };
+enum { MOST_PLAN = 13725300, PAST_LAST_MOVE = WOSPINZO_HOLD + 1 };
 
 static uint8_t table[WOSPINZO_MAX_TABLE_SIZE], kept[WOSPINZO_MAX_TABLE_SIZE];
 static uint8_t history[WOSPINZO_MAX_HISTORY], script[WOSPINZO_MAX_SCRIPT], out[MOST_PLAN];
@@ -75,7 +75,7 @@ static void moves(uint16_t n)
     step(n, last, WOSPINZO_CALL_EXCLUSIVE, 0, "call exclusive");
     counted(WOSPINZO_NOT_IN_PHASE, n, last, WOSPINZO_RELENT, 0, "refused by 6");
     counted(WOSPINZO_BAD_TARGET, n, last, WOSPINZO_GO, 1, "refused by 5");
-    counted(WOSPINZO_NO_MOVE, n, last, 6, 0, "refused by 4");
+    counted(WOSPINZO_NO_MOVE, n, last, PAST_LAST_MOVE, 0, "refused by 4");
     counted(WOSPINZO_NO_THREAD, n, n, WOSPINZO_GO, 0, "refused by 3");
     step(n, last, WOSPINZO_GO, 0, "go in 9");
     for (t = 0; t < n; t++) {
@@ -93,23 +93,35 @@ static void moves(uint16_t n)
         move(0, WOSPINZO_GO, 0);
         step(n, 0, WOSPINZO_GO, 0, "go in 2, forbidden");
         step(n, 0, WOSPINZO_GO, 0, "go in 3");
-        step(n, 0, WOSPINZO_GO, 0, "go in 4");
-        move(1 % n == last ? 0 : 1, n > 2 ? WOSPINZO_CALL_EXCLUSIVE : WOSPINZO_GO, 0);
-        if (n > 2) counted(WOSPINZO_MUTEX_HELD, n, 1, WOSPINZO_GO, 0, "refused by 7");
+        counted(WOSPINZO_ACCEPTED, n, 0, WOSPINZO_GO, 0, "go in 4");
+        counted(WOSPINZO_MUTEX_HELD, n, 0, WOSPINZO_HOLD, 0, "hold in 4, refused by 7");
+    }
+    if (n > 2) {
+        move(1, WOSPINZO_CALL_EXCLUSIVE, 0);
+        counted(WOSPINZO_MUTEX_HELD, n, 1, WOSPINZO_GO, 0, "go in 9, refused by 7");
     }
     step(n, last, WOSPINZO_GO, 0, "go in 14");
     step(n, last, WOSPINZO_SET, 0, "set in 15");
     for (t = 0; t < n; t++) step(n, last, WOSPINZO_CLEAR, t, t == last ? "clear, last" : "clear");
     step(n, last, WOSPINZO_GO, 0, "go in 16");
     step(n, last, WOSPINZO_GO, 0, "go in 17");
+    if (n > 1) {
+        step(n, 0, WOSPINZO_HOLD, 0, "hold in 4");
+        step(n, 0, WOSPINZO_GO, 0, "go in 18");
+        move(0, WOSPINZO_GO, 0);
+        move(last, WOSPINZO_CALL_EXCLUSIVE, 0);
+        move(last, WOSPINZO_GO, 0);
+        move(last, WOSPINZO_SET, 0);
+        step(n, last, WOSPINZO_GO, 0, "go in 11, busy");
+    }
     table[0] = (uint8_t)(n == 1 ? 2 : n - 1);
     COUNT(WOSPINZO_BAD_SIZE, wospinzo_move(table, WOSPINZO_TABLE_SIZE(n), 0, WOSPINZO_GO, 0), "move %u refused by 1", n);
     table[0] = (uint8_t)n;
-    table[1] = 1;
+    table[1] ^= 1;
     COUNT(WOSPINZO_UNSOUND, wospinzo_move(table, WOSPINZO_TABLE_SIZE(n), 0, WOSPINZO_GO, 0), "move %u refused by 2", n);
 }
 
-/* The nodes, and the open moves of a thread that has most of them. */
+/* The fresh table, the nodes, and the open moves of threads in several phases. */
 static void lists(uint16_t n)
 {
     uint16_t t;
@@ -136,6 +148,14 @@ static void lists(uint16_t n)
     move(0, WOSPINZO_GO, 0);
     move(0, WOSPINZO_GO, 0);
     COUNT(WOSPINZO_ACCEPTED, wospinzo_open_moves(table, WOSPINZO_TABLE_SIZE(n), 0, out, sizeof out), "open_moves %u in 15", n);
+    if (n == 1) return;
+    /* Thread 1 is turned away, then thread 0 lets the mutex go. */
+    move(1, WOSPINZO_CALL_SHARED, 0);
+    for (t = 0; t < 3; t++) move(1, WOSPINZO_GO, 0);
+    COUNT(WOSPINZO_ACCEPTED, wospinzo_open_moves(table, WOSPINZO_TABLE_SIZE(n), 1, out, sizeof out), "open_moves %u in 4, mutex 1", n);
+    for (t = 0; t < n; t++) move(0, WOSPINZO_CLEAR, t);
+    move(0, WOSPINZO_GO, 0);
+    COUNT(WOSPINZO_ACCEPTED, wospinzo_open_moves(table, WOSPINZO_TABLE_SIZE(n), 1, out, sizeof out), "open_moves %u in 4, mutex 0", n);
 }
 
 /* A history whose last pair is bad; one that is permitted is put back. */

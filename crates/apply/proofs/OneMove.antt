@@ -10,19 +10,21 @@ use Rattle.definitions.specs.Bounds.{mostThreads}
 use Rattle.definitions.specs.Moves.{effect, moveTests, stepReply, accepts, moveReply, moveTable}
 use Rattle.definitions.specs.Table.{byteTable, tableOf, stored}
 use Rattle.definitions.specs.declared.Request.{Request}
-use Rattle.rules.specs.View.{subjectOf, cellsOf, allForbiddenBut, othersBy, viewAt, cellsAfter, Decides}
+use Rattle.rules.specs.View.{cellsOf, allForbiddenBut, othersBy, viewAt, cellsAfter, Decides}
 use Rattle.rules.specs.declared.Cells.{Cells}
 use Rattle.rules.specs.declared.Decided.{Decided}
 use Rattle.rules.specs.declared.View.{View}
 use Rattle.theory.specs.Tables.{SoundBytes, forbiddenCount}
 use Rattle.apply.specs.MoveMade.{MoveTried, TestedTable, Accepting, TwoThreads, storedCells}
-use Rattle.rules.proofs.Subject.{Within, subject-thread, effect-within}
+use Rattle.rules.proofs.Subject.{Within, effect-within}
 use Rattle.theory.proofs.Bytes.{sized-e}
 use Rattle.theory.proofs.Quantifiers.{howMany-most}
 use Rattle.theory.proofs.Replies.{accepted-is, all-passed}
 use Rattle.theory.proofs.Soundness.{sound-e}
 use Rattle.theory.proofs.Storages.{reply-same, accepts-i, accepted-stores}
 use Rattle.theory.proofs.Ways.{accepted-e}
+use Rattle.theory.specs.Statements.{subjectOf}
+use Rattle.theory.proofs.Writers.{subject-thread}
 use Rattle.apply.proofs.Counts.{flag-one, share-most, none-but, all-but}
 use Rattle.apply.proofs.StoredCells.{Inside, stored-cells, count-after}
 

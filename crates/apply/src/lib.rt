@@ -16,7 +16,8 @@ ghost use mathlib.Core.Path.{_≡_};
 ghost use lib.Dec.{eqb};
 ghost use Rattle.definitions.specs.Bounds.{mostThreads, lastMove};
 ghost use Rattle.definitions.specs.Table.{tableOf};
-ghost use Rattle.rules.specs.View.{subjectOf, cellsOf, viewAt};
+ghost use Rattle.rules.specs.View.{cellsOf, viewAt};
+ghost use Rattle.theory.specs.Statements.{subjectOf};
 ghost use Rattle.apply.specs.MoveMade.{MoveTried, TestedTable, Accepting, TwoThreads, storedCells};
 
 // The outcome of a move, and how many forbidden are 1 after it.

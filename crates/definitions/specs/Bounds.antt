@@ -5,13 +5,13 @@ use Prim.Native.Nat.{ℕ}
 abbrev pub mostThreads : ℕ
 mostThreads = 200
 
--- "phases are at most 17"
+-- "phases are at most 17"; "Add phase 18" (02 §1)
 abbrev pub lastPhase : ℕ
-lastPhase = 17
+lastPhase = 18
 
--- "The move is above 5."
+-- "Refusal 4 is now a move above 6" (02 §1)
 abbrev pub lastMove : ℕ
-lastMove = 5
+lastMove = 6
 
 -- "the target (a thread number, or 255 for none)"
 abbrev pub noTarget : ℕ

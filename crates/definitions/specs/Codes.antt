@@ -53,3 +53,7 @@ clearMove = 4
 
 abbrev pub relent : ℕ
 relent = 5
+
+-- "New move 6, hold" (02 §1)
+abbrev pub hold : ℕ
+hold = 6

@@ -1,16 +1,41 @@
--- The forms of a script's lines: what a line says, read off the line alone, and the lines that spell a form.
--- `formOf` reads a line; `threadsLine` and `spelled` write the line of a form. That the one is the inverse of the other is shown in crates/forms, proofs/Spelling.
+-- The forms of a script's lines: the lines that spell a form, then what a line says, read off the line alone.
+-- `threadsLine` and `spelled` write the line of a form; `formOf` reads a line. That the one is the inverse of the other is shown in crates/forms, proofs/Spelling.
 use Prim.Native.Nat.{ℕ, suc, _+_, _-_}
 use mathlib.Core.Bool.{Bool, cond, _&&_}
 use mathlib.Core.List.{List, [], _∷_, _++_}
 use lib.Dec.{eqb}
 use lib.ListN.{length, getD, take, drop}
-use Rattle.definitions.specs.Bounds.{mostDepth}
-use Rattle.definitions.specs.Codes.{go, callShared, callExclusive, setMove, clearMove, relent}
-use Rattle.definitions.specs.Moves.{ask}
+use Rattle.definitions.specs.Bounds.{lastMove, mostDepth}
+use Rattle.definitions.specs.Codes.{setMove, clearMove}
+use Rattle.definitions.specs.Moves.{ask, namesThread}
 use Rattle.definitions.specs.Texts.{bytes, same, starts, Line, NumberRead, numberRead, decimal}
-use Rattle.definitions.specs.Threads.{every, between}
+use Rattle.definitions.specs.Threads.{every, gather, between}
 use Rattle.definitions.specs.declared.Request.{Request}
+
+-- ---- spelling
+
+-- "First `(threads N)`": the line that says N
+abbrev pub threadsLine : ℕ → List ℕ
+threadsLine n = bytes "(threads " ++ (decimal n ++ bytes ")")
+
+-- what stands behind T, by the move's number: "`(T (go))`, `(T (call shared))`, `(T (call exclusive))`, `(T (set K))`, `(T (clear K))`, `(T (relent))`"; "`(T (hold))`" (02 §1)
+unfoldable pub actText : ℕ → ℕ → List ℕ
+actText mv target =
+    getD
+    (bytes " (go))"
+    ∷ bytes " (call shared))"
+    ∷ bytes " (call exclusive))"
+    ∷ (bytes " (set " ++ (decimal target ++ bytes "))"))
+    ∷ (bytes " (clear " ++ (decimal target ++ bytes "))"))
+    ∷ bytes " (relent))"
+    ∷ bytes " (hold))"
+    ∷ [])
+    mv
+    []
+
+-- the line that says a request
+abbrev pub spelled : Request → List ℕ
+spelled r = bytes "(" ++ (decimal (r .thread) ++ actText (r .mv) (r .target))
 
 -- ---- reading
 
@@ -47,15 +72,24 @@ threadsForm r = cond (r .fits && same (r .rest) (bytes ")")) (threads (r .value)
 abbrev pub targetForm : ℕ → ℕ → NumberRead → Form
 targetForm thread mv r = cond (r .fits && same (r .rest) (bytes "))")) (request (ask thread mv (r .value))) bad
 
--- `(T (go))`, `(T (call shared))`, `(T (call exclusive))`, `(T (set K))`, `(T (clear K))`, `(T (relent))`, from the space behind T on
+-- `(T (set K))` and `(T (clear K))`, from the space behind T on
+unfoldable pub aimedForm : ℕ → List ℕ → Form
+aimedForm thread xs =
+    cond (starts (bytes " (set ") xs) (targetForm thread setMove (numberRead (drop 6 xs)))
+    (cond (starts (bytes " (clear ") xs) (targetForm thread clearMove (numberRead (drop 8 xs))) bad)
+
+-- the moves that name no thread: go, call shared, call exclusive, relent, hold
+unfoldable pub plainMoves : List ℕ
+plainMoves = gather (suc lastMove) (λ mv. cond (namesThread mv) [] (mv ∷ []))
+
+-- one of these moves, if the text is the one that spells it, or else another form
+unfoldable pub plainForm : ℕ → List ℕ → List ℕ → Form → Form
+plainForm thread xs [] other = other
+plainForm thread xs (mv ∷ mvs) other = cond (same xs (actText mv 0)) (request (ask thread mv 0)) (plainForm thread xs mvs other)
+
+-- what stands behind T, from the space on
 unfoldable pub actForm : ℕ → List ℕ → Form
-actForm thread xs =
-    cond (same xs (bytes " (go))")) (request (ask thread go 0))
-    (cond (same xs (bytes " (call shared))")) (request (ask thread callShared 0))
-    (cond (same xs (bytes " (call exclusive))")) (request (ask thread callExclusive 0))
-    (cond (same xs (bytes " (relent))")) (request (ask thread relent 0))
-    (cond (starts (bytes " (set ") xs) (targetForm thread setMove (numberRead (drop 6 xs)))
-    (cond (starts (bytes " (clear ") xs) (targetForm thread clearMove (numberRead (drop 8 xs))) bad)))))
+actForm thread xs = plainForm thread xs plainMoves (aimedForm thread xs)
 
 -- the thread's number, then the rest
 abbrev pub moveForm : NumberRead → Form
@@ -71,27 +105,3 @@ formOf line =
 -- a line's form; one that lacks its line feed is bad
 abbrev pub lineForm : Line → Form
 lineForm l = cond (l .ended) (formOf (l .text)) bad
-
--- ---- spelling
-
--- "First `(threads N)`": the line that says N
-abbrev pub threadsLine : ℕ → List ℕ
-threadsLine n = bytes "(threads " ++ (decimal n ++ bytes ")")
-
--- what stands behind T, by the move's number: "`(T (go))`, `(T (call shared))`, `(T (call exclusive))`, `(T (set K))`, `(T (clear K))`, `(T (relent))`"
-unfoldable pub actText : ℕ → ℕ → List ℕ
-actText mv target =
-    getD
-    (bytes " (go))"
-    ∷ bytes " (call shared))"
-    ∷ bytes " (call exclusive))"
-    ∷ (bytes " (set " ++ (decimal target ++ bytes "))"))
-    ∷ (bytes " (clear " ++ (decimal target ++ bytes "))"))
-    ∷ bytes " (relent))"
-    ∷ [])
-    mv
-    []
-
--- the line that says a request
-abbrev pub spelled : Request → List ℕ
-spelled r = bytes "(" ++ (decimal (r .thread) ++ actText (r .mv) (r .target))

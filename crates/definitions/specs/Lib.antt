@@ -1,4 +1,4 @@
--- The definitions of the scope paper, in its order. Each file opens with what it states.
+-- The definitions of the scope paper, in its order, with the change requests that have landed: "02 §1" is paragraph 1 of the paper of change requests. Each file opens with what it states.
 pub mod Bounds
 pub mod Codes
 pub mod Threads

@@ -8,7 +8,7 @@ use lib.Dec.{leb, ltb, eqb}
 use lib.ListN.{getD}
 use Rattle.definitions.specs.Answers.{Reply, Seen, shown, quiet, isAccepted, leaves, Test, test, answered}
 use Rattle.definitions.specs.Bounds.{lastMove, noTarget}
-use Rattle.definitions.specs.Codes.{go, setMove, clearMove}
+use Rattle.definitions.specs.Codes.{go, setMove, clearMove, hold}
 use Rattle.definitions.specs.Phases.{hasMove}
 use Rattle.definitions.specs.Sound.{sound}
 use Rattle.definitions.specs.Table.{Table, Write, mutex≔, target≔, phase≔, busy≔, forbidden≔, applied, Storage, byteTable}
@@ -51,7 +51,7 @@ goEffect s i =
     ∷ quietly (phase≔ i (cond (eqb (s .forbidden i) 0) 5 3) ∷ [])
     -- "3 to 4, busy := 0."
     ∷ quietly (phase≔ i 4 ∷ busy≔ i 0 ∷ [])
-    -- "4 to 1."
+    -- "4 to 1."; "Go in 4 still means that the time ran out." (02 §1)
     ∷ quietly (phase≔ i 1 ∷ [])
     -- "5 to 6, event 2."
     ∷ showing 2 (phase≔ i 6 ∷ [])
@@ -82,6 +82,8 @@ goEffect s i =
     ∷ quietly (phase≔ i 17 ∷ mutex≔ 0 ∷ [])
     -- "17 to 0, event 8."
     ∷ showing 8 (phase≔ i 0 ∷ [])
+    -- "Go in 18 leads to 1, mutex := 0." (02 §1)
+    ∷ quietly (phase≔ i 1 ∷ mutex≔ 0 ∷ [])
     ∷ [])
     (s .phase i)
     (quietly [])
@@ -111,6 +113,8 @@ effect s r =
     ∷ clearEffect s (r .thread) (r .target)
     -- "Relent: 11 to 12."
     ∷ quietly (phase≔ (r .thread) 12 ∷ [])
+    -- "New move 6, hold, target 0: phase 4 to 18, mutex := 1." (02 §1)
+    ∷ quietly (phase≔ (r .thread) 18 ∷ mutex≔ 1 ∷ [])
     ∷ [])
     (r .mv)
     (quietly [])
@@ -125,9 +129,13 @@ namesThread mv = eqb mv setMove || eqb mv clearMove
 abbrev pub targetFits : ℕ → ℕ → ℕ → Bool
 targetFits n mv t = cond (namesThread mv) (ltb t n) (eqb t 0)
 
--- refusal 7: "Go in phase 9 while the mutex is 1."
+-- the moves that take the mutex, by the mover's phase: a writer's go in 9 and a reader's hold in 4
+abbrev pub takesMutex : ℕ → ℕ → Bool
+takesMutex phase mv = eqb mv go && eqb phase 9 || eqb mv hold && eqb phase 4
+
+-- refusal 7: "Go in phase 9 while the mutex is 1."; "7 is also given to hold while the mutex is 1" (02 §1)
 abbrev pub mustWait : ℕ → ℕ → ℕ → Bool
-mustWait phase mutex mv = eqb mv go && (eqb phase 9 && eqb mutex 1)
+mustWait phase mutex mv = takesMutex phase mv && eqb mutex 1
 
 -- the refusals 3 to 7 of a request, in their order
 abbrev pub requestTests : Table → Request → List Test

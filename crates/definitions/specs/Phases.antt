@@ -4,15 +4,16 @@ use Prim.Native.Nat.{ℕ}
 use mathlib.Core.Bool.{Bool, true, false}
 use mathlib.Core.List.{List, [], _∷_}
 use lib.ListN.{getD}
-use Rattle.definitions.specs.Codes.{Free, ES, LOE, Shared, LS, EE, SAF, LOS, Exclusive, LE, OE, go, callShared, callExclusive, setMove, clearMove, relent}
+use Rattle.definitions.specs.Codes.{Free, ES, LOE, Shared, LS, EE, SAF, LOS, Exclusive, LE, OE, go, callShared, callExclusive, setMove, clearMove, relent, hold}
 use Rattle.definitions.specs.Threads.{among}
 
 pub record Row : Type 0 where
   -- "Phases and nodes (node codes 0 to 10 in this order): Free 0; phases 1 to 4 are ES; LOE 5; Shared 6; LS 7 and 8; EE 9; SAF 10 to 12; LOS 13; Exclusive 14; LE 15; OE 16 and 17."
+  -- "phase 18, part of ES" (02 §1)
   pub node : ℕ
   -- "busy is 1 exactly in phases 2, 3, 5, 6, 7"
   pub busy : ℕ
-  -- "at most one thread, the holder, is in 10 to 16": it holds the mutex
+  -- "at most one thread, the holder, is in 10 to 16": it holds the mutex; "The holder may now be in 18" (02 §1)
   pub holder : Bool
   -- phases 5 to 7: the reader has found its forbidden 0, and busy isn't lowered yet
   pub reader : Bool
@@ -37,8 +38,8 @@ rows =
     ∷ row ES 1 false false (go ∷ [])
     -- 3: p.busy := false
     ∷ row ES 1 false false (go ∷ [])
-    -- 4: again from p.busy := true
-    ∷ row ES 0 false false (go ∷ [])
+    -- 4: if mutex.timed_lock(), which hold is; go is that its time ran out, then again from p.busy := true
+    ∷ row ES 0 false false (go ∷ hold ∷ [])
     -- 5: enter_shared returns
     ∷ row LOE 1 false true (go ∷ [])
     -- 6: in the shared section
@@ -65,6 +66,8 @@ rows =
     ∷ row OE 0 true false (go ∷ [])
     -- 17: leave_exclusive returns
     ∷ row OE 0 false false (go ∷ [])
+    -- 18, in enter_shared behind 4: mutex.unlock(), then again from p.busy := true
+    ∷ row ES 0 true false (go ∷ [])
     ∷ []
 
 abbrev pub rowOf : ℕ → Row

@@ -19,7 +19,14 @@ anyHolder s = some (s .threads) (λ i. holds (s .phase i))
 abbrev pub holderIn : ℕ → ℕ → Table → Bool
 holderIn a b s = some (s .threads) (λ i. between a b (s .phase i))
 
--- "phases are at most 17"
+-- the holder's phases in which no thread is kept out: a writer's last, and that of a reader that waited at the mutex
+abbrev pub opened : ℕ → Bool
+opened phase = eqb phase 16 || eqb phase 18
+
+abbrev pub holderOpened : Table → Bool
+holderOpened s = some (s .threads) (λ i. opened (s .phase i))
+
+-- "phases are at most 17"; 18 with 02 §1
 unfoldable pub phaseRule : Table → Bool
 phaseRule s = every (s .threads) (λ i. leb (s .phase i) lastPhase)
 
@@ -31,7 +38,7 @@ flagRule s = every (s .threads) (λ i. leb (s .busy i) 1 && leb (s .forbidden i)
 unfoldable pub busyRule : Table → Bool
 busyRule s = every (s .threads) (λ i. eqb (s .busy i) (busyIn (s .phase i)))
 
--- "at most one thread, the holder, is in 10 to 16"
+-- "at most one thread, the holder, is in 10 to 16"; "The holder may now be in 18" (02 §1)
 unfoldable pub holderRule : Table → Bool
 holderRule s = leb (howMany (s .threads) (λ i. holds (s .phase i))) 1
 
@@ -44,10 +51,10 @@ unfoldable pub targetRule : Table → Bool
 targetRule s =
     cond (holderIn 11 12 s) (ltb (s .target) (s .threads) && eqb (s .forbidden (s .target)) 1) (eqb (s .target) noTarget)
 
--- "none, or 16: every forbidden is 0."
+-- "none, or 16: every forbidden is 0."; "The holder may now be in 18, and then every forbidden is 0." (02 §1)
 unfoldable pub openRule : Table → Bool
 openRule s =
-    implies (not (anyHolder s) || holderIn 16 16 s) (every (s .threads) (λ i. eqb (s .forbidden i) 0))
+    implies (not (anyHolder s) || holderOpened s) (every (s .threads) (λ i. eqb (s .forbidden i) 0))
 
 -- "10: some forbidden is 0; no thread with forbidden 1 is in 5 to 7."
 unfoldable pub rule10 : Table → Bool

@@ -8,8 +8,8 @@ ghost use Rattle.definitions.specs.Table.{countFits};
 // "N threads, 1 to 200"
 pub const MOST_THREADS: u8 = 200;
 
-// "phases are at most 17"
-pub const LAST_PHASE: u8 = 17;
+// "phases are at most 17"; "Add phase 18" (02 §1)
+pub const LAST_PHASE: u8 = 18;
 
 // How many phases there are.
 pub const PHASE_COUNT: usize = LAST_PHASE as usize + 1;
@@ -30,8 +30,11 @@ pub const CLEAR: u8 = 4;
 
 pub const RELENT: u8 = 5;
 
-// "The move is above 5."
-pub const LAST_MOVE: u8 = RELENT;
+// "New move 6, hold" (02 §1)
+pub const HOLD: u8 = 6;
+
+// "Refusal 4 is now a move above 6" (02 §1)
+pub const LAST_MOVE: u8 = HOLD;
 
 // "The history has an odd length or exceeds 60,000 bytes"
 pub const MOST_HISTORY: usize = 60_000;

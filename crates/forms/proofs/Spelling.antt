@@ -12,16 +12,18 @@ use lib.Dec.{T, leb, eqb, eqb→eq, le→leb, ltb→lt, lt→ltb, lit≤}
 use lib.ListN.{length, getD, take, drop, length-append}
 use lib.Seq.{take-all, take-suc, take-at, getD-at}
 use Rattle.definitions.specs.Bounds.{lastMove}
-use Rattle.definitions.specs.Codes.{go, callShared, callExclusive, setMove, clearMove, relent}
-use Rattle.definitions.specs.Forms.{Form, threads, request, note, bad, noteFits, noteForm, threadsForm, targetForm, actForm, moveForm, formOf, threadsLine, actText, spelled}
+use Rattle.definitions.specs.Codes.{go, callShared, callExclusive, setMove, clearMove, relent, hold}
+use Rattle.definitions.specs.Forms.{Form, threads, request, note, bad, threadsLine, actText, spelled}
+use Rattle.definitions.specs.Forms.{noteFits, noteForm, threadsForm, targetForm, aimedForm, plainMoves, plainForm, actForm, moveForm, formOf}
 use Rattle.definitions.specs.Moves.{ask, namesThread, targetFits}
 use Rattle.definitions.specs.Texts.{bytes, same, starts, isDigit, decimal, NumberRead, numberRead}
-use Rattle.definitions.specs.Threads.{listOf}
+use Rattle.definitions.specs.Threads.{listOf, gather, among}
 use Rattle.definitions.specs.declared.Request.{Request}
 use Rattle.forms.specs.Grammar.{numberBound, Spellable, RequestLine, NoteLine, Spells}
 use Rattle.theory.proofs.Cases.{or-at, none-of, among-range}
 use Rattle.theory.proofs.Digits.{digit-high}
-use Rattle.theory.proofs.Tests.{T-true, and-i, and-both, cond-either}
+use Rattle.theory.proofs.PlainMoves.{plain-e, plain-form}
+use Rattle.theory.proofs.Tests.{T-true, T-false, and-i, and-both, cond-either}
 use Rattle.theory.proofs.Texts.{same-eq}
 use Rattle.words.proofs.Comparisons.{starts-split}
 use Rattle.words.proofs.Numerals.{first-printed, read-printed, number-split}
@@ -64,14 +66,15 @@ module _ (thread mv target : ℕ) (fits : T (targetFits numberBound mv target)) 
       rw e (a below)
 
   act-read : mv ≤ lastMove → ActRead thread mv target
-  unfolding actForm actText bytes same listOf
+  unfolding actForm plainForm plainMoves gather aimedForm actText bytes same listOf
   act-read l =
       or-at mv go _ (alone go refl (record { behind = refl; reads = refl }))
       (or-at mv callShared _ (alone callShared refl (record { behind = refl; reads = refl }))
       (or-at mv callExclusive _ (alone callExclusive refl (record { behind = refl; reads = refl }))
       (or-at mv setMove _ (aimed setMove refl (λ h. record { behind = refl; reads = ap (targetForm thread setMove) (read-printed target (bytes "))") h refl) }))
       (or-at mv clearMove _ (aimed clearMove refl (λ h. record { behind = refl; reads = ap (targetForm thread clearMove) (read-printed target (bytes "))") h refl) }))
-      (or-at mv relent _ (alone relent refl (record { behind = refl; reads = refl })) (none-of mv))))))
+      (or-at mv relent _ (alone relent refl (record { behind = refl; reads = refl }))
+      (or-at mv hold _ (alone hold refl (record { behind = refl; reads = refl })) (none-of mv)))))))
       (among-range mv 0 lastMove (and-i (leb 0 mv) (leb mv lastMove) (le→leb 0 mv (omega arith)) (le→leb mv lastMove l)))
 
 pub request-read : (r : Request) → Spellable r → formOf (spelled r) ≡ request r
@@ -122,11 +125,12 @@ module _ (line : List ℕ) where
     behind-thread ys q = e ∙ ap (λ (l : List ℕ). bytes "(" ++ (decimal thread ++ l)) q
 
     -- a move that names no thread
-    plain-spelled : (k : ℕ) → k ≤ lastMove → namesThread k ≡ false → T (same xs (actText k 0)) → RequestLine line (ask thread k 0)
-    plain-spelled k l names t =
+    plain-spelled : (k : ℕ) → T (among k plainMoves) → xs ≡ actText k 0 → RequestLine line (ask thread k 0)
+    plain-spelled k m q =
+        let p = plain-e k m in
         record {
-          can-be = record { thread-fits = h; move-fits = l; target-fits = rw names tt };
-          is-spelled = behind-thread (actText k 0) (same-eq xs (actText k 0) (T-true (same xs (actText k 0)) t));
+          can-be = record { thread-fits = h; move-fits = p .0; target-fits = rw (T-false (namesThread k) (p .1)) tt };
+          is-spelled = behind-thread (actText k 0) q;
         }
 
     -- one that does, by the word that it begins with
@@ -140,15 +144,13 @@ module _ (line : List ℕ) where
         })
 
     act-spelled : Spells line (actForm thread xs)
-    unfolding actForm actText bytes
+    unfolding actForm aimedForm actText bytes
     act-spelled =
-        cond-either (Spells line) (same xs (bytes " (go))")) _ _ (plain-spelled go (lit≤ tt) refl)
-        (λ t1. cond-either (Spells line) (same xs (bytes " (call shared))")) _ _ (plain-spelled callShared (lit≤ tt) refl)
-        (λ t2. cond-either (Spells line) (same xs (bytes " (call exclusive))")) _ _ (plain-spelled callExclusive (lit≤ tt) refl)
-        (λ t3. cond-either (Spells line) (same xs (bytes " (relent))")) _ _ (plain-spelled relent (lit≤ tt) refl)
-        (λ t4. cond-either (Spells line) (starts (bytes " (set ") xs) _ _ (aimed-spelled setMove (bytes " (set ") (lit≤ tt) refl (λ n. refl))
-        (λ t5. cond-either (Spells line) (starts (bytes " (clear ") xs) _ _ (aimed-spelled clearMove (bytes " (clear ") (lit≤ tt) refl (λ n. refl))
-        (λ t6. tt))))))
+        plain-form (Spells line) thread xs (aimedForm thread xs)
+        (cond-either (Spells line) (starts (bytes " (set ") xs) _ _ (aimed-spelled setMove (bytes " (set ") (lit≤ tt) refl (λ n. refl))
+        (λ t1. cond-either (Spells line) (starts (bytes " (clear ") xs) _ _ (aimed-spelled clearMove (bytes " (clear ") (lit≤ tt) refl (λ n. refl))
+        (λ t2. tt)))
+        plainMoves plain-spelled
 
   -- a note's text, and its own bracket
   note-spelled : (xs : List ℕ) → line ≡ bytes "(note " ++ xs → Spells line (noteForm xs)

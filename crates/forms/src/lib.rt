@@ -3,6 +3,7 @@ use definitions::CALL_EXCLUSIVE;
 use definitions::CALL_SHARED;
 use definitions::CLEAR;
 use definitions::GO;
+use definitions::HOLD;
 use definitions::RELENT;
 use definitions::Request;
 use definitions::SET;
@@ -13,10 +14,10 @@ use words::read_number;
 use words::same_text;
 use words::starts_with;
 ghost use mathlib.Core.Path.{_≡_};
-ghost use Rattle.definitions.specs.Forms.{noteForm, threadsForm, targetForm, actForm, moveForm, formOf};
+ghost use Rattle.definitions.specs.Forms.{noteForm, threadsForm, targetForm, aimedForm, actForm, moveForm, formOf};
 ghost use Rattle.definitions.specs.Moves.{ask};
 ghost use Rattle.definitions.specs.Texts.{numberRead};
-ghost use Rattle.forms.specs.Readings.{formFor, aimedForm};
+ghost use Rattle.forms.specs.Readings.{formFor};
 
 // What a line says. What each case means stands in specs/Readings.antt.
 pub enum Form {
@@ -85,6 +86,9 @@ fn read_act(thread: u16, part: &[u8]) -> Form
     }
     if same_text(part, b" (relent))") {
         return asking(thread, RELENT as u16, 0);
+    }
+    if same_text(part, b" (hold))") {
+        return asking(thread, HOLD as u16, 0);
     }
     read_aimed(thread, part)
 }

@@ -43,7 +43,7 @@ fn node_of(phase: u8) -> u8
     ensures { λ r. ⌜ r ≡ nodeOf phase ⌝ }
 {
     match phase {
-        1..=4 => ES,
+        1..=4 | 18 => ES,
         5 => LOE,
         6 => SHARED,
         7..=8 => LS,

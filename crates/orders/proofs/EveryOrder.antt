@@ -14,6 +14,7 @@ use Rattle.definitions.specs.Answers.{accepted, refused, filled, deliveryReply,
 use Rattle.definitions.specs.Bounds.{mostThreads}
 use Rattle.definitions.specs.Chains.{historyIn, history, requestsOf}
 use Rattle.definitions.specs.Forms.{Form, threads, request, note, bad, lineForm}
+use Rattle.definitions.specs.Phases.{rows}
 use Rattle.definitions.specs.PlainLock.{Pair, pairsOf, atStart, permitted, checkReply}
 use Rattle.definitions.specs.Plan.{plan, bytesOf, planEntry}
 use Rattle.definitions.specs.Run.{eventLines, runOutputOf}
@@ -40,7 +41,7 @@ use Rattle.orders.proofs.Safety.{shown-permitted}
 
 -- Whatever requests are made to a fresh table, with any numbers, refused ones among them: what they show is permitted.
 pub safe : (n : ℕ) → 1 ≤ n → n ≤ mostThreads → (rs : List Request) → T (permitted n (history (fresh n) rs))
-unfolding placeOf
+unfolding placeOf rows
 safe n least most rs =
     rw (permitted-is n (history (fresh n) rs), history-fresh n least most rs) (shown-permitted (freshTable n) rs (fresh-fits n))
 

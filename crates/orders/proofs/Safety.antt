@@ -25,7 +25,7 @@ use Rattle.theory.proofs.Soundness.{All, Sound, sound-e}
 use Rattle.theory.proofs.Storages.{accepts-e, refused-stays}
 use Rattle.theory.proofs.Tests.{and-i, implies-e, decided, not-i}
 use Rattle.theory.proofs.Ways.{Way, accepted-e, way}
-use Rattle.theory.proofs.Ways.{call-shared, raise-busy, find-open, find-forbidden, back-off, try-again, enter-shared, leave-shared, lower-busy, return-shared}
+use Rattle.theory.proofs.Ways.{call-shared, raise-busy, find-open, find-forbidden, back-off, try-again, hold-mutex, give-back, enter-shared, leave-shared, lower-busy, return-shared}
 use Rattle.theory.proofs.Ways.{call-exclusive, take-mutex, set-flag, find-busy, last-flag, next-flag, relents, give-up, enter-exclusive, leave-exclusive}
 use Rattle.theory.proofs.Ways.{set-again, clear-flag, clear-last, release-mutex, return-exclusive}
 use Rattle.theory.proofs.Writes.{applied-keeps}
@@ -77,7 +77,7 @@ module _ (s : Table) (rules : Sound s) where
       other : (j : ℕ) → s .phase j ≡ 14 → i ≡ j → ⊥
       other j e same = let z : _≡_ {A = ℕ} 13 14 = sym at ∙ (ap (s .phase) same ∙ e) in omega arith
 
-module _ (s : Table) (i t : ℕ) (rules : Sound s) (fits : i < s .threads) where
+module _ (s : Table) (i mv t : ℕ) (rules : Sound s) (fits : i < s .threads) where
   -- thread i shows event e and goes from phase a to phase b
   event : (a b e : ℕ) → s .phase i ≡ a → T (between firstEvent lastEvent e) → T (isNext (placeOf a) e) → T (needMet (s .threads) (placesOf s) e) → placeOf b ≡ placeAfter e
       → View s i (showing e (phase≔ i b ∷ []))
@@ -92,33 +92,35 @@ module _ (s : Table) (i t : ℕ) (rules : Sound s) (fits : i < s .threads) where
   same-place a b at e = kept (s .phase) i placeOf b (ap placeOf at ∙ e)
 
   -- "event 1", "event 5", .. as the moves have them; the others keep the place
-  view : (e : Effect) → Way s i t e → View s i e
-  unfolding placeOf
-  view e (call-shared at) = event 0 1 1 at tt tt tt refl
-  view e (call-exclusive at) = event 0 9 5 at tt tt tt refl
-  view e (raise-busy at) = unseen _ (same-place 1 2 at refl)
-  view e (find-open at f) = unseen _ (same-place 2 5 at refl)
-  view e (find-forbidden at f) = unseen _ (same-place 2 3 at refl)
-  view e (back-off at) = unseen _ (same-place 3 4 at refl)
-  view e (try-again at) = unseen _ (same-place 4 1 at refl)
-  view e (enter-shared at) = event 5 6 2 at tt tt (no-writer s rules i fits at) refl
-  view e (leave-shared at) = event 6 7 3 at tt tt tt refl
-  view e (lower-busy at) = unseen _ (same-place 7 8 at refl)
-  view e (return-shared at) = event 8 0 4 at tt tt tt refl
-  view e (take-mutex at f) = unseen _ (same-place 9 10 at refl)
-  view e (find-busy at f) = unseen _ (same-place 11 12 at refl)
-  view e (last-flag at f g) = unseen _ (same-place 11 13 at refl)
-  view e (next-flag at f g) = unseen _ (same-place 11 10 at refl)
-  view e (give-up at) = unseen _ (same-place 12 10 at refl)
-  view e (enter-exclusive at) = event 13 14 6 at tt tt (nobody s rules i fits at) refl
-  view e (leave-exclusive at) = event 14 15 7 at tt tt tt refl
-  view e (release-mutex at) = unseen _ (same-place 16 17 at refl)
-  view e (return-exclusive at) = event 17 0 8 at tt tt tt refl
-  view e (set-flag at l) = unseen _ (same-place 10 11 at refl)
+  view : (e : Effect) → Way s i mv t e → View s i e
+  unfolding placeOf rows
+  view e (call-shared at) = event _ _ 1 at tt tt tt refl
+  view e (call-exclusive at) = event _ _ 5 at tt tt tt refl
+  view e (raise-busy at) = unseen _ (same-place _ _ at refl)
+  view e (find-open at f) = unseen _ (same-place _ _ at refl)
+  view e (find-forbidden at f) = unseen _ (same-place _ _ at refl)
+  view e (back-off at) = unseen _ (same-place _ _ at refl)
+  view e (try-again at) = unseen _ (same-place _ _ at refl)
+  view e (hold-mutex m at f) = unseen _ (same-place _ _ at refl)
+  view e (give-back m at) = unseen _ (same-place _ _ at refl)
+  view e (enter-shared at) = event _ _ 2 at tt tt (no-writer s rules i fits at) refl
+  view e (leave-shared at) = event _ _ 3 at tt tt tt refl
+  view e (lower-busy at) = unseen _ (same-place _ _ at refl)
+  view e (return-shared at) = event _ _ 4 at tt tt tt refl
+  view e (take-mutex m at f) = unseen _ (same-place _ _ at refl)
+  view e (find-busy at f) = unseen _ (same-place _ _ at refl)
+  view e (last-flag at f g) = unseen _ (same-place _ _ at refl)
+  view e (next-flag at f g) = unseen _ (same-place _ _ at refl)
+  view e (give-up at) = unseen _ (same-place _ _ at refl)
+  view e (enter-exclusive at) = event _ _ 6 at tt tt (nobody s rules i fits at) refl
+  view e (leave-exclusive at) = event _ _ 7 at tt tt tt refl
+  view e (release-mutex m at) = unseen _ (same-place _ _ at refl)
+  view e (return-exclusive at) = event _ _ 8 at tt tt tt refl
+  view e (set-flag at l) = unseen _ (same-place _ _ at refl)
   view e (set-again at l) = unseen _ refl
-  view e (clear-last at l f) = unseen _ (same-place 15 16 at refl)
+  view e (clear-last at l f) = unseen _ (same-place _ _ at refl)
   view e (clear-flag at l f) = unseen _ refl
-  view e (relents at) = unseen _ (same-place 11 12 at refl)
+  view e (relents at) = unseen _ (same-place _ _ at refl)
 
 -- ---- a list of requests
 
@@ -150,5 +152,5 @@ shown-permitted s (r ∷ rs) g = choose (λ t k. shown-permitted t rs k) (decide
         let u = applied s (effect s r .writes) in
         rw (own-reply s r ok, own-step s r ok)
         (view-then s (r .thread) (effect s r) (historyIn itself u rs)
-        (view s (r .thread) (r .target) (sound-e s g) (a .thread-fits) (effect s r) (way s r a))
+        (view s (r .thread) (r .mv) (r .target) (sound-e s g) (a .thread-fits) (effect s r) (way s r a))
         (subst (λ (n : ℕ). T (permittedFrom n (placesOf u) (historyIn itself u rs))) (applied-keeps s (effect s r .writes)) (rec u (kept-sound s r ok))))

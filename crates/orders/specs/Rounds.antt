@@ -2,13 +2,13 @@
 use Prim.Native.Nat.{ℕ}
 use mathlib.Core.List.{[], _∷_}
 use lib.ListN.{getD}
+use Rattle.definitions.specs.Phases.{nodeOf}
 use Rattle.definitions.specs.PlainLock.{Places}
 use Rattle.definitions.specs.Table.{Table}
 
--- the place of a thread in each phase, 0 to 17: its last event's code, 0 before the first and after a 4 or 8
+-- the place of a thread, its last event's code, 0 before the first and after a 4 or 8, by its node: from Free, ES and LOE on, in the order of their codes
 unfoldable pub placeOf : ℕ → ℕ
-placeOf phase =
-    getD (0 ∷ 1 ∷ 1 ∷ 1 ∷ 1 ∷ 1 ∷ 2 ∷ 3 ∷ 3 ∷ 5 ∷ 5 ∷ 5 ∷ 5 ∷ 5 ∷ 6 ∷ 7 ∷ 7 ∷ 7 ∷ []) phase 0
+placeOf phase = getD (0 ∷ 1 ∷ 1 ∷ 2 ∷ 3 ∷ 5 ∷ 5 ∷ 5 ∷ 6 ∷ 7 ∷ 7 ∷ []) (nodeOf phase) 0
 
 abbrev pub placesOf : Table → Places
 placesOf s = λ t. placeOf (s .phase t)

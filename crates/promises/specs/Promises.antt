@@ -28,7 +28,7 @@ use Rattle.orders.specs.Histories.{mostEvents, historyBytes, AllBytes, Passes, 
 use Rattle.runs.specs.Requests.{Closes, requestsIn, movesOf, threadsOf, moveLines}
 use Rattle.soundness.specs.Pass.{foundOf, passes}
 use Rattle.theory.specs.Outputs.{Delivered}
-use Rattle.theory.specs.Statements.{OutsideView, MayWrite, Disciplined, readerMove, Agree, Stands}
+use Rattle.theory.specs.Statements.{OutsideView, writesMutex, MayWrite, Disciplined, atMutex, localMove, Agree, Stands}
 use Rattle.theory.specs.Tables.{SoundBytes, Keeps}
 use Rattle.wospinzo.specs.Encoding.{moveNumber, countNumber}
 use Rattle.printout.proofs.print_input.Statement as printing
@@ -98,15 +98,21 @@ pub record Promises (M : Type 1) : Type 2 where
   -- The soundness test makes one pass over the threads: what it decides is `sound`.
   pub one-pass : (s : Table) → passes s (foundOf s (s .threads)) ≡ sound s
   -- Who writes what, by the table's bytes and by their kinds.
-  pub discipline : (table : List ℕ) (r : Request) (k : ℕ) → (MayWrite (r .thread) (tableOf table .phase (r .thread)) k → ⊥)
+  pub discipline : (table : List ℕ) (r : Request) (k : ℕ) → (MayWrite r (tableOf table .phase (r .thread)) k → ⊥)
       → getD (moveTable table r) k 0 ≡ getD table k 0
-  pub disciplined : (table : List ℕ) (r : Request) → Disciplined (tableOf table) (r .thread) (tableOf (moveTable table r))
-  -- What a reader writes, and what it uses: its own three bytes decide its reply and what it writes.
-  pub reader-writes : (table : List ℕ) (r : Request) → T (readerMove (tableOf table) r)
+  pub disciplined : (table : List ℕ) (r : Request) → Disciplined (tableOf table) r (tableOf (moveTable table r))
+  -- An accepted move that may write the mutex does: it is 1 after it if it was 0 before, and 0 if it was 1.
+  pub mutex-turned : (table : List ℕ) (r : Request) → T (acceptsIn byteTable table r) → T (writesMutex (tableOf table .phase (r .thread)) (r .mv))
+      → tableOf table .mutex + tableOf (moveTable table r) .mutex ≡ 1
+  -- What a reader writes, and what it uses, in all its moves but hold in 4 and go in 18: its own three bytes decide its reply and what it writes.
+  pub reader-writes : (table : List ℕ) (r : Request) → T (localMove (tableOf table) r)
       → (k : ℕ) → (k ≡ phaseAt (r .thread) → ⊥) → (k ≡ busyAt (r .thread) → ⊥) → getD (moveTable table r) k 0 ≡ getD table k 0
   pub reader-local : (a b : List ℕ) (r : Request) → SoundBytes a → SoundBytes b
-      → Agree (tableOf a) (tableOf b) (r .thread) → T (readerMove (tableOf a) r)
+      → Agree (tableOf a) (tableOf b) (r .thread) → T (localMove (tableOf a) r)
       → (moveReply a r ≡ moveReply b r) × Agree (tableOf (moveTable a r)) (tableOf (moveTable b r)) (r .thread)
+  -- Those two write the mutex.
+  pub reader-at-mutex : (table : List ℕ) (r : Request) → T (acceptsIn byteTable table r) → T (atMutex (tableOf table) r)
+      → tableOf table .mutex + tableOf (moveTable table r) .mutex ≡ 1
   -- The open moves are pairs, and exactly the requests that are accepted.
   pub open-paired : (table : List ℕ) (thread : ℕ) → (n : ℕ) × (length (openMoves (tableOf table) thread) ≡ 2 * n)
   pub open-exact : (table : List ℕ) (thread mv target : ℕ)

@@ -10,7 +10,7 @@ use Rattle.definitions.specs.Threads.{every, among}
 use Rattle.requests.specs.RequestTests.{bitsBelow, moveBits, hasBit}
 use Rattle.theory.proofs.Quantifiers.{every-at}
 
-agrees-eq : (a b : Bool) → T (Bool·beq a b) → a ≡ b
+pub agrees-eq : (a b : Bool) → T (Bool·beq a b) → a ≡ b
 agrees-eq true true t = refl
 agrees-eq true false t = absurd t
 agrees-eq false true t = absurd t

@@ -1,38 +1,40 @@
 // Which moves a phase has, and the tests 4 to 7 of a request, by value and apart from any storage.
 use definitions::CLEAR;
-use definitions::GO;
+use definitions::HOLD;
 use definitions::LAST_MOVE;
 use definitions::PHASE_COUNT;
 use definitions::Refusal;
 use definitions::SET;
 ghost use Prim.Native.Nat.{_≤_};
 ghost use mathlib.Core.Path.{_≡_};
+ghost use lib.Dec.{T};
 ghost use Rattle.definitions.specs.Answers.{answered};
 ghost use Rattle.definitions.specs.Bounds.{lastPhase, lastMove};
 ghost use Rattle.definitions.specs.Moves.{namesThread, targetFits, mustWait};
 ghost use Rattle.definitions.specs.Phases.{hasMove};
 ghost use Rattle.requests.specs.RequestTests.{testedReply, laterTests, moveBits, hasBit, targetsOf};
 
-// Which moves each phase has, one bit a move: go, call shared, call exclusive, set, clear, relent from the lowest bit on.
+// Which moves each phase has, one bit a move: go, call shared, call exclusive, set, clear, relent, hold from the lowest bit on.
 pub const MOVES: [u8; PHASE_COUNT] = [
-    0b000110,
-    0b000001,
-    0b000001,
-    0b000001,
-    0b000001,
-    0b000001,
-    0b000001,
-    0b000001,
-    0b000001,
-    0b000001,
-    0b001000,
-    0b100001,
-    0b000001,
-    0b000001,
-    0b000001,
-    0b011000,
-    0b000001,
-    0b000001,
+    0b0000110,
+    0b0000001,
+    0b0000001,
+    0b0000001,
+    0b1000001,
+    0b0000001,
+    0b0000001,
+    0b0000001,
+    0b0000001,
+    0b0000001,
+    0b0001000,
+    0b0100001,
+    0b0000001,
+    0b0000001,
+    0b0000001,
+    0b0011000,
+    0b0000001,
+    0b0000001,
+    0b0000001,
 ];
 
 // A request that passed its tests, or why it is turned down.
@@ -91,11 +93,13 @@ fn has_move(phase: u8, mv: u8) -> bool
     has_bit(moves, mv)
 }
 
-// Refusal 7: "Go in phase 9 while the mutex is 1."
+// Refusal 7, of a move that the phase has: "Go in phase 9 while the mutex is 1."; "7 is also given to hold while the mutex
+// is 1" (02 §1). Go is all that phase 9 has, and phase 4 alone has hold.
 pub fn must_wait(phase: u8, mutex: u8, mv: u8) -> bool
-    ensures { λ r. ⌜ r ≡ mustWait phase mutex mv ⌝ }
+    requires { ⌜ (phase ≤ lastPhase) × (mv ≤ lastMove) ⌝ }
+    ensures { λ r. ⌜ (T (hasMove mv phase) → r ≡ mustWait phase mutex mv) ⌝ }
 {
-    (mv == GO) & ((phase == 9) & (mutex == 1))
+    ((phase == 9) | (mv == HOLD)) & (mutex == 1)
 }
 
 // The tests 4 to 7 of a request by a thread in a phase, in their order.

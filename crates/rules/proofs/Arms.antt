@@ -13,16 +13,17 @@ use Rattle.definitions.specs.Phases.{rows, hasMove}
 use Rattle.definitions.specs.Table.{Table, phase≔, target≔, forbidden≔}
 use Rattle.definitions.specs.Threads.{every, among, between, implies}
 use Rattle.definitions.specs.declared.Request.{Request}
-use Rattle.rules.specs.View.{subjectBy, subjectOf, allForbiddenBut, viewAt, viewOf, cellsAfter, withPhase, withTarget, withForbidden, quietBy, probed, Follows, Decides}
+use Rattle.rules.specs.View.{allForbiddenBut, viewAt, viewOf, cellsAfter, withPhase, withTarget, withForbidden, quietBy, probed, Follows, Decides}
 use Rattle.rules.specs.declared.Cells.{Cells}
 use Rattle.rules.specs.declared.Decided.{Decided}
 use Rattle.rules.specs.declared.View.{View}
-use Rattle.theory.proofs.Matches.{NoneOf, not-among}
+use Rattle.theory.specs.Statements.{subjectBy, subjectOf}
+use Rattle.theory.proofs.Matches.{NoneOf, not-among, backwards}
 use Rattle.theory.proofs.Quantifiers.{every-at, every-i}
 use Rattle.theory.proofs.Soundness.{sound-e}
 use Rattle.theory.proofs.Tests.{and-l, and-r, and-i, or-e, or-r, no-both, same-test, implies-e}
-use Rattle.theory.proofs.Ways.{accepted-e}
-use Rattle.rules.proofs.Subject.{subject-by, subject-thread}
+use Rattle.theory.proofs.Ways.{accepted-e, goPhases}
+use Rattle.theory.proofs.Writers.{subject-by, subject-thread}
 
 -- ---- one arm
 
@@ -163,23 +164,23 @@ clear-arm v d q =
 -- ---- numbers without an arm
 
 -- the phases that have an arm in go, the last first: those that have a go, by trying the phases
-abbrev pub goPhases : List ℕ
-goPhases = 17 ∷ 16 ∷ 14 ∷ 13 ∷ 12 ∷ 11 ∷ 9 ∷ 8 ∷ 7 ∷ 6 ∷ 5 ∷ 4 ∷ 3 ∷ 2 ∷ 1 ∷ []
+abbrev pub armsOfGo : List ℕ
+armsOfGo = backwards goPhases
 
-has-arm : (p : ℕ) → p ≤ lastPhase → T (hasMove go p) → T (among p goPhases)
+has-arm : (p : ℕ) → p ≤ lastPhase → T (hasMove go p) → T (among p armsOfGo)
 unfolding rows every among
 has-arm p l t =
-    implies-e (hasMove go p) (among p goPhases) (every-at (λ q. implies (hasMove go q) (among q goPhases)) (suc lastPhase) tt p (omega arith)) t
+    implies-e (hasMove go p) (among p armsOfGo) (every-at (λ q. implies (hasMove go q) (among q armsOfGo)) (suc lastPhase) tt p (omega arith)) t
 
-pub idle-arm : (v : View) (d : Decided) → NoneOf (v .cells .phase) goPhases → Decides v go d
+pub idle-arm : (v : View) (d : Decided) → NoneOf (v .cells .phase) armsOfGo → Decides v go d
 idle-arm v d h s r a e seen =
     let k = accepted-e s r a in
     let p = s .phase (r .thread) in
     let same : v .cells .phase ≡ p = ap (λ (x : View). x .cells .phase) seen in
     let has : T (hasMove go p) = subst (λ (m : ℕ). T (hasMove m p)) e (k .has-move) in
-    absurd (no-both (among (v .cells .phase) goPhases)
-    (subst⁻¹ (λ (x : ℕ). T (among x goPhases)) same (has-arm p (sound-e s (k .is-sound) .phases (r .thread) (k .thread-fits)) has))
-    (not-among (v .cells .phase) goPhases h))
+    absurd (no-both (among (v .cells .phase) armsOfGo)
+    (subst⁻¹ (λ (x : ℕ). T (among x armsOfGo)) same (has-arm p (sound-e s (k .is-sound) .phases (r .thread) (k .thread-fits)) has))
+    (not-among (v .cells .phase) armsOfGo h))
 
 pub no-arm : (v : View) (mv : ℕ) (d : Decided) → lastMove < mv → Decides v mv d
 no-arm v mv d l s r a e seen = let k = accepted-e s r a .move-fits in absurd (omega arith)

@@ -7,25 +7,19 @@ use mathlib.Core.Path.{_≡_}
 use lib.Dec.{T, eqb}
 use Rattle.definitions.specs.Answers.{outcomeReply, accepted}
 use Rattle.definitions.specs.Bounds.{noTarget}
-use Rattle.definitions.specs.Moves.{Effect, namesThread, noneForbiddenBut, effect, accepts}
+use Rattle.definitions.specs.Moves.{Effect, noneForbiddenBut, effect, accepts}
 use Rattle.definitions.specs.Table.{Table, Write, mutex≔, target≔, phase≔, busy≔, forbidden≔}
-use Rattle.definitions.specs.Threads.{every, between}
+use Rattle.definitions.specs.Threads.{every}
 use Rattle.definitions.specs.declared.Event.{Event}
 use Rattle.definitions.specs.declared.Outcome.the-variants.{Quiet, Shown}
 use Rattle.definitions.specs.declared.Request.{Request}
+use Rattle.theory.specs.Statements.{subjectOf}
 use Rattle.rules.specs.declared.Cells.{Cells}
 use Rattle.rules.specs.declared.Decided.{Decided}
 use Rattle.rules.specs.declared.Others.{Others}
 use Rattle.rules.specs.declared.View.{View}
 
 -- ---- what is loaded
-
--- the thread whose busy a move may read and whose forbidden it may write: that of the request for set and clear, the table's target in phases 11 and 12, else the mover
-unfoldable pub subjectBy : Request → ℕ → ℕ → ℕ
-subjectBy r phase target = cond (namesThread (r .mv)) (r .target) (cond (between 11 12 phase) target (r .thread))
-
-abbrev pub subjectOf : Table → Request → ℕ
-subjectOf s r = subjectBy r (s .phase (r .thread)) (s .target)
 
 -- the bytes that a move of thread i with subject t may write
 abbrev pub cellsOf : Table → ℕ → ℕ → Cells

@@ -4,6 +4,7 @@ use definitions::CALL_SHARED;
 use definitions::CLEAR;
 use definitions::Event;
 use definitions::GO;
+use definitions::HOLD;
 use definitions::NO_TARGET;
 use definitions::Outcome;
 use definitions::RELENT;
@@ -15,11 +16,12 @@ ghost use mathlib.Core.Path.{_≡_};
 ghost use lib.Dec.{eqb};
 ghost use Rattle.definitions.specs.Bounds.{mostThreads, lastMove, noTarget};
 ghost use Rattle.definitions.specs.Codes.{go, setMove, clearMove};
-ghost use Rattle.rules.specs.View.{subjectBy, othersBy, Decides, withPhase, withBusy, withMutex, withTarget, withForbidden, quietBy, shownBy, probed};
+ghost use Rattle.theory.specs.Statements.{subjectBy};
+ghost use Rattle.rules.specs.View.{othersBy, Decides, withPhase, withBusy, withMutex, withTarget, withForbidden, quietBy, shownBy, probed};
 
 // The phases of Table 1 of source document 000, by number:
-//  0 Free; 1 to 4 the reader raises busy, looks at its forbidden, and lowers busy where it is 1; 5 LOE; 6 Shared; 7, 8 it
-//  lowers busy and leaves;
+//  0 Free; 1 to 4 the reader raises busy, looks at its forbidden, and lowers busy where it is 1; 18 it holds the mutex
+//  before it tries again; 5 LOE; 6 Shared; 7, 8 it lowers busy and leaves;
 //  9 EE; 10 to 12 the writer holds the mutex and sets a forbidden, looks at that thread's busy, or takes the forbidden back;
 // 13 LOS; 14 Exclusive; 15 it clears every forbidden; 16, 17 it lets the mutex go and leaves.
 
@@ -187,6 +189,7 @@ fn go(v: View) -> Decided
         14 => show(cells, 15, Event::LeaveExclusiveCall),
         16 => set_mutex(cells, 17, 0),
         17 => show(cells, 0, Event::LeaveExclusiveReturn),
+        18 => set_mutex(cells, 1, 0),
         _ => step(cells, phase),
     }
 }
@@ -230,6 +233,7 @@ pub fn decide(v: View, mv: u8) -> Decided
         SET => set_flag(v),
         CLEAR => clear_flag(v),
         RELENT => step(cells, 12),
+        HOLD => set_mutex(cells, 18, 1),
         _ => step(cells, phase),
     }
 }

@@ -4,17 +4,21 @@ use native.Mathlib.Omega.{arith}
 use mathlib.Core.Bool.{Bool, true, false, cond, _&&_, _||_}
 use mathlib.Core.List.{List, [], _∷_}
 use mathlib.Core.Path.{_≡_, refl, ap, _∙_}
-use lib.Dec.{T, eqb}
+use lib.Dec.{T, leb, eqb, leb→le}
 use lib.ListN.{length, getD, take, drop, length-drop}
 use Rattle.definitions.specs.Answers.{Reply, accepted, refused, Seen, Test, answered}
-use Rattle.definitions.specs.Codes.{go, callShared, callExclusive, setMove, clearMove, relent}
-use Rattle.definitions.specs.Forms.{Form, threads, request, note, bad, noteFits, noteForm, threadsForm, targetForm, actForm, moveForm, formOf, lineForm}
+use Rattle.definitions.specs.Bounds.{lastMove}
+use Rattle.definitions.specs.Codes.{callShared, callExclusive, setMove, clearMove}
+use Rattle.definitions.specs.Forms.{Form, threads, request, note, bad, actText, noteFits, noteForm, threadsForm, targetForm, aimedForm, plainMoves, actForm, moveForm, formOf, lineForm}
 use Rattle.definitions.specs.Moves.{ask, replyIn, moveReply}
 use Rattle.definitions.specs.Run.{Turn, stops, passes, makes, turnFor, turnOf}
-use Rattle.definitions.specs.Texts.{bytes, same, starts, lineFeed, Line, inFront, linesOf, decimal, NumberRead, numberRead}
+use Rattle.definitions.specs.Texts.{bytes, same, starts, lineFeed, Line, inFront, linesOf, decimalWithin, decimal, NumberRead, numberRead}
+use Rattle.definitions.specs.Threads.{every, implies}
 use Rattle.definitions.specs.declared.Request.{Request}
-use Rattle.theory.proofs.Tests.{T-true, cond-either}
-use Rattle.theory.proofs.Texts.{same-eq, starts-length}
+use Rattle.theory.proofs.PlainMoves.{plain-e, plain-form}
+use Rattle.theory.proofs.Quantifiers.{every-at}
+use Rattle.theory.proofs.Tests.{T-true, and-l, and-r, implies-e, cond-either}
+use Rattle.theory.proofs.Texts.{starts-length}
 use Rattle.runs.proofs.Numbers.{printed-digits, digits-split}
 
 -- ---- the bytes of lines
@@ -53,9 +57,6 @@ lines-count (c ∷ cs) =
 
 -- ---- the bytes of a request's line
 
-same-length : (xs ys : List ℕ) → T (same xs ys) → length xs ≡ length ys
-same-length xs ys t = ap length (same-eq xs ys (T-true (same xs ys) t))
-
 starts-split : (p xs : List ℕ) → T (starts p xs) → length xs ≡ length p + length (drop (length p) xs)
 starts-split p xs t = omega (arith, length-drop (length p) xs, starts-length p xs (T-true (starts p xs) t))
 
@@ -77,25 +78,36 @@ target-long : (size thread mv : ℕ) (r : NumberRead) → LineFits size thread m
 target-long size thread mv r w =
     cond-either (Long size) (r .fits && same (r .rest) (bytes "))")) (request (ask thread mv (r .value))) bad (λ t. w) (λ t. tt)
 
--- behind T: " (go))" has 6 bytes, " (call shared))" 15
-act-long : (size thread : ℕ) (xs : List ℕ) → length (decimal thread) + length xs + 2 ≤ size → Long size (actForm thread xs)
-unfolding actForm bytes
-act-long size thread xs fits =
-    cond-either (Long size) (same xs (bytes " (go))")) _ _ (λ t. short go (λ u. u) (omega (arith, same-length xs (bytes " (go))") t)))
-    (λ t1. cond-either (Long size) (same xs (bytes " (call shared))")) _ _ (λ t. long callShared (omega (arith, same-length xs (bytes " (call shared))") t)))
-    (λ t2. cond-either (Long size) (same xs (bytes " (call exclusive))")) _ _ (λ t. long callExclusive (omega (arith, same-length xs (bytes " (call exclusive))") t)))
-    (λ t3. cond-either (Long size) (same xs (bytes " (relent))")) _ _ (λ t. short relent (λ u. u) (omega (arith, same-length xs (bytes " (relent))") t)))
-    (λ t4. cond-either (Long size) (starts (bytes " (set ") xs) _ _
+-- behind T: a move that names no thread has the bytes of its text, of which " (go))" has 6 and " (call shared))" 15, by trying the moves
+plain-long : (size thread mv n : ℕ) → mv ≤ lastMove → n ≡ length (actText mv 0) → length (decimal thread) + n + 2 ≤ size → LineFits size thread mv
+unfolding every actText bytes decimalWithin
+plain-long size thread mv n l e fits =
+    let most : ℕ → Bool = λ k. leb 6 (length (actText k 0)) && implies (isCall k) (leb 15 (length (actText k 0))) in
+    let t = every-at most (suc lastMove) tt mv (omega arith) in
+    let six = leb→le 6 (length (actText mv 0)) (and-l (leb 6 (length (actText mv 0))) _ t) in
+    record {
+      plain = omega arith;
+      call = λ c. let fifteen = leb→le 15 (length (actText mv 0)) (implies-e (isCall mv) _ (and-r (leb 6 (length (actText mv 0))) _ t) c) in omega arith;
+    }
+
+-- one that does has a word in front of its target
+aimed-long : (size thread : ℕ) (xs : List ℕ) → length (decimal thread) + length xs + 2 ≤ size → Long size (aimedForm thread xs)
+unfolding aimedForm bytes
+aimed-long size thread xs fits =
+    cond-either (Long size) (starts (bytes " (set ") xs) _ _
     (λ t. target-long size thread setMove (numberRead (drop 6 xs)) (short setMove (λ u. u) (omega (arith, starts-split (bytes " (set ") xs t))))
-    (λ t5. cond-either (Long size) (starts (bytes " (clear ") xs) _ _
+    (λ t1. cond-either (Long size) (starts (bytes " (clear ") xs) _ _
     (λ t. target-long size thread clearMove (numberRead (drop 8 xs)) (short clearMove (λ u. u) (omega (arith, starts-split (bytes " (clear ") xs t))))
-    (λ t6. tt))))))
+    (λ t2. tt))
   where
     short : (mv : ℕ) → (T (isCall mv) → ⊥) → 6 ≤ length xs → LineFits size thread mv
     short mv other l = record { plain = omega arith; call = λ e. absurd (other e) }
 
-    long : (mv : ℕ) → 15 ≤ length xs → LineFits size thread mv
-    long mv l = record { plain = omega arith; call = λ e. omega arith }
+act-long : (size thread : ℕ) (xs : List ℕ) → length (decimal thread) + length xs + 2 ≤ size → Long size (actForm thread xs)
+unfolding actForm
+act-long size thread xs fits =
+    plain-form (Long size) thread xs (aimedForm thread xs) (aimed-long size thread xs fits) plainMoves
+    (λ mv m e. plain-long size thread mv (length xs) (plain-e mv m .0) (ap length e) fits)
 
 -- behind the first bracket
 move-long : (size : ℕ) (xs : List ℕ) → length xs + 2 ≤ size → Long size (moveForm (numberRead xs))

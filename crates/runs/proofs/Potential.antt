@@ -25,7 +25,7 @@ use Rattle.theory.proofs.Quantifiers.{below-suc, every-at}
 use Rattle.theory.proofs.Storages.{accepts-e, accepted-reply, accepted-table}
 use Rattle.theory.proofs.Tests.{implies-e}
 use Rattle.theory.proofs.Ways.{accepted-e, Way, way}
-use Rattle.theory.proofs.Ways.{call-shared, raise-busy, find-open, find-forbidden, back-off, try-again, enter-shared, leave-shared, lower-busy, return-shared}
+use Rattle.theory.proofs.Ways.{call-shared, raise-busy, find-open, find-forbidden, back-off, try-again, hold-mutex, give-back, enter-shared, leave-shared, lower-busy, return-shared}
 use Rattle.theory.proofs.Ways.{call-exclusive, take-mutex, set-flag, find-busy, last-flag, next-flag, relents, give-up, enter-exclusive, leave-exclusive}
 use Rattle.theory.proofs.Ways.{set-again, clear-flag, clear-last, release-mutex, return-exclusive}
 use Rattle.theory.proofs.Writes.{update-same, update-other}
@@ -83,7 +83,7 @@ unfolding rows every among
 only-calls mv l =
     implies-e (hasMove mv 0) (isCall mv) (every-at (λ m. implies (hasMove m 0) (isCall m)) (suc lastMove) tt mv (omega arith))
 
-module _ (s : Table) (i t size : ℕ) (fits : i < s .threads) (plain : length (decimal i) + 8 ≤ size) (call : s .phase i ≡ 0 → length (decimal i) + 17 ≤ size) where
+module _ (s : Table) (i mv t size : ℕ) (fits : i < s .threads) (plain : length (decimal i) + 8 ≤ size) (call : s .phase i ≡ 0 → length (decimal i) + 17 ≤ size) where
   -- quiet
   quiet-cost : (p q : ℕ) → s .phase i ≡ p → credit q ≤ 18 + credit p → 0 + sumOf (s .threads) (λ j. credit (update (s .phase) i q j)) ≤ 2 * size + potential s
   quiet-cost p q e enough = let some = decimal-some i in let m = moved s i p q fits e in omega arith
@@ -93,33 +93,35 @@ module _ (s : Table) (i t size : ℕ) (fits : i < s .threads) (plain : length (d
       → length (eventLine i (shown event)) + sumOf (s .threads) (λ j. credit (update (s .phase) i q j)) ≤ 2 * size + potential s
   event-cost event p q e enough = let z = event-size i event in let m = moved s i p q fits e in omega arith
 
-  way-cost : (e : Effect) → Way s i t e → length (eventLine i (e .shows)) + potential (applied s (e .writes)) ≤ 2 * size + potential s
+  way-cost : (e : Effect) → Way s i mv t e → length (eventLine i (e .shows)) + potential (applied s (e .writes)) ≤ 2 * size + potential s
   unfolding credit eventName bytes eventLine
-  way-cost e (call-shared p) = let long = call p in event-cost 1 0 1 p (omega arith)
-  way-cost e (call-exclusive p) = let long = call p in event-cost 5 0 9 p (omega arith)
-  way-cost e (raise-busy p) = quiet-cost 1 2 p (omega arith)
-  way-cost e (find-open p f) = quiet-cost 2 5 p (omega arith)
-  way-cost e (find-forbidden p f) = quiet-cost 2 3 p (omega arith)
-  way-cost e (back-off p) = quiet-cost 3 4 p (omega arith)
-  way-cost e (try-again p) = quiet-cost 4 1 p (omega arith)
-  way-cost e (enter-shared p) = let one = decimal-some i in event-cost 2 5 6 p (omega arith)
-  way-cost e (leave-shared p) = let one = decimal-some i in event-cost 3 6 7 p (omega arith)
-  way-cost e (lower-busy p) = quiet-cost 7 8 p (omega arith)
-  way-cost e (return-shared p) = let one = decimal-some i in event-cost 4 8 0 p (omega arith)
-  way-cost e (take-mutex p f) = quiet-cost 9 10 p (omega arith)
-  way-cost e (find-busy p b) = quiet-cost 11 12 p (omega arith)
-  way-cost e (last-flag p b a) = quiet-cost 11 13 p (omega arith)
-  way-cost e (next-flag p b a) = quiet-cost 11 10 p (omega arith)
-  way-cost e (give-up p) = quiet-cost 12 10 p (omega arith)
-  way-cost e (enter-exclusive p) = let one = decimal-some i in event-cost 6 13 14 p (omega arith)
-  way-cost e (leave-exclusive p) = let one = decimal-some i in event-cost 7 14 15 p (omega arith)
-  way-cost e (release-mutex p) = quiet-cost 16 17 p (omega arith)
-  way-cost e (return-exclusive p) = let one = decimal-some i in event-cost 8 17 0 p (omega arith)
-  way-cost e (set-flag p l) = quiet-cost 10 11 p (omega arith)
+  way-cost e (call-shared p) = let long = call p in event-cost 1 _ _ p (omega arith)
+  way-cost e (call-exclusive p) = let long = call p in event-cost 5 _ _ p (omega arith)
+  way-cost e (raise-busy p) = quiet-cost _ _ p (omega arith)
+  way-cost e (find-open p f) = quiet-cost _ _ p (omega arith)
+  way-cost e (find-forbidden p f) = quiet-cost _ _ p (omega arith)
+  way-cost e (back-off p) = quiet-cost _ _ p (omega arith)
+  way-cost e (try-again p) = quiet-cost _ _ p (omega arith)
+  way-cost e (hold-mutex m p f) = quiet-cost _ _ p (omega arith)
+  way-cost e (give-back m p) = quiet-cost _ _ p (omega arith)
+  way-cost e (enter-shared p) = let one = decimal-some i in event-cost 2 _ _ p (omega arith)
+  way-cost e (leave-shared p) = let one = decimal-some i in event-cost 3 _ _ p (omega arith)
+  way-cost e (lower-busy p) = quiet-cost _ _ p (omega arith)
+  way-cost e (return-shared p) = let one = decimal-some i in event-cost 4 _ _ p (omega arith)
+  way-cost e (take-mutex m p f) = quiet-cost _ _ p (omega arith)
+  way-cost e (find-busy p b) = quiet-cost _ _ p (omega arith)
+  way-cost e (last-flag p b a) = quiet-cost _ _ p (omega arith)
+  way-cost e (next-flag p b a) = quiet-cost _ _ p (omega arith)
+  way-cost e (give-up p) = quiet-cost _ _ p (omega arith)
+  way-cost e (enter-exclusive p) = let one = decimal-some i in event-cost 6 _ _ p (omega arith)
+  way-cost e (leave-exclusive p) = let one = decimal-some i in event-cost 7 _ _ p (omega arith)
+  way-cost e (release-mutex m p) = quiet-cost _ _ p (omega arith)
+  way-cost e (return-exclusive p) = let one = decimal-some i in event-cost 8 _ _ p (omega arith)
+  way-cost e (set-flag p l) = quiet-cost _ _ p (omega arith)
   way-cost e (set-again p l) = omega arith
-  way-cost e (clear-last p l a) = quiet-cost 15 16 p (omega arith)
+  way-cost e (clear-last p l a) = quiet-cost _ _ p (omega arith)
   way-cost e (clear-flag p l a) = omega arith
-  way-cost e (relents p) = quiet-cost 11 12 p (omega arith)
+  way-cost e (relents p) = quiet-cost _ _ p (omega arith)
 
 -- `size` is the length of the line that states the request, with its line feed
 pub move-cost : (table : List ℕ) (r : Request) (seen : Seen) (size : ℕ) → moveReply table r ≡ accepted seen → LineFits size (r .thread) (r .mv)
@@ -129,7 +131,7 @@ move-cost table r seen size e w =
     let t = subst (λ (x : Reply Seen). T (isAccepted x)) (sym e) tt in
     let a = accepted-e s r (accepts-e byteTable table r t .1) in
     let cost =
-    way-cost s (r .thread) (r .target) size (a .thread-fits) (w .plain)
+    way-cost s (r .thread) (r .mv) (r .target) size (a .thread-fits) (w .plain)
     (λ p. w .call (only-calls (r .mv) (a .move-fits) (subst (λ (k : ℕ). T (hasMove (r .mv) k)) p (a .has-move))))
     (effect s r) (way s r a)
     in

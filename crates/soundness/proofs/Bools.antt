@@ -1,13 +1,8 @@
--- Laws of Bool tests: `&&` and `implies` compared. More of them stand in the crate theory.
-use mathlib.Core.Bool.{Bool, true, false, cond, not, _&&_}
+-- Laws of Bool tests: `implies` compared. More of them stand in the crate theory.
+use mathlib.Core.Bool.{Bool, true, false, cond, not}
 use mathlib.Core.Path.{_≡_, refl, ap, _∙_}
 use lib.Dec.{T}
 use Rattle.definitions.specs.Threads.{implies}
-
--- the second tests are compared where the first holds
-pub and-cong : (a a′ b b′ : Bool) → a ≡ a′ → (T a → b ≡ b′) → (a && b) ≡ (a′ && b′)
-and-cong true a′ b b′ e f = f tt ∙ ap (λ (x : Bool). x && b′) e
-and-cong false a′ b b′ e f = ap (λ (x : Bool). x && b′) e
 
 -- rules under one condition are compared where it holds
 pub implies-cong : (p p′ q q′ : Bool) → p ≡ p′ → (T p → q ≡ q′) → implies p q ≡ implies p′ q′

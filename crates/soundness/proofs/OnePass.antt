@@ -1,6 +1,6 @@
 -- The one pass decides soundness: for every N and every table, the decision from what is found of the threads below N is `sound`.
 -- The sum of the holders' phases tells whether the decision is one by the rules for no holder or for the holder's phase, which are tried one by one, or a refusal since several threads hold the mutex.
-use Prim.Native.Nat.{ℕ, suc, _≤_, _<_}
+use Prim.Native.Nat.{ℕ, _≤_, _<_}
 use native.Mathlib.Omega.{arith}
 use mathlib.Core.Bool.{Bool, true, false, cond, _&&_, _||_, and-assoc, and-true, and-false}
 use mathlib.Core.List.{List, [], _∷_}
@@ -9,31 +9,24 @@ use borrow.Author.Tests.{le-leb, lt-leb, ne-eqb}
 use lib.Dec.{T, leb, ltb, eqb}
 use Rattle.definitions.specs.Bounds.{lastPhase, noTarget}
 use Rattle.definitions.specs.Phases.{rows, holds, reading}
-use Rattle.definitions.specs.Sound.{phaseRule, flagRule, busyRule, holderRule, targetRule, openRule, rule10, rule11, rule13, rule15, mutexRule, sound}
+use Rattle.definitions.specs.Sound.{phaseRule, flagRule, busyRule, holderRule, targetRule, openRule, rule10, rule11, rule13, rule15, mutexRule, opened, sound}
 use Rattle.definitions.specs.Table.{Table}
-use Rattle.definitions.specs.Threads.{every, howMany, among, between, allOf, implies}
+use Rattle.definitions.specs.Threads.{gather, howMany, among, between, allOf, implies}
 use Rattle.soundness.specs.Pass.{tallyBelow, fitBelow, foundOf, mutexAgrees, aimFits, restFits, soundBy, aimOf, passes}
 use Rattle.soundness.specs.declared.Aim.{Aim}
 use Rattle.soundness.specs.declared.Found.the-variants.{Good, Bad}
 use Rattle.soundness.specs.declared.Tally.{Tally}
-use Rattle.theory.proofs.Cases.{or-at, none-of, holder-phase}
-use Rattle.theory.proofs.Quantifiers.{every-at}
-use Rattle.theory.proofs.Tests.{and-l, and-r, implies-e}
-use Rattle.soundness.proofs.Bools.{and-cong}
+use Rattle.theory.proofs.Cases.{or-at, none-of, phasesWhere, holder-is-phase}
+use Rattle.theory.proofs.Tests.{and-cong, and-l, and-r}
 use Rattle.soundness.proofs.Holders.{Holders, none, one, many, holders}
 use Rattle.soundness.proofs.Rules.{each-fits, flags-of, mutex-is, target-is, open-is, is-10, is-11, is-13, is-15}
 
 -- ---- the decision, by the sum of the holders' phases
 
 -- the holder's phases
-abbrev holderPhases : List ℕ
-holderPhases = 10 ∷ 11 ∷ 12 ∷ 13 ∷ 14 ∷ 15 ∷ 16 ∷ []
-
-is-holder : (p : ℕ) → T (holds p) → T (among p holderPhases)
-unfolding rows every among
-is-holder p t =
-    let l = holder-phase p t in
-    implies-e (holds p) (among p holderPhases) (every-at (λ q. implies (holds q) (among q holderPhases)) (suc lastPhase) tt p (omega arith)) t
+is-holder : (p : ℕ) → T (holds p) → T (among p (10 ∷ 11 ∷ 12 ∷ 13 ∷ 14 ∷ 15 ∷ 16 ∷ 18 ∷ []))
+unfolding rows gather phasesWhere
+is-holder p t = holder-is-phase p _ refl t
 
 -- what holds of each number of a list holds of one that is among them
 abbrev Each : (ℕ → Type 0) → List ℕ → Type 0
@@ -62,7 +55,7 @@ module _ (s : Table) where
   by-rules h =
       mutexAgrees (tally h) (s .mutex)
       && (cond (between 11 12 h) (ltb (s .target) (s .threads) && eqb (s .forbidden (s .target)) 1) (eqb (s .target) noTarget)
-      && (implies (eqb h 0 || between 16 16 h) (eqb (tally h .forbidden) 0)
+      && (implies (eqb h 0 || opened h) (eqb (tally h .forbidden) 0)
       && (implies (between 10 10 h) (ltb (tally h .forbidden) (s .threads) && eqb (tally h .readers) 0)
       && (implies (between 11 12 h) (eqb (tally h .readers) (cond (reading (s .phase (s .target))) 1 0))
       && (implies (between 13 14 h) (eqb (tally h .forbidden) (s .threads) && eqb (tally h .readers) 0)
@@ -82,9 +75,9 @@ module _ (s : Table) where
   same-one : (h : ℕ) → T (holds h) → Same h
   unfolding soundBy restFits aimFits
   same-one h t =
-      each-at Same h holderPhases (
+      each-at Same h _ (
         simp and-true,
-        (simp (and-true, and-assoc), (simp (and-true, and-assoc), (simp and-true, (simp and-true, (refl, (simp and-true, tt)))))),
+        (simp (and-true, and-assoc), (simp (and-true, and-assoc), (simp and-true, (simp and-true, (refl, (simp and-true, (simp and-true, tt))))))),
       ) (is-holder h t)
 
   -- several threads hold the mutex
@@ -99,6 +92,7 @@ module _ (s : Table) where
         ne-eqb h 14 (λ e. omega arith),
         ne-eqb h 15 (λ e. omega arith),
         ne-eqb h 16 (λ e. omega arith),
+        ne-eqb h 18 (λ e. omega arith),
         and-false,
       )
 

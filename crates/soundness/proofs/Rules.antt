@@ -10,15 +10,15 @@ use borrow.Author.Tests.{eq-eqb, ne-eqb, lt-ltb, le-ltb}
 use lib.Dec.{T, leb, ltb, eqb, leb→le, eqb→eq, ltb→lt}
 use Rattle.definitions.specs.Bounds.{lastPhase, noTarget}
 use Rattle.definitions.specs.Phases.{rows, busyIn, holds, reading}
-use Rattle.definitions.specs.Sound.{anyHolder, holderIn, phaseRule, flagRule, busyRule, mutexRule, targetRule, openRule, rule10, rule11, rule13, rule15}
+use Rattle.definitions.specs.Sound.{anyHolder, holderIn, opened, holderOpened, phaseRule, flagRule, busyRule, mutexRule, targetRule, openRule, rule10, rule11, rule13, rule15}
 use Rattle.definitions.specs.Table.{Table}
 use Rattle.definitions.specs.Threads.{every, some, howMany, between, implies}
 use Rattle.soundness.specs.Pass.{threadFits, forbiddenReader, tallyBelow, fitBelow, mutexAgrees}
 use Rattle.soundness.specs.declared.Tally.{Tally}
 use Rattle.theory.proofs.Quantifiers.{every-at, every-i, howMany-most}
-use Rattle.theory.proofs.Stages.{range-holds}
-use Rattle.theory.proofs.Tests.{and-l, and-r, and-i, T-true, same-test}
-use Rattle.soundness.proofs.Bools.{and-cong, implies-cong, not-not}
+use Rattle.theory.proofs.Stages.{range-holds, opened-holds}
+use Rattle.theory.proofs.Tests.{and-cong, and-l, and-r, and-i, T-true, same-test}
+use Rattle.soundness.proofs.Bools.{implies-cong, not-not}
 use Rattle.soundness.proofs.Holders.{holder-is, holder-any}
 use Rattle.soundness.proofs.Threads.{every-same, some-count, some-not-none, every-count, none-count, except-count}
 
@@ -138,11 +138,11 @@ module _ (s : Table)
       ∙ every-count (s .threads) up)
       ∙ not-all (t .forbidden) (s .threads) (howMany-most up (s .threads))
 
-  pub open-is : openRule s ≡ implies (eqb (t .holder) 0 || between 16 16 (t .holder)) (eqb (t .forbidden) 0)
+  pub open-is : openRule s ≡ implies (eqb (t .holder) 0 || opened (t .holder)) (eqb (t .forbidden) 0)
   unfolding openRule
   open-is =
-      let when : (not (anyHolder s) || holderIn 16 16 s) ≡ (eqb (t .holder) 0 || between 16 16 (t .holder)) =
-      cc (any-is, not-not (eqb (t .holder) 0), in-range 16 16 tt tt) in
+      let when : (not (anyHolder s) || holderOpened s) ≡ (eqb (t .holder) 0 || opened (t .holder)) =
+      cc (any-is, not-not (eqb (t .holder) 0), holder-is (s .phase) opened opened-holds (s .threads) one) in
       implies-cong _ _ _ _ when (λ _. none-up)
 
   pub is-10 : rule10 s ≡ implies (between 10 10 (t .holder)) (ltb (t .forbidden) (s .threads) && eqb (t .readers) 0)

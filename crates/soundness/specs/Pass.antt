@@ -7,6 +7,7 @@ use mathlib.Core.Bool.{Bool, false, cond, not, _&&_, _||_}
 use lib.Dec.{leb, ltb, eqb}
 use Rattle.definitions.specs.Bounds.{lastPhase, noTarget}
 use Rattle.definitions.specs.Phases.{busyIn, holds, reading}
+use Rattle.definitions.specs.Sound.{opened}
 use Rattle.definitions.specs.Table.{Table}
 use Rattle.definitions.specs.Threads.{every, howMany, between}
 use Rattle.soundness.specs.declared.Aim.{Aim}
@@ -92,8 +93,8 @@ aimFits t aim = eqb (aim .forbidden) 1 && eqb (t .readers) (cond (reading (aim .
 -- the rules for no holder, or one in another phase
 unfoldable pub restFits : Tally → ℕ → Bool
 restFits t n =
-    -- "none, or 16: every forbidden is 0."
-    cond (eqb (t .holder) 0 || eqb (t .holder) 16)
+    -- "none, or 16: every forbidden is 0.", and in 18
+    cond (eqb (t .holder) 0 || opened (t .holder))
     (eqb (t .forbidden) 0)
     -- "10: some forbidden is 0; no thread with forbidden 1 is in 5 to 7."
     (cond (eqb (t .holder) 10)

@@ -59,6 +59,7 @@ fn row_of(phase: u8) -> TallyRow
         15 => TallyRow(0, 15, 0),
         16 => TallyRow(0, 16, 0),
         17 => TallyRow(0, 0, 0),
+        18 => TallyRow(0, 18, 0),
         _ => TallyRow(256, 0, 0),
     }
 }
@@ -111,7 +112,7 @@ fn rest_fits(t: Tally, threads: usize) -> bool
     ensures { λ r. ⌜ r ≡ restFits t threads ⌝ }
 {
     let h = t.holder;
-    if (h == 0) | (h == 16) {
+    if (h == 0) | ((h == 16) | (h == 18)) {
         return t.forbidden == 0;
     }
     if h == 10 {

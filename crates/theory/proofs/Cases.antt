@@ -1,8 +1,8 @@
--- Cases of a number: one of a list (`or-at`), one of f 0, f 1, .. (`among-list`), one of a range (`among-range`), and a phase that has a move (`has-phase`).
+-- Cases of a number: one of a list (`or-at`), one of f 0, f 1, .. (`among-list`), one of a range (`among-range`), a phase that has a move (`has-phase`) or holds the mutex (`holder-is-phase`).
 use Prim.Native.Nat.{ℕ, zero, suc, _+_, _-_, _≤_, _<_}
 use native.Mathlib.Nat.{not-suc-le-zero}
 use native.Mathlib.Omega.{arith}
-use mathlib.Core.Bool.{Bool, cond}
+use mathlib.Core.Bool.{Bool, cond, not}
 use mathlib.Core.List.{List, [], _∷_, _++_}
 use mathlib.Core.Logic.{_⊎_, ⊎-elim}
 use mathlib.Core.Path.{_≡_, refl, sym, subst, ap}
@@ -12,7 +12,7 @@ use Rattle.definitions.specs.Bounds.{lastPhase}
 use Rattle.definitions.specs.Phases.{Row, noRow, rows, rowOf, hasMove, holds}
 use Rattle.definitions.specs.Threads.{listOf, gather, among, between}
 use Rattle.theory.proofs.Quantifiers.{below-suc}
-use Rattle.theory.proofs.Tests.{and-l, and-r, or-e, or-l, or-r, eq-T, T-true, below?}
+use Rattle.theory.proofs.Tests.{and-l, and-r, or-e, or-l, or-r, eq-T, T-true, T-false, decided, below?}
 
 -- ---- a number of a list
 
@@ -48,6 +48,25 @@ module _ (x : ℕ) where
   among-gather f (suc n) j l t =
       ⊎-elim (λ e. among-back (gather n f) (f n) (subst (λ (k : ℕ). T (among x (f k))) e t)) (λ k. among-front (gather n f) (f n) (among-gather f n j k t)) (below-suc j n l)
 
+  among-append : {P : Type 0} (ys zs : List ℕ) → (T (among x ys) → P) → (T (among x zs) → P) → T (among x (ys ++ zs)) → P
+  unfolding among
+  among-append [] zs front back t = back t
+  among-append (y ∷ ys) zs front back t =
+      ⊎-elim (λ u. front (or-l (eqb x y) (among x ys) u)) (among-append ys zs (λ u. front (or-r (eqb x y) (among x ys) u)) back) (or-e (eqb x y) (among x (ys ++ zs)) t)
+
+  -- the numbers below n of which f doesn't hold
+  pub among-unless : (f : ℕ → Bool) (n : ℕ) → T (among x (gather n (λ j. cond (f j) [] (j ∷ [])))) → (x < n) × T (not (f x))
+  unfolding gather
+  among-unless f zero t = none-of x t
+  among-unless f (suc n) t =
+      among-append (gather n (λ j. cond (f j) [] (j ∷ []))) (cond (f n) [] (n ∷ [])) (λ u. let r = among-unless f n u in (omega arith, r .1)) last t
+    where
+      last : T (among x (cond (f n) [] (n ∷ []))) → (x < suc n) × T (not (f x))
+      last u =
+          ⊎-elim (λ y. none-of x (subst (λ (b : Bool). T (among x (cond b [] (n ∷ [])))) (T-true (f n) y) u))
+          (λ y. or-at x n [] (λ e. (omega arith, subst (λ (k : ℕ). T (not (f k))) (sym e) y)) (none-of x) (subst (λ (b : Bool). T (among x (cond b [] (n ∷ [])))) (T-false (f n) y) u))
+          (decided (f n))
+
 -- the numbers f 0, f 1, .. up to n - 1
 pub among-list : (f : ℕ → ℕ) (n j : ℕ) → j < n → T (among (f j) (listOf n f))
 unfolding listOf
@@ -70,22 +89,32 @@ pub no-row : (p : ℕ) → lastPhase < p → rowOf p ≡ noRow
 unfolding rows
 no-row p h = List·getD-eq-default rows noRow h
 
--- so a holder's number is a phase
+-- nor does it hold the mutex, so a holder's number is a phase
+no-holder : (p : ℕ) → lastPhase < p → T (holds p) → ⊥
+no-holder p l t = subst (λ (row : Row). T (row .holder)) (no-row p l) t
+
 pub holder-phase : (p : ℕ) → T (holds p) → p ≤ lastPhase
-holder-phase p t = ⊎-elim (λ l. omega arith) (λ l. absurd (subst (λ (row : Row). T (row .holder)) (no-row p l) t)) (below? (suc lastPhase) p)
+holder-phase p t = ⊎-elim (λ l. omega arith) (λ l. absurd (no-holder p l t)) (below? (suc lastPhase) p)
 
--- the phases that have a move, by trying them all
-unfoldable pub phasesWith : ℕ → List ℕ
-phasesWith mv = gather (suc lastPhase) (λ p. cond (hasMove mv p) (p ∷ []) [])
+-- the phases of which f holds, by trying them all
+unfoldable pub phasesWhere : (ℕ → Bool) → List ℕ
+phasesWhere f = gather (suc lastPhase) (λ p. cond (f p) (p ∷ []) [])
 
-pub has-phase : (mv p : ℕ) (ks : List ℕ) → phasesWith mv ≡ ks → T (hasMove mv p) → T (among p ks)
-unfolding phasesWith
-has-phase mv p ks e t = subst (λ (xs : List ℕ). T (among p xs)) e (⊎-elim inside outside (below? (suc lastPhase) p))
-  where
-    inside : p < suc lastPhase → T (among p (gather (suc lastPhase) (λ q. cond (hasMove mv q) (q ∷ []) [])))
-    inside l =
-        among-gather p (λ q. cond (hasMove mv q) (q ∷ []) []) (suc lastPhase) p l
-        (subst (λ (b : Bool). T (among p (cond b (p ∷ []) []))) (sym (T-true (hasMove mv p) t)) (among-here p p [] refl))
+-- f holds of no other number
+module _ (f : ℕ → Bool) (outside : (p : ℕ) → lastPhase < p → T (f p) → ⊥) where
+  is-phase : (p : ℕ) (ks : List ℕ) → phasesWhere f ≡ ks → T (f p) → T (among p ks)
+  unfolding phasesWhere
+  is-phase p ks e t = subst (λ (xs : List ℕ). T (among p xs)) e (⊎-elim inside (λ l. absurd (outside p l t)) (below? (suc lastPhase) p))
+    where
+      inside : p < suc lastPhase → T (among p (gather (suc lastPhase) (λ q. cond (f q) (q ∷ []) [])))
+      inside l =
+          among-gather p (λ q. cond (f q) (q ∷ []) []) (suc lastPhase) p l
+          (subst (λ (b : Bool). T (among p (cond b (p ∷ []) []))) (sym (T-true (f p) t)) (among-here p p [] refl))
 
-    outside : suc lastPhase ≤ p → T (among p (gather (suc lastPhase) (λ q. cond (hasMove mv q) (q ∷ []) [])))
-    outside l = none-of mv (subst (λ (row : Row). T (among mv (row .moves))) (no-row p l) t)
+-- a phase that has a move
+pub has-phase : (mv p : ℕ) (ks : List ℕ) → phasesWhere (hasMove mv) ≡ ks → T (hasMove mv p) → T (among p ks)
+has-phase mv = is-phase (hasMove mv) (λ p l t. none-of mv (subst (λ (row : Row). T (among mv (row .moves))) (no-row p l) t))
+
+-- a phase that holds the mutex
+pub holder-is-phase : (p : ℕ) (ks : List ℕ) → phasesWhere holds ≡ ks → T (holds p) → T (among p ks)
+holder-is-phase = is-phase holds no-holder

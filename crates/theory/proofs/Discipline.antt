@@ -1,11 +1,12 @@
--- The protocol's discipline, on bytes: who writes what, and that a reader's move uses its own three bytes alone.
--- `discipline`: a byte that a request changes is one that the mover may write by its phase; `disciplined` says that for each kind of byte.
--- `reader-local`: on two sound tables of the same N that agree on a reader's three bytes, its request gets the same reply and leaves the same three bytes.
+-- The protocol's discipline, on bytes: who writes what, and that a reader's moves but for two use its own three bytes alone.
+-- `discipline`: a byte that a request changes is one that the mover may write by its phase and move; `disciplined` says that for each kind of byte.
+-- `mutex-turned`: an accepted move that may write the mutex does: it is 1 after it if it was 0 before, and 0 if it was 1. `at-mutex-turned`: so do a reader's hold in 4 and its go in 18.
+-- `reader-local`: on two sound tables of the same N that agree on a reader's three bytes, a request but hold in 4 and go in 18 gets the same reply and leaves the same three bytes.
 -- `reader-writes`: all other bytes stay.
 -- For every table and every request with any numbers.
-use Prim.Native.Nat.{ℕ, _≤_}
+use Prim.Native.Nat.{ℕ, _+_, _≤_}
 use native.Mathlib.Omega.{arith}
-use mathlib.Core.Bool.{Bool, true, cond, not, _&&_}
+use mathlib.Core.Bool.{Bool, true, cond, not, _&&_, _||_}
 use mathlib.Core.List.{List, [], _∷_}
 use mathlib.Core.Logic.{_⊎_, inl, inr, ⊎-elim}
 use mathlib.Core.Path.{_≡_, refl, sym, subst, ap, _∙_}
@@ -14,26 +15,25 @@ use lib.ListN.{getD}
 use lib.Seq.{getD-set-other}
 use Rattle.definitions.specs.Answers.{Reply, accepted, refused, leaves, Seen, Test, test, answered}
 use Rattle.definitions.specs.Bounds.{lastMove}
-use Rattle.definitions.specs.Codes.{go, callShared}
-use Rattle.definitions.specs.Moves.{Effect, effect, goEffect, targetFits, mustWait, requestTests, stepReply, step, acceptsIn, moveReply, moveTable}
-use Rattle.definitions.specs.Phases.{rows, holds, hasMove}
-use Rattle.definitions.specs.Sound.{sound}
+use Rattle.definitions.specs.Codes.{go, callShared, hold}
+use Rattle.definitions.specs.Moves.{Effect, effect, goEffect, targetFits, takesMutex, mustWait, requestTests, stepReply, step, acceptsIn, moveReply, moveTable}
+use Rattle.definitions.specs.Phases.{hasMove}
+use Rattle.definitions.specs.Sound.{sound, opened}
 use Rattle.definitions.specs.Table.{Table, Write, mutex≔, target≔, phase≔, busy≔, forbidden≔, appliedOne, applied, phaseAt, busyAt, forbiddenAt, tableOf, storedOne, stored, byteTable}
-use Rattle.definitions.specs.Threads.{every, listOf, between}
+use Rattle.definitions.specs.Threads.{listOf}
 use Rattle.definitions.specs.declared.Request.{Request}
-use Rattle.theory.specs.Statements.{MayWrite, its-phase, its-busy, a-forbidden, the-mutex, the-target, Disciplined, readerPhase, readerMove, Agree}
+use Rattle.theory.specs.Statements.{writesMutex, writesFlag, writesTarget, MayMake, MayMakeAll, MayWrite, its-phase, its-busy, a-forbidden, the-mutex, the-target, Disciplined}
+use Rattle.theory.specs.Statements.{readerRound, readerPhase, readerMove, atMutex, localMove, Agree}
 use Rattle.theory.specs.Tables.{SoundBytes}
 use Rattle.theory.proofs.Bytes.{byte-keeps}
 use Rattle.theory.proofs.Cases.{or-at, none-of, among-range, has-phase}
-use Rattle.theory.proofs.Quantifiers.{every-at}
 use Rattle.theory.proofs.Replies.{passed}
-use Rattle.theory.proofs.Stages.{between-e}
-use Rattle.theory.proofs.Storages.{accepts-e, accepted-stores, refused-stays, reply-same, table-step}
-use Rattle.theory.proofs.Tests.{T-true, and-l, and-r, or-e, decided, no-both, not-i, below?}
-use Rattle.theory.proofs.Ways.{Way, way, Accepted, accepted-e, phases-1}
-use Rattle.theory.proofs.Ways.{call-shared, raise-busy, find-open, find-forbidden, back-off, try-again, enter-shared, leave-shared, lower-busy, return-shared}
-use Rattle.theory.proofs.Ways.{call-exclusive, take-mutex, set-flag, find-busy, last-flag, next-flag, relents, give-up, enter-exclusive, leave-exclusive}
-use Rattle.theory.proofs.Ways.{set-again, clear-flag, clear-last, release-mutex, return-exclusive}
+use Rattle.theory.proofs.Soundness.{Sound, sound-e}
+use Rattle.theory.proofs.Stages.{between-e, between-i, opened-holds, opened-apart}
+use Rattle.theory.proofs.Storages.{accepts-e, accepted-stores, accepted-table, refused-stays, reply-same, table-step}
+use Rattle.theory.proofs.Tests.{T-true, eq-T, and-l, and-r, and-i, or-e, or-l, or-r, decided, no-both, not-i}
+use Rattle.theory.proofs.Ways.{Accepted, accepted-e, finds-free, phases-1, phases-6}
+use Rattle.theory.proofs.Writers.{may-make}
 
 -- ---- who writes what
 
@@ -45,10 +45,6 @@ byteOf (phase≔ j v) = phaseAt j
 byteOf (busy≔ j v) = busyAt j
 byteOf (forbidden≔ j v) = forbiddenAt j
 
-abbrev MayWriteAll : ℕ → ℕ → List Write → Type 0
-MayWriteAll i p [] = Unit {0}
-MayWriteAll i p (w ∷ ws) = MayWrite i p (byteOf w) × MayWriteAll i p ws
-
 write-other : (bytes : List ℕ) (w : Write) (k : ℕ) → (k ≡ byteOf w → ⊥) → getD (storedOne bytes w) k 0 ≡ getD bytes k 0
 write-other bytes (mutex≔ v) k h = getD-set-other bytes 1 k v 0 h
 write-other bytes (target≔ v) k h = getD-set-other bytes 2 k v 0 h
@@ -56,150 +52,227 @@ write-other bytes (phase≔ j v) k h = getD-set-other bytes (phaseAt j) k v 0 h
 write-other bytes (busy≔ j v) k h = getD-set-other bytes (busyAt j) k v 0 h
 write-other bytes (forbidden≔ j v) k h = getD-set-other bytes (forbiddenAt j) k v 0 h
 
-stored-other : (i p k : ℕ) → (MayWrite i p k → ⊥) → (bytes : List ℕ) (ws : List Write) → MayWriteAll i p ws → getD (stored bytes ws) k 0 ≡ getD bytes k 0
-unfolding stored
-stored-other i p k h bytes [] m = refl
-stored-other i p k h bytes (w ∷ ws) m =
-    stored-other i p k h (storedOne bytes w) ws (m .1) ∙ write-other bytes w k (λ e. h (subst (MayWrite i p) (sym e) (m .0)))
+-- what a request may write, by the bytes
+may-write : (s : Table) (r : Request) (w : Write) → MayMake s r w → MayWrite r (s .phase (r .thread)) (byteOf w)
+may-write s r (mutex≔ v) m = the-mutex refl m
+may-write s r (target≔ v) m = the-target refl m
+may-write s r (phase≔ j v) m = its-phase (ap phaseAt m)
+may-write s r (busy≔ j v) m = its-busy (ap busyAt m)
+may-write s r (forbidden≔ j v) m = a-forbidden j refl (m .1)
 
-may-ways : (s : Table) (i t : ℕ) {x : Effect} → Way s i t x → MayWriteAll i (s .phase i) (x .writes)
-unfolding rows
-may-ways s i t (call-shared e) = (its-phase refl, tt)
-may-ways s i t (call-exclusive e) = (its-phase refl, tt)
-may-ways s i t (raise-busy e) = (its-phase refl, (its-busy refl, tt))
-may-ways s i t (find-open e f) = (its-phase refl, tt)
-may-ways s i t (find-forbidden e f) = (its-phase refl, tt)
-may-ways s i t (back-off e) = (its-phase refl, (its-busy refl, tt))
-may-ways s i t (try-again e) = (its-phase refl, tt)
-may-ways s i t (enter-shared e) = (its-phase refl, tt)
-may-ways s i t (leave-shared e) = (its-phase refl, tt)
-may-ways s i t (lower-busy e) = (its-phase refl, (its-busy refl, tt))
-may-ways s i t (return-shared e) = (its-phase refl, tt)
-may-ways s i t (take-mutex e f) = (its-phase refl, (the-mutex refl (inl e), tt))
-may-ways s i t (find-busy e f) = (its-phase refl, tt)
-may-ways s i t (last-flag e f a) = (its-phase refl, (the-target refl (rw e tt), tt))
-may-ways s i t (next-flag e f a) = (its-phase refl, (the-target refl (rw e tt), tt))
-may-ways s i t (give-up e) = (its-phase refl, (a-forbidden (s .target) refl (rw e tt), (the-target refl (rw e tt), tt)))
-may-ways s i t (enter-exclusive e) = (its-phase refl, tt)
-may-ways s i t (leave-exclusive e) = (its-phase refl, tt)
-may-ways s i t (release-mutex e) = (its-phase refl, (the-mutex refl (inr e), tt))
-may-ways s i t (return-exclusive e) = (its-phase refl, tt)
-may-ways s i t (set-flag e f) = (its-phase refl, (a-forbidden t refl (rw e tt), (the-target refl (rw e tt), tt)))
-may-ways s i t (set-again e f) = (a-forbidden t refl (rw e tt), tt)
-may-ways s i t (clear-last e f a) = (a-forbidden t refl (rw e tt), (its-phase refl, tt))
-may-ways s i t (clear-flag e f a) = (a-forbidden t refl (rw e tt), tt)
-may-ways s i t (relents e) = (its-phase refl, tt)
+stored-other : (s : Table) (r : Request) (k : ℕ) → (MayWrite r (s .phase (r .thread)) k → ⊥) → (bytes : List ℕ) (ws : List Write) → MayMakeAll s r ws
+    → getD (stored bytes ws) k 0 ≡ getD bytes k 0
+unfolding stored
+stored-other s r k h bytes [] m = refl
+stored-other s r k h bytes (w ∷ ws) m =
+    stored-other s r k h (storedOne bytes w) ws (m .1)
+    ∙ write-other bytes w k (λ e. h (subst (MayWrite r (s .phase (r .thread))) (sym e) (may-write s r w (m .0))))
 
 -- a byte that the mover may not write stays
-pub discipline : (bytes : List ℕ) (r : Request) (k : ℕ) → (MayWrite (r .thread) (tableOf bytes .phase (r .thread)) k → ⊥) → getD (moveTable bytes r) k 0 ≡ getD bytes k 0
+pub discipline : (bytes : List ℕ) (r : Request) (k : ℕ) → (MayWrite r (tableOf bytes .phase (r .thread)) k → ⊥) → getD (moveTable bytes r) k 0 ≡ getD bytes k 0
 discipline bytes r k h = by (decided (acceptsIn byteTable bytes r))
   where
     by : T (acceptsIn byteTable bytes r) ⊎ T (not (acceptsIn byteTable bytes r)) → getD (moveTable bytes r) k 0 ≡ getD bytes k 0
     by (inl t) =
         let s = tableOf bytes in
-        let m = may-ways s (r .thread) (r .target) (way s r (accepted-e s r (accepts-e byteTable bytes r t .1))) in
-        ap (λ (b : List ℕ). getD b k 0) (accepted-stores byteTable bytes r t) ∙ stored-other (r .thread) (s .phase (r .thread)) k h bytes (effect s r .writes) m
+        ap (λ (b : List ℕ). getD b k 0) (accepted-stores byteTable bytes r t) ∙ stored-other s r k h bytes (effect s r .writes) (may-make s r (accepts-e byteTable bytes r t .1))
     by (inr t) = ap (λ (b : List ℕ). getD b k 0) (refused-stays byteTable bytes r t)
 
 -- what each kind of byte would need
-no-phase : (i p j : ℕ) → (j ≡ i → ⊥) → MayWrite i p (phaseAt j) → ⊥
-no-phase i p j h (its-phase e) = h (omega arith)
-no-phase i p j h (its-busy e) = omega arith
-no-phase i p j h (a-forbidden k e t) = omega arith
-no-phase i p j h (the-mutex e t) = omega arith
-no-phase i p j h (the-target e t) = omega arith
+module _ (r : Request) (p : ℕ) where
+  no-phase : (j : ℕ) → (j ≡ r .thread → ⊥) → MayWrite r p (phaseAt j) → ⊥
+  no-phase j h (its-phase e) = h (omega arith)
+  no-phase j h (its-busy e) = omega arith
+  no-phase j h (a-forbidden k e t) = omega arith
+  no-phase j h (the-mutex e t) = omega arith
+  no-phase j h (the-target e t) = omega arith
 
-no-busy : (i p j : ℕ) → (j ≡ i → ⊥) → MayWrite i p (busyAt j) → ⊥
-no-busy i p j h (its-phase e) = omega arith
-no-busy i p j h (its-busy e) = h (omega arith)
-no-busy i p j h (a-forbidden k e t) = omega arith
-no-busy i p j h (the-mutex e t) = omega arith
-no-busy i p j h (the-target e t) = omega arith
+  no-busy : (j : ℕ) → (j ≡ r .thread → ⊥) → MayWrite r p (busyAt j) → ⊥
+  no-busy j h (its-phase e) = omega arith
+  no-busy j h (its-busy e) = h (omega arith)
+  no-busy j h (a-forbidden k e t) = omega arith
+  no-busy j h (the-mutex e t) = omega arith
+  no-busy j h (the-target e t) = omega arith
 
-no-forbidden : (i p j : ℕ) → (T (holds p) → ⊥) → MayWrite i p (forbiddenAt j) → ⊥
-no-forbidden i p j h (its-phase e) = omega arith
-no-forbidden i p j h (its-busy e) = omega arith
-no-forbidden i p j h (a-forbidden k e t) = h t
-no-forbidden i p j h (the-mutex e t) = omega arith
-no-forbidden i p j h (the-target e t) = omega arith
+  no-forbidden : (j : ℕ) → (T (writesFlag p) → ⊥) → MayWrite r p (forbiddenAt j) → ⊥
+  no-forbidden j h (its-phase e) = omega arith
+  no-forbidden j h (its-busy e) = omega arith
+  no-forbidden j h (a-forbidden k e t) = h t
+  no-forbidden j h (the-mutex e t) = omega arith
+  no-forbidden j h (the-target e t) = omega arith
 
-no-mutex : (i p : ℕ) → (p ≡ 9 → ⊥) → (p ≡ 16 → ⊥) → MayWrite i p 1 → ⊥
-no-mutex i p h g (its-phase e) = omega arith
-no-mutex i p h g (its-busy e) = omega arith
-no-mutex i p h g (a-forbidden k e t) = omega arith
-no-mutex i p h g (the-mutex e t) = ⊎-elim h g t
-no-mutex i p h g (the-target e t) = omega arith
+  no-mutex : (T (writesMutex p (r .mv)) → ⊥) → MayWrite r p 1 → ⊥
+  no-mutex h (its-phase e) = omega arith
+  no-mutex h (its-busy e) = omega arith
+  no-mutex h (a-forbidden k e t) = omega arith
+  no-mutex h (the-mutex e t) = h t
+  no-mutex h (the-target e t) = omega arith
 
-no-target : (i p : ℕ) → (T (between 10 12 p) → ⊥) → MayWrite i p 2 → ⊥
-no-target i p h (its-phase e) = omega arith
-no-target i p h (its-busy e) = omega arith
-no-target i p h (a-forbidden k e t) = omega arith
-no-target i p h (the-mutex e t) = omega arith
-no-target i p h (the-target e t) = h t
+  no-target : (T (writesTarget p) → ⊥) → MayWrite r p 2 → ⊥
+  no-target h (its-phase e) = omega arith
+  no-target h (its-busy e) = omega arith
+  no-target h (a-forbidden k e t) = omega arith
+  no-target h (the-mutex e t) = omega arith
+  no-target h (the-target e t) = h t
 
-no-threads : (i p : ℕ) → MayWrite i p 0 → ⊥
-no-threads i p (its-phase e) = omega arith
-no-threads i p (its-busy e) = omega arith
-no-threads i p (a-forbidden k e t) = omega arith
-no-threads i p (the-mutex e t) = omega arith
-no-threads i p (the-target e t) = omega arith
+  no-threads : MayWrite r p 0 → ⊥
+  no-threads (its-phase e) = omega arith
+  no-threads (its-busy e) = omega arith
+  no-threads (a-forbidden k e t) = omega arith
+  no-threads (the-mutex e t) = omega arith
+  no-threads (the-target e t) = omega arith
 
-pub disciplined : (bytes : List ℕ) (r : Request) → Disciplined (tableOf bytes) (r .thread) (tableOf (moveTable bytes r))
+pub disciplined : (bytes : List ℕ) (r : Request) → Disciplined (tableOf bytes) r (tableOf (moveTable bytes r))
 disciplined bytes r =
-    let i = r .thread in
     let p = tableOf bytes .phase (r .thread) in
     record {
-      threads-kept = discipline bytes r 0 (no-threads i p);
-      phase-own = λ j h. discipline bytes r (phaseAt j) (no-phase i p j h);
-      busy-own = λ j h. discipline bytes r (busyAt j) (no-busy i p j h);
-      forbidden-held = λ h j. discipline bytes r (forbiddenAt j) (no-forbidden i p j h);
-      mutex-in = λ h g. discipline bytes r 1 (no-mutex i p h g);
-      target-in = λ h. discipline bytes r 2 (no-target i p h);
+      threads-kept = discipline bytes r 0 (no-threads r p);
+      phase-own = λ j h. discipline bytes r (phaseAt j) (no-phase r p j h);
+      busy-own = λ j h. discipline bytes r (busyAt j) (no-busy r p j h);
+      forbidden-held = λ h j. discipline bytes r (forbiddenAt j) (no-forbidden r p j h);
+      mutex-in = λ h. discipline bytes r 1 (no-mutex r p h);
+      target-in = λ h. discipline bytes r 2 (no-target r p h);
     }
 
--- ---- a reader uses its own bytes alone
+-- ---- the moves that write the mutex
 
--- what a reader's request is, in cases
-reader-e : (s : Table) (r : Request) → T (readerMove s r) → (r .mv ≡ callShared) ⊎ ((r .mv ≡ go) × T (readerPhase (s .phase (r .thread))))
-reader-e s r t =
-    let at-go = eqb (r .mv) go in
-    let reading = readerPhase (s .phase (r .thread)) in
-    ⊎-elim (λ u. inl (eqb→eq (r .mv) callShared u)) (λ u. inr (eqb→eq (r .mv) go (and-l at-go reading u), and-r at-go reading u))
-    (or-e (eqb (r .mv) callShared) (at-go && reading) t)
+module _ (s : Table) (r : Request) (a : Accepted s r) where
+  abbrev phase : ℕ
+  phase = s .phase (r .thread)
+
+  -- a move in a phase
+  is-move : (mv k : ℕ) → T (eqb (r .mv) mv && eqb phase k) → (r .mv ≡ mv) × (phase ≡ k)
+  is-move mv k t = (eqb→eq (r .mv) mv (and-l (eqb (r .mv) mv) (eqb phase k) t), eqb→eq phase k (and-r (eqb (r .mv) mv) (eqb phase k) t))
+
+  takes : T (takesMutex phase (r .mv)) → (s .mutex ≡ 0) × (applied s (effect s r .writes) .mutex ≡ 1)
+  unfolding effect goEffect
+  takes t = (
+    rules .free (λ j l h. finds-free s r (a .may-go) t (rules .held j l h)),
+    ⊎-elim (λ u. let g = is-move go 9 u in rw (g .0, g .1)) (λ u. rw (is-move hold 4 u .0)) (or-e (eqb (r .mv) go && eqb phase 9) (eqb (r .mv) hold && eqb phase 4) t),
+  )
+    where
+      rules : Sound s
+      rules = sound-e s (a .is-sound)
+
+  lets-go : T (eqb (r .mv) go && opened phase) → (s .mutex ≡ 1) × (applied s (effect s r .writes) .mutex ≡ 0)
+  unfolding effect goEffect
+  lets-go t =
+      let e = eqb→eq (r .mv) go (and-l (eqb (r .mv) go) (opened phase) t) in
+      let o = and-r (eqb (r .mv) go) (opened phase) t in (
+        sound-e s (a .is-sound) .held (r .thread) (a .thread-fits) (opened-holds phase o),
+        ⊎-elim (λ u. rw (e, eqb→eq phase 16 u)) (λ u. rw (e, eqb→eq phase 18 u)) (or-e (eqb phase 16) (eqb phase 18) o),
+      )
+
+  turned : T (writesMutex phase (r .mv)) → s .mutex + applied s (effect s r .writes) .mutex ≡ 1
+  turned t =
+      ⊎-elim (λ u. let g = takes u in let x = g .0 in let y = g .1 in omega arith) (λ u. let g = lets-go u in let x = g .0 in let y = g .1 in omega arith)
+      (or-e (takesMutex phase (r .mv)) (eqb (r .mv) go && opened phase) t)
+
+pub mutex-turned : (bytes : List ℕ) (r : Request) → T (acceptsIn byteTable bytes r) → T (writesMutex (tableOf bytes .phase (r .thread)) (r .mv))
+    → tableOf bytes .mutex + tableOf (moveTable bytes r) .mutex ≡ 1
+mutex-turned bytes r t w =
+    let s = tableOf bytes in
+    ap (λ (x : Table). s .mutex + x .mutex) (accepted-table byteTable byte-keeps bytes r t)
+    ∙ turned s r (accepted-e s r (accepts-e byteTable bytes r t .1)) w
+
+-- a reader's moves at the mutex are two of them
+pub at-mutex-turned : (bytes : List ℕ) (r : Request) → T (acceptsIn byteTable bytes r) → T (atMutex (tableOf bytes) r)
+    → tableOf bytes .mutex + tableOf (moveTable bytes r) .mutex ≡ 1
+at-mutex-turned bytes r t m = mutex-turned bytes r t (⊎-elim held given (or-e (eqb (r .mv) hold && eqb p 4) (eqb (r .mv) go && eqb p 18) m))
+  where
+    p : ℕ
+    p = tableOf bytes .phase (r .thread)
+
+    held : T (eqb (r .mv) hold && eqb p 4) → T (writesMutex p (r .mv))
+    held u = or-l (takesMutex p (r .mv)) _ (or-r (eqb (r .mv) go && eqb p 9) _ u)
+
+    given : T (eqb (r .mv) go && eqb p 18) → T (writesMutex p (r .mv))
+    given u =
+        or-r (takesMutex p (r .mv)) _
+        (and-i (eqb (r .mv) go) (opened p) (and-l (eqb (r .mv) go) (eqb p 18) u) (or-r (eqb p 16) (eqb p 18) (and-r (eqb (r .mv) go) (eqb p 18) u)))
+
+-- ---- a reader's other moves use its own bytes alone
+
+-- what such a request is, in cases, by its move and the mover's phase
+data Local (mv p : ℕ) : Type 0 where
+  calls : mv ≡ callShared → Local mv p
+  goes : mv ≡ go → T (readerRound p) → Local mv p
+  holds-elsewhere : mv ≡ hold → (p ≡ 4 → ⊥) → Local mv p
+
+local-e : (s : Table) (r : Request) → T (localMove s r) → Local (r .mv) (s .phase (r .thread))
+local-e s r t = by (or-e (eqb mv callShared) ((eqb mv go || eqb mv hold) && readerPhase p) (and-l (readerMove s r) (not (atMutex s r)) t))
+  where
+    mv : ℕ
+    mv = r .mv
+
+    p : ℕ
+    p = s .phase (r .thread)
+
+    not-18 : mv ≡ go → p ≡ 18 → ⊥
+    not-18 e q =
+        no-both (atMutex s r)
+        (or-r (eqb mv hold && eqb p 4) (eqb mv go && eqb p 18) (and-i (eqb mv go) (eqb p 18) (eq-T mv go e) (eq-T p 18 q))) (and-r (readerMove s r) (not (atMutex s r)) t)
+
+    not-4 : mv ≡ hold → p ≡ 4 → ⊥
+    not-4 e q =
+        no-both (atMutex s r)
+        (or-l (eqb mv hold && eqb p 4) (eqb mv go && eqb p 18) (and-i (eqb mv hold) (eqb p 4) (eq-T mv hold e) (eq-T p 4 q))) (and-r (readerMove s r) (not (atMutex s r)) t)
+
+    inside : mv ≡ go → T (readerPhase p) → Local mv p
+    inside e u = ⊎-elim (λ v. goes e v) (λ v. absurd (not-18 e (eqb→eq p 18 v))) (or-e (readerRound p) (eqb p 18) u)
+
+    by : T (eqb mv callShared) ⊎ T ((eqb mv go || eqb mv hold) && readerPhase p) → Local mv p
+    by (inl u) = calls (eqb→eq mv callShared u)
+    by (inr u) =
+        ⊎-elim (λ v. inside (eqb→eq mv go v) (and-r (eqb mv go || eqb mv hold) (readerPhase p) u)) (λ v. let e = eqb→eq mv hold v in holds-elsewhere e (not-4 e))
+        (or-e (eqb mv go) (eqb mv hold) (and-l (eqb mv go || eqb mv hold) (readerPhase p) u))
+
+-- it doesn't take the mutex
+local-takes : (mv p : ℕ) → Local mv p → T (takesMutex p mv) → ⊥
+local-takes mv p (calls e) t = subst (λ (m : ℕ). T (takesMutex p m)) e t
+local-takes mv p (goes e b) t =
+    let x = between-e _ _ p b in
+    ⊎-elim (λ u. let q = eqb→eq p 9 u in omega arith) (λ u. u) (or-e (eqb p 9) (eqb go hold && eqb p 4) (subst (λ (m : ℕ). T (takesMutex p m)) e t))
+local-takes mv p (holds-elsewhere e n) t = n (eqb→eq p 4 (subst (λ (m : ℕ). T (takesMutex p m)) e t))
+
+-- nor, in a phase up to 8, let it go
+local-mutex : (mv p : ℕ) → Local mv p → p ≤ 8 → T (writesMutex p mv) → ⊥
+local-mutex mv p m l t =
+    ⊎-elim (local-takes mv p m) (λ u. opened-apart 0 8 p (omega arith) (between-i 0 8 p (omega arith) l) (and-r (eqb mv go) (opened p) u))
+    (or-e (takesMutex p mv) (eqb mv go && opened p) t)
 
 -- accepted, it is in a phase up to 8
-reader-phase : (s : Table) (r : Request) → T (readerMove s r) → Accepted s r → s .phase (r .thread) ≤ 8
-reader-phase s r t a = by (reader-e s r t)
+local-phase : (s : Table) (r : Request) → Local (r .mv) (s .phase (r .thread)) → Accepted s r → s .phase (r .thread) ≤ 8
+local-phase s r m a = by m
   where
     p : ℕ
     p = s .phase (r .thread)
 
-    by : (r .mv ≡ callShared) ⊎ ((r .mv ≡ go) × T (readerPhase p)) → p ≤ 8
-    by (inl e) =
-        or-at p 0 [] (λ z. omega arith) (none-of p) (has-phase 1 p (0 ∷ []) phases-1 (subst (λ (m : ℕ). T (hasMove m p)) e (a .has-move)))
-    by (inr g) = between-e _ _ p (g .1) .1
+    has : (mv : ℕ) → r .mv ≡ mv → T (hasMove mv p)
+    has mv e = subst (λ (x : ℕ). T (hasMove x p)) e (a .has-move)
 
--- no holder is in a phase up to 8, by trying them
-holder-high : (p : ℕ) → T (holds p) → 9 ≤ p
-unfolding rows every
-holder-high p t = ⊎-elim (λ l. absurd (no-both (holds p) t (every-at (λ q. not (holds q)) 9 tt p l))) (λ l. l) (below? 9 p)
+    by : Local (r .mv) p → p ≤ 8
+    by (calls e) = or-at p 0 [] (λ z. omega arith) (none-of p) (has-phase 1 p (0 ∷ []) phases-1 (has 1 e))
+    by (goes e b) = between-e _ _ p b .1
+    by (holds-elsewhere e n) = or-at p 4 [] (λ z. absurd (n z)) (none-of p) (has-phase 6 p (4 ∷ []) phases-6 (has 6 e))
 
-no-other : (i p k : ℕ) → p ≤ 8 → (k ≡ phaseAt i → ⊥) → (k ≡ busyAt i → ⊥) → MayWrite i p k → ⊥
-no-other i p k l h g (its-phase e) = h e
-no-other i p k l h g (its-busy e) = g e
-no-other i p k l h g (a-forbidden j e t) = let x = holder-high p t in omega arith
-no-other i p k l h g (the-mutex e t) = ⊎-elim (λ z. omega arith) (λ z. omega arith) t
-no-other i p k l h g (the-target e t) = let x = between-e 10 12 p t in omega arith
+no-other : (r : Request) (p k : ℕ) → Local (r .mv) p → p ≤ 8 → (k ≡ phaseAt (r .thread) → ⊥) → (k ≡ busyAt (r .thread) → ⊥) → MayWrite r p k → ⊥
+no-other r p k m l h g (its-phase e) = h e
+no-other r p k m l h g (its-busy e) = g e
+no-other r p k m l h g (a-forbidden j e t) = let x = between-e _ _ p t in omega arith
+no-other r p k m l h g (the-mutex e t) = local-mutex (r .mv) p m l t
+no-other r p k m l h g (the-target e t) = let x = between-e _ _ p t in omega arith
 
--- a reader writes its own phase and busy alone
-pub reader-writes : (bytes : List ℕ) (r : Request) → T (readerMove (tableOf bytes) r) → (k : ℕ) → (k ≡ phaseAt (r .thread) → ⊥) → (k ≡ busyAt (r .thread) → ⊥)
+-- it writes the reader's own phase and busy alone
+pub reader-writes : (bytes : List ℕ) (r : Request) → T (localMove (tableOf bytes) r) → (k : ℕ) → (k ≡ phaseAt (r .thread) → ⊥) → (k ≡ busyAt (r .thread) → ⊥)
     → getD (moveTable bytes r) k 0 ≡ getD bytes k 0
 reader-writes bytes r t k h g = by (decided (acceptsIn byteTable bytes r))
   where
     by : T (acceptsIn byteTable bytes r) ⊎ T (not (acceptsIn byteTable bytes r)) → getD (moveTable bytes r) k 0 ≡ getD bytes k 0
     by (inl u) =
         let s = tableOf bytes in
-        discipline bytes r k (no-other (r .thread) (s .phase (r .thread)) k (reader-phase s r t (accepted-e s r (accepts-e byteTable bytes r u .1))) h g)
+        let m = local-e s r t in
+        discipline bytes r k (no-other r (s .phase (r .thread)) k m (local-phase s r m (accepted-e s r (accepts-e byteTable bytes r u .1))) h g)
     by (inr u) = ap (λ (b : List ℕ). getD b k 0) (refused-stays byteTable bytes r u)
 
 -- the table as the reader sees it: its own three bytes for every thread's
@@ -213,7 +286,7 @@ own-same : (s t : Table) (i : ℕ) → Agree s t i → ownOf s i ≡ ownOf t i
 own-same s t i a = λ k. own (a .threads k) (a .phase k) (a .busy k) (a .forbidden k)
 
 -- its effect is that on what it sees
-own-go : (s : Table) (i : ℕ) → T (readerPhase (s .phase i)) → goEffect s i ≡ goEffect (ownOf s i) i
+own-go : (s : Table) (i : ℕ) → T (readerRound (s .phase i)) → goEffect s i ≡ goEffect (ownOf s i) i
 unfolding goEffect listOf
 own-go s i t =
     let p = s .phase i in
@@ -224,36 +297,20 @@ own-go s i t =
     (or-at p 5 _ (λ e. rw e) (or-at p 6 _ (λ e. rw e) (or-at p 7 _ (λ e. rw e) (or-at p 8 [] (λ e. rw e) (none-of p))))))))
     (among-range p _ _ t)
 
-own-effect : (s : Table) (r : Request) → T (readerMove s r) → effect s r ≡ effect (ownOf s (r .thread)) r
+own-effect : (s : Table) (r : Request) → Local (r .mv) (s .phase (r .thread)) → effect s r ≡ effect (ownOf s (r .thread)) r
 unfolding effect
-own-effect s r t = by (reader-e s r t)
-  where
-    by : (r .mv ≡ callShared) ⊎ ((r .mv ≡ go) × T (readerPhase (s .phase (r .thread)))) → effect s r ≡ effect (ownOf s (r .thread)) r
-    by (inl e) = rw e
-    by (inr g) = rw (g .0) (own-go s (r .thread) (g .1))
+own-effect s r (calls e) = rw e
+own-effect s r (goes e b) = rw e (own-go s (r .thread) b)
+own-effect s r (holds-elsewhere e n) = rw e
 
--- refusal 7 isn't for readers
-reader-goes : (s : Table) (r : Request) (mutex : ℕ) → T (readerMove s r) → not (mustWait (s .phase (r .thread)) mutex (r .mv)) ≡ true
-reader-goes s r mutex t =
-    T-true (not (at-go && (at-9 && locked)))
-    (not-i (at-go && (at-9 && locked))
-    (λ u. by (eqb→eq (r .mv) go (and-l at-go (at-9 && locked) u)) (eqb→eq (s .phase (r .thread)) 9 (and-l at-9 locked (and-r at-go (at-9 && locked) u))) (reader-e s r t)))
-  where
-    at-go : Bool
-    at-go = eqb (r .mv) go
-
-    at-9 : Bool
-    at-9 = eqb (s .phase (r .thread)) 9
-
-    locked : Bool
-    locked = eqb mutex 1
-
-    by : r .mv ≡ go → s .phase (r .thread) ≡ 9 → (r .mv ≡ callShared) ⊎ ((r .mv ≡ go) × T (readerPhase (s .phase (r .thread)))) → ⊥
-    by g n (inl e) = omega arith
-    by g n (inr h) = let x = between-e _ _ (s .phase (r .thread)) (h .1) in omega arith
+-- refusal 7 isn't for it
+reader-goes : (s : Table) (r : Request) (mutex : ℕ) → Local (r .mv) (s .phase (r .thread)) → not (mustWait (s .phase (r .thread)) mutex (r .mv)) ≡ true
+reader-goes s r mutex m =
+    let taking = takesMutex (s .phase (r .thread)) (r .mv) in
+    T-true (not (taking && eqb mutex 1)) (not-i (taking && eqb mutex 1) (λ u. local-takes (r .mv) (s .phase (r .thread)) m (and-l taking (eqb mutex 1) u)))
 
 -- its tests, reply and table after, by what it sees
-own-tests : (s : Table) (r : Request) → T (readerMove s r) → requestTests s r ≡ requestTests (ownOf s (r .thread)) r
+own-tests : (s : Table) (r : Request) → Local (r .mv) (s .phase (r .thread)) → requestTests s r ≡ requestTests (ownOf s (r .thread)) r
 own-tests s r t =
     ap
     (λ (b : Bool). test 3 (ltb (r .thread) (s .threads))
@@ -267,7 +324,7 @@ own-tests s r t =
 abbrev ownReply : Table → Request → Reply Seen
 ownReply o r = answered (requestTests o r) (effect o r .shows)
 
-reader-reply : (s : Table) (r : Request) → T (sound s) → T (readerMove s r) → stepReply s r ≡ ownReply (ownOf s (r .thread)) r
+reader-reply : (s : Table) (r : Request) → T (sound s) → Local (r .mv) (s .phase (r .thread)) → stepReply s r ≡ ownReply (ownOf s (r .thread)) r
 unfolding stepReply
 reader-reply s r z t =
     passed (test 2 (sound s)) (requestTests s r) (effect s r .shows) z
@@ -277,7 +334,7 @@ reader-reply s r z t =
 abbrev ownStep : Table → Request → Table → Table
 ownStep o r s = leaves (ownReply o r) (applied s (effect o r .writes)) s
 
-reader-step : (s : Table) (r : Request) → T (sound s) → T (readerMove s r) → step s r ≡ ownStep (ownOf s (r .thread)) r s
+reader-step : (s : Table) (r : Request) → T (sound s) → Local (r .mv) (s .phase (r .thread)) → step s r ≡ ownStep (ownOf s (r .thread)) r s
 unfolding step
 reader-step s r z t =
     ap (λ (x : Reply Seen). leaves x (applied s (effect s r .writes)) s) (reader-reply s r z t)
@@ -306,20 +363,21 @@ agree-step o s t r a = by (ownReply o r)
     by (refused number place) = a
 
 -- the same reply and the same three bytes, on records
-pub reader-on : (s t : Table) (r : Request) → T (sound s) → T (sound t) → Agree s t (r .thread) → T (readerMove s r)
+pub reader-on : (s t : Table) (r : Request) → T (sound s) → T (sound t) → Agree s t (r .thread) → T (localMove s r)
     → (stepReply s r ≡ stepReply t r) × Agree (step s r) (step t r) (r .thread)
 reader-on s t r y z a m =
     let i = r .thread in
     let o = ownOf s i in
     let same : ownOf s i ≡ ownOf t i = own-same s t i a in
-    let n : T (readerMove t r) = subst (λ (x : Table). T (readerMove x r)) same m in (
-      reader-reply s r y m ∙ (ap (λ (x : Table). ownReply x r) same ∙ sym (reader-reply t r z n)),
-      subst (λ (x : Table). Agree x (step t r) i) (sym (reader-step s r y m))
-          (subst (λ (x : Table). Agree (ownStep o r s) x i) (sym (reader-step t r z n ∙ ap (λ (x : Table). ownStep x r t) (sym same))) (agree-step o s t r a)),
+    let u = local-e s r m in
+    let v = local-e t r (subst (λ (x : Table). T (localMove x r)) same m) in (
+      reader-reply s r y u ∙ (ap (λ (x : Table). ownReply x r) same ∙ sym (reader-reply t r z v)),
+      subst (λ (x : Table). Agree x (step t r) i) (sym (reader-step s r y u))
+          (subst (λ (x : Table). Agree (ownStep o r s) x i) (sym (reader-step t r z v ∙ ap (λ (x : Table). ownStep x r t) (sym same))) (agree-step o s t r a)),
     )
 
 -- and on bytes
-pub reader-local : (a b : List ℕ) (r : Request) → SoundBytes a → SoundBytes b → Agree (tableOf a) (tableOf b) (r .thread) → T (readerMove (tableOf a) r)
+pub reader-local : (a b : List ℕ) (r : Request) → SoundBytes a → SoundBytes b → Agree (tableOf a) (tableOf b) (r .thread) → T (localMove (tableOf a) r)
     → (moveReply a r ≡ moveReply b r) × Agree (tableOf (moveTable a r)) (tableOf (moveTable b r)) (r .thread)
 reader-local a b r x y g m =
     let on = reader-on (tableOf a) (tableOf b) r (x .is-sound) (y .is-sound) g m in (

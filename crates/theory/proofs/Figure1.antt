@@ -28,7 +28,7 @@ use Rattle.theory.proofs.Soundness.{All, Sound, sound-e}
 use Rattle.theory.proofs.Storages.{accepts-e, accepted-reply, accepted-table}
 use Rattle.theory.proofs.Tests.{not-i, implies-e, same?}
 use Rattle.theory.proofs.Ways.{Way, way, accepted-e}
-use Rattle.theory.proofs.Ways.{call-shared, raise-busy, find-open, find-forbidden, back-off, try-again, enter-shared, leave-shared, lower-busy, return-shared}
+use Rattle.theory.proofs.Ways.{call-shared, raise-busy, find-open, find-forbidden, back-off, try-again, hold-mutex, give-back, enter-shared, leave-shared, lower-busy, return-shared}
 use Rattle.theory.proofs.Ways.{call-exclusive, take-mutex, set-flag, find-busy, last-flag, next-flag, relents, give-up, enter-exclusive, leave-exclusive}
 use Rattle.theory.proofs.Ways.{set-again, clear-flag, clear-last, release-mutex, return-exclusive}
 use Rattle.theory.proofs.Writes.{update-same, update-other}
@@ -110,39 +110,41 @@ module _ (s : Table) (z : Sound s) (i : ℕ) (l : i < s .threads) where
 
   -- ---- the ways
 
-  figure-way : (t : ℕ) {x : Effect} → Way s i t x → Figure1 (nodesOf s) i (x .shows) (nodesOf (applied s (x .writes)))
+  figure-way : (mv t : ℕ) {x : Effect} → Way s i mv t x → Figure1 (nodesOf s) i (x .shows) (nodesOf (applied s (x .writes)))
   unfolding nodesOf rows arrows among
-  figure-way t (call-shared e) = takes 0 0 1 (omega arith) e refl refl (λ j k. tt)
-  figure-way t (call-exclusive e) = takes 5 0 9 (omega arith) e refl refl (λ j k. tt)
-  figure-way t (raise-busy e) = inl (stays 1 2 e refl, refl)
-  figure-way t (find-open e f) = takes 1 2 5 (omega arith) e refl refl (open-guard f)
-  figure-way t (find-forbidden e f) = inl (stays 2 3 e refl, refl)
-  figure-way t (back-off e) = inl (stays 3 4 e refl, refl)
-  figure-way t (try-again e) = inl (stays 4 1 e refl, refl)
-  figure-way t (enter-shared e) = takes 2 5 6 (omega arith) e refl refl (λ j k. tt)
-  figure-way t (leave-shared e) = takes 3 6 7 (omega arith) e refl refl (λ j k. tt)
-  figure-way t (lower-busy e) = inl (stays 7 8 e refl, refl)
-  figure-way t (return-shared e) = takes 4 8 0 (omega arith) e refl refl (λ j k. tt)
-  figure-way t (take-mutex e f) = takes 6 9 10 (omega arith) e refl refl (mutex-guard f)
-  figure-way t (find-busy e f) = inl (stays 11 12 e refl, refl)
-  figure-way t (last-flag e f a) = takes 7 11 13 (omega arith) e refl refl (last-guard e f a)
-  figure-way t (next-flag e f a) = inl (stays 11 10 e refl, refl)
-  figure-way t (give-up e) = inl (stays 12 10 e refl, refl)
-  figure-way t (enter-exclusive e) = takes 8 13 14 (omega arith) e refl refl (λ j k. tt)
-  figure-way t (leave-exclusive e) = takes 9 14 15 (omega arith) e refl refl (λ j k. tt)
-  figure-way t (release-mutex e) = inl (stays 16 17 e refl, refl)
-  figure-way t (return-exclusive e) = takes 11 17 0 (omega arith) e refl refl (λ j k. tt)
-  figure-way t (set-flag e f) = inl (stays 10 11 e refl, refl)
-  figure-way t (set-again e f) = inl (refl, refl)
-  figure-way t (clear-last e f a) = takes 10 15 16 (omega arith) e refl refl (λ j k. tt)
-  figure-way t (clear-flag e f a) = inl (refl, refl)
-  figure-way t (relents e) = inl (stays 11 12 e refl, refl)
+  figure-way mv t (call-shared e) = takes 0 _ _ (omega arith) e refl refl (λ j k. tt)
+  figure-way mv t (call-exclusive e) = takes 5 _ _ (omega arith) e refl refl (λ j k. tt)
+  figure-way mv t (raise-busy e) = inl (stays _ _ e refl, refl)
+  figure-way mv t (find-open e f) = takes 1 _ _ (omega arith) e refl refl (open-guard f)
+  figure-way mv t (find-forbidden e f) = inl (stays _ _ e refl, refl)
+  figure-way mv t (back-off e) = inl (stays _ _ e refl, refl)
+  figure-way mv t (try-again e) = inl (stays _ _ e refl, refl)
+  figure-way mv t (hold-mutex m e f) = inl (stays _ _ e refl, refl)
+  figure-way mv t (give-back m e) = inl (stays _ _ e refl, refl)
+  figure-way mv t (enter-shared e) = takes 2 _ _ (omega arith) e refl refl (λ j k. tt)
+  figure-way mv t (leave-shared e) = takes 3 _ _ (omega arith) e refl refl (λ j k. tt)
+  figure-way mv t (lower-busy e) = inl (stays _ _ e refl, refl)
+  figure-way mv t (return-shared e) = takes 4 _ _ (omega arith) e refl refl (λ j k. tt)
+  figure-way mv t (take-mutex m e f) = takes 6 _ _ (omega arith) e refl refl (mutex-guard f)
+  figure-way mv t (find-busy e f) = inl (stays _ _ e refl, refl)
+  figure-way mv t (last-flag e f a) = takes 7 _ _ (omega arith) e refl refl (last-guard e f a)
+  figure-way mv t (next-flag e f a) = inl (stays _ _ e refl, refl)
+  figure-way mv t (give-up e) = inl (stays _ _ e refl, refl)
+  figure-way mv t (enter-exclusive e) = takes 8 _ _ (omega arith) e refl refl (λ j k. tt)
+  figure-way mv t (leave-exclusive e) = takes 9 _ _ (omega arith) e refl refl (λ j k. tt)
+  figure-way mv t (release-mutex m e) = inl (stays _ _ e refl, refl)
+  figure-way mv t (return-exclusive e) = takes 11 _ _ (omega arith) e refl refl (λ j k. tt)
+  figure-way mv t (set-flag e f) = inl (stays _ _ e refl, refl)
+  figure-way mv t (set-again e f) = inl (refl, refl)
+  figure-way mv t (clear-last e f a) = takes 10 _ _ (omega arith) e refl refl (λ j k. tt)
+  figure-way mv t (clear-flag e f a) = inl (refl, refl)
+  figure-way mv t (relents e) = inl (stays _ _ e refl, refl)
 
 -- ---- the theorem
 
 -- on the record
 pub figure-on : (s : Table) (r : Request) → T (accepts s r) → Figure1 (nodesOf s) (r .thread) (effect s r .shows) (nodesOf (applied s (effect s r .writes)))
-figure-on s r t = let a = accepted-e s r t in figure-way s (sound-e s (a .is-sound)) (r .thread) (a .thread-fits) (r .target) (way s r a)
+figure-on s r t = let a = accepted-e s r t in figure-way s (sound-e s (a .is-sound)) (r .thread) (a .thread-fits) (r .mv) (r .target) (way s r a)
 
 pub figure-1 : (bytes : List ℕ) (r : Request) → T (acceptsIn byteTable bytes r) → OutsideView bytes r
 figure-1 bytes r t =

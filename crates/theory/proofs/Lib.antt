@@ -7,6 +7,7 @@ pub mod Lists
 pub mod Lengths
 pub mod Pairs
 pub mod Texts
+pub mod PlainMoves
 pub mod Numbers
 pub mod Digits
 pub mod Replies
@@ -18,6 +19,7 @@ pub mod Ways
 pub mod Soundness
 pub mod Stages
 pub mod SoundSteps
+pub mod Writers
 -- the theorems
 pub mod Storages
 pub mod SoundKept

@@ -24,6 +24,14 @@ none-among x (k ∷ ks) none = or-at x k ks (none .1) (none-among x ks (none .0)
 pub not-among : (x : ℕ) (ks : List ℕ) → NoneOf x ks → T (not (among x ks))
 not-among x ks none = not-i (among x ks) (none-among x ks none)
 
+-- the numbers of the arms, the last first, from the first on
+abbrev pub backwards : List ℕ → List ℕ
+backwards ks = onto ks []
+  where
+    onto : List ℕ → List ℕ → List ℕ
+    onto [] done = done
+    onto (k ∷ ks) done = onto ks (k ∷ done)
+
 -- where the arms are 0, 1, .. up to n - 1, it is past them
 abbrev pub downFrom : ℕ → List ℕ
 downFrom zero = []

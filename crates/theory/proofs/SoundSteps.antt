@@ -1,4 +1,4 @@
--- Every accepted move of the record leaves a sound table (`kept-sound`), and writes only to threads below N (`writes-fit`).
+-- Every accepted move of the record leaves a sound table (`kept-sound`).
 -- One lemma serves the moves of a thread that is not the holder and stays so (`outside-sound`); the holder's moves are shown stage by stage.
 use Prim.Native.Nat.{ℕ, zero, suc, _≤_, _<_}
 use native.Mathlib.Omega.{arith}
@@ -11,19 +11,18 @@ use Rattle.definitions.specs.Answers.{leaves}
 use Rattle.definitions.specs.Bounds.{lastPhase, noTarget}
 use Rattle.definitions.specs.Moves.{Effect, effect, allForbidden, noneForbiddenBut, stepReply, step, accepts}
 use Rattle.definitions.specs.Phases.{rows, busyIn, holds, reading}
-use Rattle.definitions.specs.Sound.{sound}
+use Rattle.definitions.specs.Sound.{sound, opened}
 use Rattle.definitions.specs.Table.{Table, mutex≔, target≔, phase≔, busy≔, forbidden≔, update, applied}
 use Rattle.definitions.specs.Threads.{every, between, implies}
 use Rattle.definitions.specs.declared.Request.{Request}
-use Rattle.theory.specs.Tables.{WritesFit}
 use Rattle.theory.proofs.Cases.{holder-phase}
 use Rattle.theory.proofs.Quantifiers.{every-at, not-every}
 use Rattle.theory.proofs.Replies.{leaves-yes, leaves-no}
 use Rattle.theory.proofs.Soundness.{All, In, Holds, Reads, Sound, sound-e, sound-i}
-use Rattle.theory.proofs.Stages.{range-holds, Fits, Stage, held-sound, nobody-sound, stage-10, stage-11, stage-13, stage-15, stage-16}
-use Rattle.theory.proofs.Tests.{T-ne, decided, no-both, or-e, or-l, or-r, same?, eq-T, implies-e}
+use Rattle.theory.proofs.Stages.{range-holds, opened-holds, opened-apart, Fits, Stage, held-sound, nobody-sound, stage-10, stage-11, stage-13, stage-15, stage-opened}
+use Rattle.theory.proofs.Tests.{T-ne, decided, no-both, not-i, or-e, or-l, or-r, same?, eq-T, implies-e}
 use Rattle.theory.proofs.Ways.{Way, way, accepted-e}
-use Rattle.theory.proofs.Ways.{call-shared, raise-busy, find-open, find-forbidden, back-off, try-again, enter-shared, leave-shared, lower-busy, return-shared}
+use Rattle.theory.proofs.Ways.{call-shared, raise-busy, find-open, find-forbidden, back-off, try-again, hold-mutex, give-back, enter-shared, leave-shared, lower-busy, return-shared}
 use Rattle.theory.proofs.Ways.{call-exclusive, take-mutex, set-flag, find-busy, last-flag, next-flag, relents, give-up, enter-exclusive, leave-exclusive}
 use Rattle.theory.proofs.Ways.{set-again, clear-flag, clear-last, release-mutex, return-exclusive}
 use Rattle.theory.proofs.Writes.{update-same, update-other}
@@ -139,7 +138,7 @@ module _ (s : Table) (z : Sound s) (i : ℕ) (l : i < s .threads) where
           has-target = λ x k t. z .has-target x k (back (between 11 12) (range-holds 11 12 (omega arith) (omega arith)) x t);
           no-target = λ none. z .no-target (forth (between 11 12) (range-holds 11 12 (omega arith) (omega arith)) none);
           open-free = λ none. z .open-free (forth holds (λ q u. u) none);
-          open-16 = λ x k t. z .open-16 x k (back (between 16 16) (range-holds 16 16 (omega arith) (omega arith)) x t);
+          open-held = λ x k t. z .open-held x k (back opened opened-holds x t);
           some-clear = λ x k t. z .some-clear x k (back (between 10 10) (range-holds 10 10 (omega arith) (omega arith)) x t);
           guarded-10 = λ x k t j n f r. ⊎-elim (z .guarded-10 x k (back (between 10 10) (range-holds 10 10 (omega arith) (omega arith)) x t) j n f) (λ c. clear j c f) (read reads j r);
           guarded-11 = λ x k t j n h f r. ⊎-elim (z .guarded-11 x k (back (between 11 12) (range-holds 11 12 (omega arith) (omega arith)) x t) j n h f) (λ c. clear j c f) (read reads j r);
@@ -224,14 +223,30 @@ module _ (s : Table) (z : Sound s) (i : ℕ) (l : i < s .threads) where
       by (inl q) = quiet (ap (s .busy) (sym q) ∙ (z .busies j k ∙ reading-busy (s .phase j) (z .phases j k) r))
       by (inr h) = z .guarded-11 i l (in-phase 11 e tt 11 12 tt) j k h f r
 
-  takes-mutex : s .phase i ≡ 9 → (s .mutex ≡ 1 → ⊥) → T (sound (applied s (phase≔ i 10 ∷ mutex≔ 1 ∷ [])))
-  unfolding rows
-  takes-mutex e f =
-      let none : All s (λ j. Holds s j → ⊥) = λ j k u. f (z .held j k u) in
-      let clear = z .open-free none in
-      let s′ = applied s (phase≔ i 10 ∷ mutex≔ 1 ∷ []) in
-      goes-to 9 10 1 (s .target) (update (s .phase) i 10) (s .forbidden) e (λ j k u. absurd (none j k u)) (put (s .phase) i 10) tt refl refl (z .flags)
-      (stage-10 s′ (z .no-target (λ j k u. none j k (range-holds 11 12 (omega arith) (omega arith) (s .phase j) u))) (i, l, clear i l) (λ j k o r. let c = clear j k in omega arith))
+  -- the mutex isn't 1: nobody holds it, and no thread is kept out
+  module _ (f : s .mutex ≡ 1 → ⊥) where
+    nobody-holds : All s (λ j. Holds s j → ⊥)
+    nobody-holds j k u = f (z .held j k u)
+
+    idle : s .target ≡ noTarget
+    idle = z .no-target (λ j k u. nobody-holds j k (range-holds 11 12 (omega arith) (omega arith) (s .phase j) u))
+
+    -- a thread in phase p takes it and goes to phase v
+    takes-mutex : (p v : ℕ) → s .phase i ≡ p → T (holds v) → busyIn p ≡ busyIn v → Stage (applied s (phase≔ i v ∷ mutex≔ 1 ∷ [])) v
+        → T (sound (applied s (phase≔ i v ∷ mutex≔ 1 ∷ [])))
+    takes-mutex p v e t eb stage =
+        goes-to p v 1 (s .target) (update (s .phase) i v) (s .forbidden) e (λ j k u. absurd (nobody-holds j k u)) (put (s .phase) i v) t eb refl (z .flags) stage
+
+    writer-takes : s .phase i ≡ 9 → T (sound (applied s (phase≔ i 10 ∷ mutex≔ 1 ∷ [])))
+    unfolding rows
+    writer-takes e =
+        let clear = z .open-free nobody-holds in
+        takes-mutex 9 10 e tt refl
+        (stage-10 (applied s (phase≔ i 10 ∷ mutex≔ 1 ∷ [])) idle (i, l, clear i l) (λ j k o r. let c = clear j k in omega arith))
+
+    reader-takes : s .phase i ≡ 4 → T (sound (applied s (phase≔ i 18 ∷ mutex≔ 1 ∷ [])))
+    unfolding rows
+    reader-takes e = takes-mutex 4 18 e tt refl (stage-opened (applied s (phase≔ i 18 ∷ mutex≔ 1 ∷ [])) 18 tt idle (z .open-free nobody-holds))
 
   to-12 : s .phase i ≡ 11 → T (sound (applied s (phase≔ i 12 ∷ [])))
   unfolding rows
@@ -280,13 +295,16 @@ module _ (s : Table) (z : Sound s) (i : ℕ) (l : i < s .threads) where
       holds-on 14 e tt 15 (s .target) (update (s .phase) i 15) (s .forbidden) (put (s .phase) i 15) tt refl (z .flags)
       (stage-15 (applied s (phase≔ i 15 ∷ [])) (idle-target 14 e tt tt) (i, l, z .all-forbidden i l (in-phase 14 e tt 13 14 tt) i l))
 
-  releases : s .phase i ≡ 16 → T (sound (applied s (phase≔ i 17 ∷ mutex≔ 0 ∷ [])))
-  unfolding rows
-  releases e =
-      nobody-sound (applied s (phase≔ i 17 ∷ mutex≔ 0 ∷ []))
-      (fits-after 17 (s .busy i) 0 (s .target) (update (s .phase) i 17) (s .busy) (s .forbidden) (omega arith) (busy-at 16 e) (put (s .phase) i 17) (keep (s .busy) i (s .busy i) refl) (z .flags))
-      (λ j k u. let b = put-back (λ q. T (holds q)) (s .phase) (update (s .phase) i 17) i 17 (put (s .phase) i 17) (λ o. o) j u in b .0 (holder-alone 16 e tt j k (b .1)))
-      refl (idle-target 16 e tt tt) (z .open-16 i l (in-phase 16 e tt 16 16 tt))
+  -- a holder that keeps no thread out lets the mutex go, and goes to a phase v that doesn't hold it
+  releases : (p v : ℕ) → s .phase i ≡ p → T (opened p) → T (not (holds v)) → v ≤ lastPhase → busyIn p ≡ busyIn v → T (sound (applied s (phase≔ i v ∷ mutex≔ 0 ∷ [])))
+  releases p v e o nv fit eb =
+      let hp = opened-holds p o in
+      nobody-sound (applied s (phase≔ i v ∷ mutex≔ 0 ∷ []))
+      (fits-after v (s .busy i) 0 (s .target) (update (s .phase) i v) (s .busy) (s .forbidden) fit (busy-at p e ∙ eb) (put (s .phase) i v) (keep (s .busy) i (s .busy i) refl) (z .flags))
+      (λ j k u. let b = put-back (λ q. T (holds q)) (s .phase) (update (s .phase) i v) i v (put (s .phase) i v) (λ h. no-both (holds v) h nv) j u in b .0 (holder-alone p e hp j k (b .1)))
+      refl
+      (idle-target p e hp (not-i (between 11 12 p) (λ t. opened-apart 11 12 p (omega arith) t o)))
+      (z .open-held i l (subst (λ (q : ℕ). T (opened q)) (sym e) o))
 
   sets : (t : ℕ) → s .phase i ≡ 10 → t < s .threads → T (sound (applied s (phase≔ i 11 ∷ forbidden≔ t 1 ∷ target≔ t ∷ [])))
   unfolding rows
@@ -306,7 +324,7 @@ module _ (s : Table) (z : Sound s) (i : ℕ) (l : i < s .threads) where
   unfolding rows
   clears-last t e f a =
       holds-on 15 e tt 16 (s .target) (update (s .phase) i 16) (update (s .forbidden) t 0) (put (s .phase) i 16) tt refl (flags-after t 0 (omega arith))
-      (stage-16 (applied s (forbidden≔ t 0 ∷ phase≔ i 16 ∷ [])) (idle-target 15 e tt tt) (λ j k. clear j k (same? j t)))
+      (stage-opened (applied s (forbidden≔ t 0 ∷ phase≔ i 16 ∷ [])) 16 tt (idle-target 15 e tt tt) (λ j k. clear j k (same? j t)))
     where
       clear : (j : ℕ) → j < s .threads → (j ≡ t) ⊎ (j ≡ t → ⊥) → update (s .forbidden) t 0 j ≡ 0
       clear j k (inl q) = update-same (s .forbidden) t 0 j q
@@ -327,36 +345,38 @@ module _ (s : Table) (z : Sound s) (i : ℕ) (l : i < s .threads) where
 
   -- ---- the ways
 
-  kept : (t : ℕ) {x : Effect} → Way s i t x → T (sound (applied s (x .writes)))
+  kept : (mv t : ℕ) {x : Effect} → Way s i mv t x → T (sound (applied s (x .writes)))
   unfolding rows
-  kept t (call-shared e) = phase-moves 0 1 e tt tt (λ r. absurd r) (omega arith) refl
-  kept t (call-exclusive e) = phase-moves 0 9 e tt tt (λ r. absurd r) (omega arith) refl
-  kept t (raise-busy e) = busy-moves 1 2 1 e tt tt (λ r. absurd r) (omega arith) refl
-  kept t (find-open e f) = phase-moves 2 5 e tt tt (λ r. inr f) (omega arith) refl
-  kept t (find-forbidden e f) = phase-moves 2 3 e tt tt (λ r. absurd r) (omega arith) refl
-  kept t (back-off e) = busy-moves 3 4 0 e tt tt (λ r. absurd r) (omega arith) refl
-  kept t (try-again e) = phase-moves 4 1 e tt tt (λ r. absurd r) (omega arith) refl
-  kept t (enter-shared e) = phase-moves 5 6 e tt tt (λ r. inl tt) (omega arith) refl
-  kept t (leave-shared e) = phase-moves 6 7 e tt tt (λ r. inl tt) (omega arith) refl
-  kept t (lower-busy e) = busy-moves 7 8 0 e tt tt (λ r. absurd r) (omega arith) refl
-  kept t (return-shared e) = phase-moves 8 0 e tt tt (λ r. absurd r) (omega arith) refl
-  kept t (return-exclusive e) = phase-moves 17 0 e tt tt (λ r. absurd r) (omega arith) refl
-  kept t (take-mutex e f) = takes-mutex e f
-  kept t (find-busy e f) = to-12 e
-  kept t (relents e) = to-12 e
-  kept t (last-flag e f a) = to-13 e f a
-  kept t (next-flag e f a) = to-10 e f a
-  kept t (give-up e) = gives-up e
-  kept t (enter-exclusive e) = to-14 e
-  kept t (leave-exclusive e) = to-15 e
-  kept t (release-mutex e) = releases e
-  kept t (set-flag e f) = sets t e f
-  kept t (set-again e f) = sets-again t e f
-  kept t (clear-last e f a) = clears-last t e f a
-  kept t (clear-flag e f a) = clears t e f a
+  kept mv t (call-shared e) = phase-moves _ _ e tt tt (λ r. absurd r) (omega arith) refl
+  kept mv t (call-exclusive e) = phase-moves _ _ e tt tt (λ r. absurd r) (omega arith) refl
+  kept mv t (raise-busy e) = busy-moves _ _ _ e tt tt (λ r. absurd r) (omega arith) refl
+  kept mv t (find-open e f) = phase-moves _ _ e tt tt (λ r. inr f) (omega arith) refl
+  kept mv t (find-forbidden e f) = phase-moves _ _ e tt tt (λ r. absurd r) (omega arith) refl
+  kept mv t (back-off e) = busy-moves _ _ _ e tt tt (λ r. absurd r) (omega arith) refl
+  kept mv t (try-again e) = phase-moves _ _ e tt tt (λ r. absurd r) (omega arith) refl
+  kept mv t (enter-shared e) = phase-moves _ _ e tt tt (λ r. inl tt) (omega arith) refl
+  kept mv t (leave-shared e) = phase-moves _ _ e tt tt (λ r. inl tt) (omega arith) refl
+  kept mv t (lower-busy e) = busy-moves _ _ _ e tt tt (λ r. absurd r) (omega arith) refl
+  kept mv t (return-shared e) = phase-moves _ _ e tt tt (λ r. absurd r) (omega arith) refl
+  kept mv t (return-exclusive e) = phase-moves _ _ e tt tt (λ r. absurd r) (omega arith) refl
+  kept mv t (take-mutex m e f) = writer-takes f e
+  kept mv t (hold-mutex m e f) = reader-takes f e
+  kept mv t (find-busy e f) = to-12 e
+  kept mv t (relents e) = to-12 e
+  kept mv t (last-flag e f a) = to-13 e f a
+  kept mv t (next-flag e f a) = to-10 e f a
+  kept mv t (give-up e) = gives-up e
+  kept mv t (enter-exclusive e) = to-14 e
+  kept mv t (leave-exclusive e) = to-15 e
+  kept mv t (release-mutex m e) = releases _ _ e tt tt (omega arith) refl
+  kept mv t (give-back m e) = releases _ _ e tt tt (omega arith) refl
+  kept mv t (set-flag e f) = sets t e f
+  kept mv t (set-again e f) = sets-again t e f
+  kept mv t (clear-last e f a) = clears-last t e f a
+  kept mv t (clear-flag e f a) = clears t e f a
 
 pub kept-sound : (s : Table) (r : Request) → T (accepts s r) → T (sound (applied s (effect s r .writes)))
-kept-sound s r e = let a = accepted-e s r e in kept s (sound-e s (a .is-sound)) (r .thread) (a .thread-fits) (r .target) (way s r a)
+kept-sound s r e = let a = accepted-e s r e in kept s (sound-e s (a .is-sound)) (r .thread) (a .thread-fits) (r .mv) (r .target) (way s r a)
 
 pub step-sound : (s : Table) (r : Request) → T (sound s) → T (sound (step s r))
 unfolding step
@@ -365,36 +385,3 @@ step-sound s r z = by (decided (accepts s r))
     by : T (accepts s r) ⊎ T (not (accepts s r)) → T (sound (leaves (stepReply s r) (applied s (effect s r .writes)) s))
     by (inl t) = subst (λ (x : Table). T (sound x)) (sym (leaves-yes (applied s (effect s r .writes)) s (stepReply s r) t)) (kept-sound s r t)
     by (inr t) = subst (λ (x : Table). T (sound x)) (sym (leaves-no (applied s (effect s r .writes)) s (stepReply s r) t)) z
-
--- ---- where a move writes
-
-fit-ways : (s : Table) → Sound s → (i : ℕ) → i < s .threads → (t : ℕ) {x : Effect} → Way s i t x → WritesFit (s .threads) (x .writes)
-unfolding rows
-fit-ways s z i l t (call-shared e) = (l, tt)
-fit-ways s z i l t (call-exclusive e) = (l, tt)
-fit-ways s z i l t (raise-busy e) = (l, (l, tt))
-fit-ways s z i l t (find-open e f) = (l, tt)
-fit-ways s z i l t (find-forbidden e f) = (l, tt)
-fit-ways s z i l t (back-off e) = (l, (l, tt))
-fit-ways s z i l t (try-again e) = (l, tt)
-fit-ways s z i l t (enter-shared e) = (l, tt)
-fit-ways s z i l t (leave-shared e) = (l, tt)
-fit-ways s z i l t (lower-busy e) = (l, (l, tt))
-fit-ways s z i l t (return-shared e) = (l, tt)
-fit-ways s z i l t (take-mutex e f) = (l, (tt, tt))
-fit-ways s z i l t (find-busy e f) = (l, tt)
-fit-ways s z i l t (last-flag e f a) = (l, (tt, tt))
-fit-ways s z i l t (next-flag e f a) = (l, (tt, tt))
-fit-ways s z i l t (give-up e) = (l, (z .has-target i l (in-phase s z i l 12 e tt 11 12 tt) .0, (tt, tt)))
-fit-ways s z i l t (enter-exclusive e) = (l, tt)
-fit-ways s z i l t (leave-exclusive e) = (l, tt)
-fit-ways s z i l t (release-mutex e) = (l, (tt, tt))
-fit-ways s z i l t (return-exclusive e) = (l, tt)
-fit-ways s z i l t (set-flag e f) = (l, (f, (tt, tt)))
-fit-ways s z i l t (set-again e f) = (f, tt)
-fit-ways s z i l t (clear-last e f a) = (f, (l, tt))
-fit-ways s z i l t (clear-flag e f a) = (f, tt)
-fit-ways s z i l t (relents e) = (l, tt)
-
-pub writes-fit : (s : Table) (r : Request) → T (accepts s r) → WritesFit (s .threads) (effect s r .writes)
-writes-fit s r e = let a = accepted-e s r e in fit-ways s (sound-e s (a .is-sound)) (r .thread) (a .thread-fits) (r .target) (way s r a)

@@ -8,7 +8,7 @@ use mathlib.Core.Path.{_≡_, sym, subst, _∙_}
 use lib.Dec.{T, leb, ltb, eqb, leb→le, le→leb, ltb→lt, lt→ltb, eqb→eq}
 use Rattle.definitions.specs.Bounds.{lastPhase, noTarget}
 use Rattle.definitions.specs.Phases.{rows, busyIn, holds, reading}
-use Rattle.definitions.specs.Sound.{sound, anyHolder, holderIn, phaseRule, flagRule, busyRule, holderRule, mutexRule, targetRule, openRule, rule10, rule11, rule13, rule15}
+use Rattle.definitions.specs.Sound.{sound, anyHolder, holderIn, opened, holderOpened, phaseRule, flagRule, busyRule, holderRule, mutexRule, targetRule, openRule, rule10, rule11, rule13, rule15}
 use Rattle.definitions.specs.Table.{Table}
 use Rattle.definitions.specs.Threads.{every, some, howMany, between, allOf, implies}
 use Rattle.theory.proofs.Quantifiers.{every-at, every-i, some-i, some-e, at-most-one, one-at-most}
@@ -21,12 +21,15 @@ All s P = (j : ℕ) → j < s .threads → P j
 abbrev pub Some : Table → (ℕ → Type 0) → Type 0
 Some s P = (j : ℕ) × (j < s .threads) × P j
 
--- thread j is in phases a to b; it is the holder; it is in 5 to 7
+-- thread j is in phases a to b; it is the holder; it is the holder in a phase that keeps no thread out; it is in 5 to 7
 abbrev pub In : ℕ → ℕ → Table → ℕ → Type 0
 In a b s j = T (between a b (s .phase j))
 
 abbrev pub Holds : Table → ℕ → Type 0
 Holds s j = T (holds (s .phase j))
+
+abbrev pub Opened : Table → ℕ → Type 0
+Opened s j = T (opened (s .phase j))
 
 abbrev pub Reads : Table → ℕ → Type 0
 Reads s j = T (reading (s .phase j))
@@ -42,7 +45,7 @@ pub record Sound (s : Table) : Type 0 where
   pub has-target : All s (λ i. In 11 12 s i → (s .target < s .threads) × (s .forbidden (s .target) ≡ 1))
   pub no-target : All s (λ i. In 11 12 s i → ⊥) → s .target ≡ noTarget
   pub open-free : All s (λ i. Holds s i → ⊥) → All s (λ j. s .forbidden j ≡ 0)
-  pub open-16 : All s (λ i. In 16 16 s i → All s (λ j. s .forbidden j ≡ 0))
+  pub open-held : All s (λ i. Opened s i → All s (λ j. s .forbidden j ≡ 0))
   pub some-clear : All s (λ i. In 10 10 s i → Some s (λ j. s .forbidden j ≡ 0))
   pub guarded-10 : All s (λ i. In 10 10 s i → All s (λ j. s .forbidden j ≡ 1 → Reads s j → ⊥))
   pub guarded-11 : All s (λ i. In 11 12 s i → All s (λ j. (j ≡ s .target → ⊥) → s .forbidden j ≡ 1 → Reads s j → ⊥))
@@ -207,24 +210,24 @@ module _ (s : Table) where
   abbrev all-clear : Bool
   all-clear = every (s .threads) (λ i. eqb (s .forbidden i) 0)
 
-  open-e : T (openRule s) → (All s (λ i. Holds s i → ⊥) → All s (λ j. s .forbidden j ≡ 0)) × All s (λ i. In 16 16 s i → All s (λ j. s .forbidden j ≡ 0))
+  open-e : T (openRule s) → (All s (λ i. Holds s i → ⊥) → All s (λ j. s .forbidden j ≡ 0)) × All s (λ i. Opened s i → All s (λ j. s .forbidden j ≡ 0))
   unfolding openRule
   open-e t = (
-    (λ h. clear (or-l (not (anyHolder s)) (holderIn 16 16 s) (in-none s holds h))),
-    (λ i l h. clear (or-r (not (anyHolder s)) (holderIn 16 16 s) (in-some s (between 16 16) i l h))),
+    (λ h. clear (or-l (not (anyHolder s)) (holderOpened s) (in-none s holds h))),
+    (λ i l h. clear (or-r (not (anyHolder s)) (holderOpened s) (in-some s opened i l h))),
   )
     where
-      clear : T (not (anyHolder s) || holderIn 16 16 s) → All s (λ j. s .forbidden j ≡ 0)
-      clear u = column-e s (s .forbidden) 0 (implies-e (not (anyHolder s) || holderIn 16 16 s) all-clear t u)
+      clear : T (not (anyHolder s) || holderOpened s) → All s (λ j. s .forbidden j ≡ 0)
+      clear u = column-e s (s .forbidden) 0 (implies-e (not (anyHolder s) || holderOpened s) all-clear t u)
 
-  open-i : (All s (λ i. Holds s i → ⊥) → All s (λ j. s .forbidden j ≡ 0)) → All s (λ i. In 16 16 s i → All s (λ j. s .forbidden j ≡ 0)) → T (openRule s)
+  open-i : (All s (λ i. Holds s i → ⊥) → All s (λ j. s .forbidden j ≡ 0)) → All s (λ i. Opened s i → All s (λ j. s .forbidden j ≡ 0)) → T (openRule s)
   unfolding openRule
   open-i f g =
-      implies-i (not (anyHolder s) || holderIn 16 16 s) all-clear (λ u. column-i s (s .forbidden) 0 (by (or-e (not (anyHolder s)) (holderIn 16 16 s) u)))
+      implies-i (not (anyHolder s) || holderOpened s) all-clear (λ u. column-i s (s .forbidden) 0 (by (or-e (not (anyHolder s)) (holderOpened s) u)))
     where
-      by : T (not (anyHolder s)) ⊎ T (holderIn 16 16 s) → All s (λ j. s .forbidden j ≡ 0)
+      by : T (not (anyHolder s)) ⊎ T (holderOpened s) → All s (λ j. s .forbidden j ≡ 0)
       by (inl t) = f (none-in s holds t)
-      by (inr t) = let r = some-in s (between 16 16) t in g (r .0) (r .1) (r .2)
+      by (inr t) = let r = some-in s opened t in g (r .0) (r .1) (r .2)
 
   abbrev some-0 : Bool
   some-0 = some (s .threads) (λ i. eqb (s .forbidden i) 0)
@@ -330,7 +333,7 @@ sound-e s t =
       has-target = target-e s (f .0) .0;
       no-target = target-e s (f .0) .1;
       open-free = open-e s (g .0) .0;
-      open-16 = open-e s (g .0) .1;
+      open-held = open-e s (g .0) .1;
       some-clear = λ x l m. rule10-e s (h .0) x l m .0;
       guarded-10 = λ x l m. rule10-e s (h .0) x l m .1;
       guarded-11 = rule11-e s (i .0);
@@ -348,7 +351,7 @@ sound-i s z =
     (add-rule _ _ (holder-i s (z .one-holder))
     (add-rule _ _ (mutex-i s (z .held) (z .free))
     (add-rule _ _ (target-i s (z .has-target) (z .no-target))
-    (add-rule _ _ (open-i s (z .open-free) (z .open-16))
+    (add-rule _ _ (open-i s (z .open-free) (z .open-held))
     (add-rule _ _ (rule10-i s (z .some-clear) (z .guarded-10))
     (add-rule _ _ (rule11-i s (z .guarded-11))
     (add-rule _ _ (rule13-i s (z .all-forbidden) (z .no-reader)) (add-rule _ _ (rule15-i s (z .some-forbidden)) none-left))))))))))

@@ -4,7 +4,7 @@ use native.Mathlib.Decide.{decLt}
 use native.Mathlib.Omega.{arith}
 use mathlib.Core.Bool.{Bool, true, false, cond, not, _&&_, _||_}
 use mathlib.Core.Logic.{_⊎_, inl, inr}
-use mathlib.Core.Path.{_≡_, refl, sym, subst}
+use mathlib.Core.Path.{_≡_, refl, sym, subst, ap, _∙_}
 use lib.Dec.{T, eqb, eqb→eq, eqb-refl}
 
 pub and-l : (a b : Bool) → T (a && b) → T a
@@ -63,6 +63,11 @@ same-test false false f g = refl
 
 pub and-both : (a b : Bool) → (a && b) ≡ true → (a ≡ true) × (b ≡ true)
 and-both a b e = let t = true-T (a && b) e in (T-true a (and-l a b t), T-true b (and-r a b t))
+
+-- the second tests are compared where the first holds
+pub and-cong : (a a′ b b′ : Bool) → a ≡ a′ → (T a → b ≡ b′) → (a && b) ≡ (a′ && b′)
+and-cong true a′ b b′ e f = f tt ∙ ap (λ (x : Bool). x && b′) e
+and-cong false a′ b b′ e f = ap (λ (x : Bool). x && b′) e
 
 pub no-both : (b : Bool) → T b → T (not b) → ⊥
 no-both true s t = t

@@ -1,17 +1,16 @@
 -- The words of the theorems' statements: what is seen of a move from outside, who may write what, what a reader uses, and a pair that stands in a list.
 use Prim.Native.Nat.{ℕ, _+_, _*_, _<_}
-use mathlib.Core.Bool.{Bool, _&&_, _||_}
-use mathlib.Core.List.{List}
-use mathlib.Core.Logic.{_⊎_}
+use mathlib.Core.Bool.{Bool, cond, not, _&&_, _||_}
+use mathlib.Core.List.{List, [], _∷_}
 use mathlib.Core.Path.{_≡_}
 use lib.Dec.{T, eqb}
 use lib.ListN.{length, getD}
 use Rattle.definitions.specs.Answers.{accepted, Seen}
-use Rattle.definitions.specs.Codes.{go, callShared}
-use Rattle.definitions.specs.Moves.{moveReply, moveTable}
+use Rattle.definitions.specs.Codes.{go, callShared, hold}
+use Rattle.definitions.specs.Moves.{namesThread, takesMutex, moveReply, moveTable}
 use Rattle.definitions.specs.Nodes.{nodesOf, Figure1}
-use Rattle.definitions.specs.Phases.{holds}
-use Rattle.definitions.specs.Table.{Table, tableOf, phaseAt, busyAt, forbiddenAt}
+use Rattle.definitions.specs.Sound.{opened}
+use Rattle.definitions.specs.Table.{Table, Write, mutex≔, target≔, phase≔, busy≔, forbidden≔, tableOf, phaseAt, busyAt, forbiddenAt}
 use Rattle.definitions.specs.Threads.{between}
 use Rattle.definitions.specs.declared.Request.{Request}
 
@@ -25,32 +24,74 @@ pub record OutsideView (bytes : List ℕ) (r : Request) : Type 0 where
 
 -- ---- who writes what
 
--- byte k of the table may be written by thread i in phase p: its own phase and busy; a forbidden if it holds the mutex; the mutex in 9 and 16; the target in 10 to 12
-pub data MayWrite (i p k : ℕ) : Type 0 where
-  its-phase : k ≡ phaseAt i → MayWrite i p k
-  its-busy : k ≡ busyAt i → MayWrite i p k
-  a-forbidden : (j : ℕ) → k ≡ forbiddenAt j → T (holds p) → MayWrite i p k
-  the-mutex : k ≡ 1 → (p ≡ 9) ⊎ (p ≡ 16) → MayWrite i p k
-  the-target : k ≡ 2 → T (between 10 12 p) → MayWrite i p k
+-- the moves that write the mutex, by the mover's phase: those that take it, go in 9 and hold in 4, and those that let it go, go in 16 and in 18
+abbrev pub writesMutex : ℕ → ℕ → Bool
+writesMutex phase mv = takesMutex phase mv || eqb mv go && opened phase
 
--- the same for each kind of byte: s before, s′ after a request of thread i
-pub record Disciplined (s : Table) (i : ℕ) (s′ : Table) : Type 0 where
+-- the phases in which a forbidden may be written, those of a writer that holds the mutex, and those in which the target may
+abbrev pub writesFlag : ℕ → Bool
+writesFlag phase = between 10 16 phase
+
+abbrev pub writesTarget : ℕ → Bool
+writesTarget phase = between 10 12 phase
+
+-- the thread whose busy a move may read and whose forbidden it may write: that of the request for set and clear, the table's target in phases 11 and 12, else the mover
+unfoldable pub subjectBy : Request → ℕ → ℕ → ℕ
+subjectBy r phase target = cond (namesThread (r .mv)) (r .target) (cond (between 11 12 phase) target (r .thread))
+
+abbrev pub subjectOf : Table → Request → ℕ
+subjectOf s r = subjectBy r (s .phase (r .thread)) (s .target)
+
+-- what a request may write: the mover's phase and busy; the subject's forbidden, the mutex and the target where these may be written
+abbrev pub MayMake : Table → Request → Write → Type 0
+MayMake s r (phase≔ j v) = j ≡ r .thread
+MayMake s r (busy≔ j v) = j ≡ r .thread
+MayMake s r (forbidden≔ j v) = (j ≡ subjectOf s r) × T (writesFlag (s .phase (r .thread)))
+MayMake s r (mutex≔ v) = T (writesMutex (s .phase (r .thread)) (r .mv))
+MayMake s r (target≔ v) = T (writesTarget (s .phase (r .thread)))
+
+abbrev pub MayMakeAll : Table → Request → List Write → Type 0
+MayMakeAll s r [] = Unit {0}
+MayMakeAll s r (w ∷ ws) = MayMake s r w × MayMakeAll s r ws
+
+-- the same by the table's bytes: what byte k may be, if a request of a thread in phase p may write it
+pub data MayWrite (r : Request) (p k : ℕ) : Type 0 where
+  its-phase : k ≡ phaseAt (r .thread) → MayWrite r p k
+  its-busy : k ≡ busyAt (r .thread) → MayWrite r p k
+  a-forbidden : (j : ℕ) → k ≡ forbiddenAt j → T (writesFlag p) → MayWrite r p k
+  the-mutex : k ≡ 1 → T (writesMutex p (r .mv)) → MayWrite r p k
+  the-target : k ≡ 2 → T (writesTarget p) → MayWrite r p k
+
+-- and for each kind of byte: s before, s′ after a request
+pub record Disciplined (s : Table) (r : Request) (s′ : Table) : Type 0 where
   pub threads-kept : s′ .threads ≡ s .threads
-  pub phase-own : (j : ℕ) → (j ≡ i → ⊥) → s′ .phase j ≡ s .phase j
-  pub busy-own : (j : ℕ) → (j ≡ i → ⊥) → s′ .busy j ≡ s .busy j
-  pub forbidden-held : (T (holds (s .phase i)) → ⊥) → (j : ℕ) → s′ .forbidden j ≡ s .forbidden j
-  pub mutex-in : (s .phase i ≡ 9 → ⊥) → (s .phase i ≡ 16 → ⊥) → s′ .mutex ≡ s .mutex
-  pub target-in : (T (between 10 12 (s .phase i)) → ⊥) → s′ .target ≡ s .target
+  pub phase-own : (j : ℕ) → (j ≡ r .thread → ⊥) → s′ .phase j ≡ s .phase j
+  pub busy-own : (j : ℕ) → (j ≡ r .thread → ⊥) → s′ .busy j ≡ s .busy j
+  pub forbidden-held : (T (writesFlag (s .phase (r .thread))) → ⊥) → (j : ℕ) → s′ .forbidden j ≡ s .forbidden j
+  pub mutex-in : (T (writesMutex (s .phase (r .thread)) (r .mv)) → ⊥) → s′ .mutex ≡ s .mutex
+  pub target-in : (T (writesTarget (s .phase (r .thread))) → ⊥) → s′ .target ≡ s .target
 
 -- ---- what a reader uses
 
--- the phases of a reader's program
-abbrev pub readerPhase : ℕ → Bool
-readerPhase phase = between 1 8 phase
+-- the phases of a reader's round
+abbrev pub readerRound : ℕ → Bool
+readerRound phase = between 1 8 phase
 
--- a reader's request: call shared, or go in one of them
+-- and that in which it holds the mutex before it tries again
+abbrev pub readerPhase : ℕ → Bool
+readerPhase phase = readerRound phase || eqb phase 18
+
+-- a reader's request: call shared, or go or hold in one of them
 abbrev pub readerMove : Table → Request → Bool
-readerMove s r = eqb (r .mv) callShared || (eqb (r .mv) go && readerPhase (s .phase (r .thread)))
+readerMove s r = eqb (r .mv) callShared || (eqb (r .mv) go || eqb (r .mv) hold) && readerPhase (s .phase (r .thread))
+
+-- a reader's moves at the mutex: hold in 4, and go in 18
+abbrev pub atMutex : Table → Request → Bool
+atMutex s r = eqb (r .mv) hold && eqb (s .phase (r .thread)) 4 || eqb (r .mv) go && eqb (s .phase (r .thread)) 18
+
+-- the others use the reader's own three bytes alone
+abbrev pub localMove : Table → Request → Bool
+localMove s r = readerMove s r && not (atMutex s r)
 
 -- two tables of the same N in which thread i's three bytes are the same
 pub record Agree (s t : Table) (i : ℕ) : Type 0 where

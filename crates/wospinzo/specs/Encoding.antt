@@ -35,4 +35,4 @@ valueBound = 36_028_797_018_963_968
 
 -- the version, as the header has it: 65,536 times the major number, 256 times the minor one, and the patch number
 abbrev pub version : ℕ
-version = 65_536 * 1 + 256 * 0 + 0
+version = 65_536 * 1 + 256 * 1 + 0

@@ -19,7 +19,7 @@ ghost use Rattle.wospinzo.specs.Encoding.{moveNumber, countNumber, value
 // The part's version: major, minor and patch number. The major number changes with a promise or with the header.
 const MAJOR: u32 = 1;
 
-const MINOR: u32 = 0;
+const MINOR: u32 = 1;
 
 const PATCH: u32 = 0;
 

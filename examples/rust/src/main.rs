@@ -2,8 +2,11 @@
 //!
 //! Each turn gives every task one move. Readers read the settings piece by
 //! piece, a piece a turn, and look for tearing: words of two versions in one
-//! read. Panel tasks rewrite the settings, a piece a turn too. The program
-//! counts reads, writes and torn reads, of which there must be none.
+//! read. Panel tasks rewrite the settings now and then, a piece a turn too. A
+//! reader that is turned away waits for the mutex, for some turns at most,
+//! before it tries again; it gives the mutex back in the turn in which it took
+//! it. The program counts reads, writes and torn reads, of which there must be
+//! none.
 
 use std::process::ExitCode;
 
@@ -17,6 +20,10 @@ const TASKS: usize = READERS + PANELS;
 const TURNS: usize = 20_000;
 const PIECES: usize = 4;
 const WORDS: usize = 8;
+/// Turns for which a reader waits for the mutex, at most.
+const HOLD_TURNS: usize = 16;
+/// Turns of a panel's rest after it wrote, at least.
+const PANEL_REST: usize = 100;
 
 #[derive(Clone, Copy, Default)]
 struct Task {
@@ -30,6 +37,8 @@ struct Task {
     version: u32,
     /// Whether the read met another version too.
     torn: bool,
+    /// Turns since its last move in which it was refused the mutex.
+    waited: usize,
 }
 
 #[derive(Default)]
@@ -37,6 +46,8 @@ struct Counts {
     reads: usize,
     writes: usize,
     waits: usize,
+    holds: usize,
+    timeouts: usize,
     torn: usize,
 }
 
@@ -71,11 +82,16 @@ impl Executive {
             .unwrap_or(0)
     }
 
+    fn phase(&self, number: usize) -> Option<Phase> {
+        phase(&self.table, number as u16)
+    }
+
     /// The task's next move, by its phase.
     fn next_move(&self, number: usize) -> Move {
-        match phase(&self.table, number as u16) {
+        match self.phase(number) {
             Some(Phase::Free) if is_panel(number) => Move::CallExclusive,
             Some(Phase::Free) => Move::CallShared,
+            Some(Phase::TryAgain) if self.tasks[number].waited < HOLD_TURNS => Move::Hold,
             Some(Phase::SetFlag) => Move::Set(self.first_with(false)),
             Some(Phase::ClearFlags) => Move::Clear(self.first_with(true)),
             _ => Move::Go,
@@ -117,9 +133,34 @@ impl Executive {
                 task.inside = false;
                 self.counts.writes += 1;
             }
-            Event::LeaveSharedReturn | Event::LeaveExclusiveReturn => task.rest = 5 + 3 * number,
+            Event::LeaveSharedReturn => task.rest = 5 + 3 * number,
+            Event::LeaveExclusiveReturn => task.rest = PANEL_REST + 3 * number,
             Event::EnterSharedCall | Event::EnterExclusiveCall => (),
         }
+    }
+
+    /// Makes the task's next move, and heeds the answer.
+    fn step(&mut self, number: usize) -> Result<(), Refusal> {
+        let before = self.phase(number);
+        let next = self.next_move(number);
+        let outcome = match make_move(&mut self.table, number as u16, next) {
+            Err(Refusal::MutexHeld) => {
+                self.tasks[number].waited += 1;
+                self.counts.waits += 1;
+                return Ok(());
+            }
+            answer => answer?,
+        };
+        self.tasks[number].waited = 0;
+        match (before, next) {
+            (_, Move::Hold) => self.counts.holds += 1,
+            (Some(Phase::TryAgain), _) => self.counts.timeouts += 1,
+            _ => (),
+        }
+        if let Outcome::Shown(event) = outcome {
+            self.heed(number, event);
+        }
+        Ok(())
     }
 
     fn turn(&mut self, number: usize) -> Result<(), Refusal> {
@@ -132,12 +173,10 @@ impl Executive {
             self.work(number);
             return Ok(());
         }
-        let next = self.next_move(number);
-        match make_move(&mut self.table, number as u16, next) {
-            Ok(Outcome::Shown(event)) => self.heed(number, event),
-            Ok(Outcome::Quiet) => (),
-            Err(Refusal::MutexHeld) => self.counts.waits += 1,
-            Err(refusal) => return Err(refusal),
+        self.step(number)?;
+        // A reader gives the mutex back at once: while it has it, no panel gets in.
+        if self.phase(number) == Some(Phase::HoldMutex) {
+            self.step(number)?;
         }
         Ok(())
     }
@@ -158,6 +197,8 @@ fn main() -> ExitCode {
         reads,
         writes,
         waits,
+        holds,
+        timeouts,
         torn,
     } = match run() {
         Ok(counts) => counts,
@@ -168,7 +209,8 @@ fn main() -> ExitCode {
     };
     println!(
         "{TASKS} tasks, {TURNS} turns: {reads} reads, {writes} writes, \
-         {waits} waits for the mutex, {torn} torn reads"
+         {waits} waits for the mutex, {holds} holds, {timeouts} timeouts, {torn} torn reads"
     );
-    ExitCode::from(u8::from(torn > 0 || reads == 0 || writes == 0))
+    let good = torn == 0 && reads > 0 && writes > 0 && holds > 0 && timeouts > 0;
+    ExitCode::from(u8::from(!good))
 }

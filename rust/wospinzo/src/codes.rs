@@ -4,8 +4,9 @@ use core::error::Error;
 use core::fmt;
 
 /// A move of a thread. Which moves a thread has depends on its phase; see
-/// [`open_moves`](crate::open_moves).
+/// [`open_moves`](crate::open_moves). A minor version may add a move.
 #[derive(Clone, Copy, Debug, PartialEq, Eq, Hash)]
+#[non_exhaustive]
 pub enum Move {
     /// The thread's next step.
     Go,
@@ -19,6 +20,8 @@ pub enum Move {
     Clear(u16),
     /// Gives the target up before its busy flag is read. Phase 11.
     Relent,
+    /// A reader takes the mutex before it starts again. Phase 4.
+    Hold,
 }
 
 impl Move {
@@ -31,12 +34,13 @@ impl Move {
             Move::Set(target) => (3, target),
             Move::Clear(target) => (4, target),
             Move::Relent => (5, 0),
+            Move::Hold => (6, 0),
         }
     }
 
     /// The move of a number and a target, as plans and open moves give them.
     ///
-    /// None for a number above 5, and for a target where the move takes none.
+    /// None for a number above 6, and for a target where the move takes none.
     pub const fn from_numbers(number: u16, target: u16) -> Option<Move> {
         match (number, target) {
             (0, 0) => Some(Move::Go),
@@ -45,6 +49,7 @@ impl Move {
             (3, target) => Some(Move::Set(target)),
             (4, target) => Some(Move::Clear(target)),
             (5, 0) => Some(Move::Relent),
+            (6, 0) => Some(Move::Hold),
             _ => None,
         }
     }
@@ -116,7 +121,7 @@ impl fmt::Display for Event {
 pub enum Node {
     /// Phase 0: outside the lock.
     Free = 0,
-    /// Phases 1 to 4: entering shared.
+    /// Phases 1 to 4 and 18: entering shared.
     Es = 1,
     /// Phase 5: let in to shared.
     Loe = 2,
@@ -164,9 +169,10 @@ impl Node {
 }
 
 /// What a thread does next in the lock, by its phase. Its number is
-/// `phase as u8`.
+/// `phase as u8`. A minor version may add a phase.
 #[derive(Clone, Copy, Debug, PartialEq, Eq, Hash, PartialOrd, Ord)]
 #[repr(u8)]
+#[non_exhaustive]
 pub enum Phase {
     /// Nothing: it is outside the lock.
     Free = 0,
@@ -176,7 +182,7 @@ pub enum Phase {
     ReadForbidden = 2,
     /// It found 1 there, and lowers busy.
     BackOff = 3,
-    /// It starts again.
+    /// It starts again (go), or takes the mutex first (hold).
     TryAgain = 4,
     /// It found 0 there: its return is shown.
     EnterShared = 5,
@@ -204,11 +210,13 @@ pub enum Phase {
     LetMutexGo = 16,
     /// Its return is shown.
     LeaveExclusive = 17,
+    /// A reader gives the mutex back and starts again.
+    HoldMutex = 18,
 }
 
 impl Phase {
-    /// All phases, in the order of their numbers, 0 to 17.
-    pub const ALL: [Phase; 18] = [
+    /// All phases, in the order of their numbers, 0 to 18.
+    pub const ALL: [Phase; 19] = [
         Phase::Free,
         Phase::RaiseBusy,
         Phase::ReadForbidden,
@@ -227,21 +235,23 @@ impl Phase {
         Phase::ClearFlags,
         Phase::LetMutexGo,
         Phase::LeaveExclusive,
+        Phase::HoldMutex,
     ];
 
-    /// The phase of a number, none above 17.
+    /// The phase of a number, none above 18.
     pub const fn from_number(number: u8) -> Option<Phase> {
         match number {
-            0..=17 => Some(Phase::ALL[number as usize]),
+            0..=18 => Some(Phase::ALL[number as usize]),
             _ => None,
         }
     }
 }
 
 /// Why a request was turned down. Its number is `refusal as u8`; a request is
-/// tested in the order of the numbers.
+/// tested in the order of the numbers. A minor version may add a refusal.
 #[derive(Clone, Copy, Debug, PartialEq, Eq, Hash, PartialOrd, Ord)]
 #[repr(u8)]
+#[non_exhaustive]
 pub enum Refusal {
     /// The number of threads is 0 or above 200, or the table isn't
     /// [`table_size`](crate::table_size) bytes.

@@ -51,6 +51,31 @@
 //! # }
 //! ```
 //!
+//! # A reader that waits for a writer
+//!
+//! A reader that finds its forbidden flag set backs off to
+//! [`Phase::TryAgain`]. There [`Move::Go`] starts again, and [`Move::Hold`]
+//! takes the mutex first. While another thread has the mutex, hold is refused
+//! as [`Refusal::MutexHeld`]: the host asks again later, and makes go when its
+//! time is over. A thread that stays in [`Phase::HoldMutex`] keeps every writer
+//! out: make go there at once.
+//!
+//! ```
+//! use wospinzo::{make_move, phase, Move, Phase, Refusal};
+//!
+//! # fn main() -> Result<(), Refusal> {
+//! // Thread 0 was turned away by thread 1, which has yet to let the mutex go.
+//! let mut table = [2, 1, 255, 4, 0, 0, 16, 0, 0];
+//! assert_eq!(make_move(&mut table, 0, Move::Hold), Err(Refusal::MutexHeld));
+//!
+//! make_move(&mut table, 1, Move::Go)?;
+//! make_move(&mut table, 0, Move::Hold)?;
+//! make_move(&mut table, 0, Move::Go)?;
+//! assert_eq!(phase(&table, 0), Some(Phase::RaiseBusy));
+//! # Ok(())
+//! # }
+//! ```
+//!
 //! # Functions
 //!
 //! | function | what it does | refusals |
@@ -70,7 +95,7 @@
 //!
 //! Byte 0 is N, byte 1 the mutex (0 or 1), byte 2 the target of the thread that
 //! holds the mutex, 255 for none. Then come three bytes a thread: its phase (0
-//! to 17, see [`Phase`]), its busy flag and its forbidden flag. Every function
+//! to 18, see [`Phase`]), its busy flag and its forbidden flag. Every function
 //! of the table above that takes a table tests it first; one that breaks a rule
 //! of soundness is turned down as [`Refusal::Unsound`]. No move leaves such a
 //! table.
@@ -94,7 +119,7 @@ pub use codes::{Event, Move, Node, Outcome, Phase, Refusal, Rejected};
 
 /// The version of this crate and of the header: 65,536 times the major, 256
 /// times the minor, and the patch number. [`version`] is that of the archive.
-pub const VERSION: u32 = 65_536;
+pub const VERSION: u32 = 65_536 + 256;
 /// The largest number of threads.
 pub const MAX_THREADS: u16 = 200;
 /// The bytes of the largest table.

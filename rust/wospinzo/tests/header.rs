@@ -55,14 +55,17 @@ fn codes_are_those_of_the_header() {
         assert_eq!(Node::from_code(node as u8), Some(node));
     }
     for phase in Phase::ALL {
-        same(format!("PHASE_{}", upper(&format!("{phase:?}"))), phase as u32);
+        same(
+            format!("PHASE_{}", upper(&format!("{phase:?}"))),
+            phase as u32,
+        );
         assert_eq!(Phase::from_number(phase as u8), Some(phase));
     }
     for refusal in Refusal::ALL {
         same(upper(&format!("{refusal:?}")), refusal as u32);
         assert_eq!(Refusal::from_number(refusal as u8), Some(refusal));
     }
-    for number in 0..=5 {
+    for number in 0..=6 {
         let mov = Move::from_numbers(number, 0).unwrap();
         let name = format!("{mov:?}").replace("(0)", "");
         same(upper(&name), u32::from(number));
@@ -89,10 +92,11 @@ fn other_numbers_are_no_codes() {
     assert_eq!(Event::from_code(0), None);
     assert_eq!(Event::from_code(9), None);
     assert_eq!(Node::from_code(11), None);
-    assert_eq!(Phase::from_number(18), None);
+    assert_eq!(Phase::from_number(19), None);
     assert_eq!(Refusal::from_number(0), None);
     assert_eq!(Refusal::from_number(13), None);
-    assert_eq!(Move::from_numbers(6, 0), None);
+    assert_eq!(Move::from_numbers(7, 0), None);
     assert_eq!(Move::from_numbers(0, 1), None);
+    assert_eq!(Move::from_numbers(6, 1), None);
     assert_eq!(Move::from_numbers(3, 7), Some(Move::Set(7)));
 }

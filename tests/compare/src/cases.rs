@@ -51,7 +51,7 @@ fn mover(r: &mut Random, table: &[u8]) -> u16 {
         .iter()
         .skip(3)
         .step_by(3)
-        .position(|&phase| (10..=16).contains(&phase));
+        .position(|&phase| model::is_holder(phase));
     match holder {
         Some(thread) if r.chance(1, 2) => thread as u16,
         _ => tables::near(r, threads),
@@ -66,9 +66,8 @@ fn make_move(r: &mut Random) -> Call {
         let at = 2 * r.below(open.len() / 2);
         return Call::make_move(table, thread, u16::from(open[at]), u16::from(open[at + 1]));
     }
-    let mov = tables::near(r, 6);
-    let takes_target = mov == model::SET || mov == model::CLEAR;
-    let target = if takes_target || r.chance(1, 8) {
+    let mov = tables::mov(r);
+    let target = if model::takes_target(mov) || r.chance(1, 8) {
         tables::near(r, (table.len() / 3).max(2) - 1)
     } else {
         0

@@ -40,6 +40,11 @@ impl<'a> Comparison<'a> {
         }
     }
 
+    /// The part, for what is asked of it alone.
+    pub fn part(&self) -> &'a dyn Part {
+        self.part.part
+    }
+
     pub fn has(&self, entry: Entry) -> bool {
         self.entries.contains(&entry)
     }

@@ -1,4 +1,5 @@
-//! The marked and other examples of the scope paper, and its bounds.
+//! The marked and other examples of the scope paper and its bounds, and
+//! examples of hold.
 
 use crate::comparison::Comparison;
 use crate::histories;
@@ -114,6 +115,81 @@ pub fn others(c: &mut Comparison) {
         c.expect("byte of a note", &call, done(size), printed);
     }
     lengths(c);
+}
+
+/// Examples of hold and of the phase 18 to which it leads.
+pub fn hold(c: &mut Comparison) {
+    // A reader in 4 or 18, a writer in EE; then a writer that has the mutex.
+    let before = [2, 0, 255, 4, 0, 0, 9, 0, 0];
+    let held = [2, 1, 255, 18, 0, 0, 9, 0, 0];
+    let again = [2, 0, 255, 1, 0, 0, 9, 0, 0];
+    let taken = [2, 1, 255, 4, 0, 0, 10, 0, 0];
+    // table, thread, move, target, answer, table after
+    let requests = [
+        (before, [0, 6, 0], done(0), held),
+        (before, [0, 0, 0], done(0), again),
+        (held, [0, 0, 0], done(0), again),
+        (before, [0, 7, 0], refused(4, 0), before),
+        (before, [0, 6, 1], refused(5, 0), before),
+        (before, [1, 6, 0], refused(6, 0), before),
+        (held, [0, 6, 0], refused(6, 0), held),
+        (held, [1, 0, 0], refused(7, 0), held),
+        (taken, [0, 6, 0], refused(7, 0), taken),
+    ];
+    for (table, [thread, mov, target], answer, after) in requests {
+        let call = Call::make_move(table.to_vec(), thread, mov, target);
+        c.expect("hold", &call, answer, &after);
+    }
+    let call = Call::nodes(held.to_vec(), vec![7; 2]);
+    c.expect("nodes beside 18", &call, done(2), &[1, 5]);
+    // table, thread, its open moves
+    let open: [(_, _, &[u8]); 4] = [
+        (before, 0, &[0, 0, 6, 0]),
+        (held, 0, &[0, 0]),
+        (held, 1, &[]),
+        (taken, 0, &[0, 0]),
+    ];
+    for (table, thread, moves) in open {
+        let call = Call::open_moves(table.to_vec(), thread, vec![7; moves.len()]);
+        c.expect("open moves", &call, done(moves.len() as u64), moves);
+    }
+    unsound_beside_hold(c);
+    hold_lines(c);
+}
+
+/// Tables with a thread in 18, or past it, that break one rule of soundness.
+fn unsound_beside_hold(c: &mut Comparison) {
+    for table in [
+        [2, 0, 255, 18, 0, 0, 9, 0, 0],
+        [2, 1, 255, 18, 1, 0, 9, 0, 0],
+        [2, 1, 255, 18, 0, 1, 9, 0, 0],
+        [2, 1, 255, 18, 0, 0, 9, 0, 1],
+        [2, 1, 0, 18, 0, 0, 9, 0, 0],
+        [2, 1, 255, 18, 0, 0, 10, 0, 0],
+        [2, 1, 255, 18, 0, 0, 18, 0, 0],
+        [2, 0, 255, 19, 0, 0, 9, 0, 0],
+        [2, 1, 255, 19, 0, 0, 9, 0, 0],
+    ] {
+        let call = Call::nodes(table.to_vec(), vec![7; 2]);
+        c.expect("unsound beside 18", &call, refused(2, 0), &[7; 2]);
+    }
+}
+
+/// The second line of a script for one thread in phase 0, and its refusal.
+fn hold_lines(c: &mut Comparison) {
+    for (line, refusal) in [
+        ("(0 (hold))", 6),
+        ("(1 (hold))", 3),
+        ("(0 (hold 0))", 8),
+        ("(0 (hold ))", 8),
+        ("(0 (hol))", 8),
+        ("(0 (holds))", 8),
+    ] {
+        let script = format!("(threads 1)\n{line}\n").into_bytes();
+        let printed = format!("(refused {refusal} 2)\n").into_bytes();
+        let call = Call::run(script, vec![7; printed.len()]);
+        c.expect(line, &call, done(printed.len() as u64), &printed);
+    }
 }
 
 /// The longest history, plan and script.

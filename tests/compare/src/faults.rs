@@ -1,6 +1,9 @@
 //! The model with one fault, to see that the comparison finds it.
 
+use crate::model::{GO, HOLD, READER_HOLDS, SET};
 use crate::part::{done, number_of, refused, value_of, Model, Part};
+use crate::scripts;
+use crate::tables::phases_mut;
 
 #[derive(Clone, Copy, PartialEq, Eq, Debug)]
 pub enum Fault {
@@ -40,9 +43,25 @@ pub enum Fault {
     ScriptBound,
     /// The run's last byte is another.
     RunLastByte,
+    /// Hold is accepted while the mutex is 1.
+    HoldOfHeldMutex,
+    /// Hold raises busy.
+    HoldRaisesBusy,
+    /// Hold leaves the mutex 0.
+    HoldWithoutMutex,
+    /// Hold's target isn't tested.
+    HoldTargetUntested,
+    /// Go in 18 keeps the mutex 1.
+    MutexKept,
+    /// A forbidden of 1 is sound beside 18.
+    ForbiddenBesideHold,
+    /// A thread in 18 isn't counted as the holder.
+    HoldWithoutHolder,
+    /// `(T (hold K))` is read as `(T (hold))`.
+    HoldWithTarget,
 }
 
-pub const FAULTS: [Fault; 21] = [
+pub const FAULTS: [Fault; 29] = [
     Fault::ThreadsCut,
     Fault::ThreadCut,
     Fault::MoveCut,
@@ -64,7 +83,23 @@ pub const FAULTS: [Fault; 21] = [
     Fault::PlanLastMove,
     Fault::ScriptBound,
     Fault::RunLastByte,
+    Fault::HoldOfHeldMutex,
+    Fault::HoldRaisesBusy,
+    Fault::HoldWithoutMutex,
+    Fault::HoldTargetUntested,
+    Fault::MutexKept,
+    Fault::ForbiddenBesideHold,
+    Fault::HoldWithoutHolder,
+    Fault::HoldWithTarget,
 ];
+
+/// A line `(T (hold K))` without its target.
+fn without_target(line: &[u8]) -> Option<Vec<u8>> {
+    let text = std::str::from_utf8(line).ok()?;
+    let (thread, target) = text.strip_suffix("))")?.split_once(" (hold ")?;
+    target.parse::<u8>().ok()?;
+    Some(format!("{thread} (hold))").into_bytes())
+}
 
 pub struct Faulty {
     pub fault: Fault,
@@ -81,6 +116,23 @@ impl Faulty {
         } else {
             number
         }
+    }
+
+    /// The table that the test of soundness takes this one for.
+    fn judged(&self, table: &[u8]) -> Vec<u8> {
+        let mut judged = table.to_vec();
+        match self.fault {
+            Fault::MutexOfTwo if table.get(1) == Some(&2) => judged[1] = 1,
+            Fault::ForbiddenBesideHold if phases_mut(&mut judged).any(|p| *p == READER_HOLDS) => {
+                let flags = judged.iter_mut().skip(5).step_by(3);
+                flags.for_each(|flag| *flag &= !1);
+            }
+            Fault::HoldWithoutHolder => phases_mut(&mut judged)
+                .filter(|phase| **phase == READER_HOLDS)
+                .for_each(|phase| *phase = 4),
+            _ => (),
+        }
+        judged
     }
 
     /// Clears what follows an accepted output of `size` bytes.
@@ -104,30 +156,39 @@ impl Part for Faulty {
         let before = table.to_vec();
         let thread = self.cut(Fault::ThreadCut, thread);
         let mov = self.cut(Fault::MoveCut, mov);
-        let target = self.cut(Fault::TargetCut, target);
-        if self.has(Fault::MutexOfTwo) && table.len() > 1 && table[1] == 2 {
-            table[1] = 1;
+        let mut target = self.cut(Fault::TargetCut, target);
+        if self.has(Fault::HoldTargetUntested) && mov == HOLD {
+            target = 0;
         }
+        table.copy_from_slice(&self.judged(&before));
         let answer = Model.make_move(table, thread, mov, target);
         let refusal = number_of(answer);
         if refusal != 0 {
             table.copy_from_slice(&before);
         }
+        let accepted = |made: u16| refusal == 0 && mov == made;
+        let at = 3 + 3 * usize::from(thread);
         match self.fault {
             Fault::WritesNothing => table.copy_from_slice(&before),
             Fault::WritesRefused if refusal > 2 => table[1] ^= 1,
             Fault::MutexHeldAsPhase if refusal == 7 => return refused(6, 0),
-            Fault::SparesOwnFlag if refusal == 0 && mov == 3 && thread == target => {
-                let own = 5 + 3 * usize::from(thread);
-                table[own] = before[own];
+            Fault::SparesOwnFlag if accepted(SET) && thread == target => {
+                table[at + 2] = before[at + 2];
             }
+            Fault::HoldOfHeldMutex if refusal == 7 && mov == HOLD => {
+                table[at] = READER_HOLDS;
+                return done(0);
+            }
+            Fault::HoldRaisesBusy if accepted(HOLD) => table[at + 1] = 1,
+            Fault::HoldWithoutMutex if accepted(HOLD) => table[1] = 0,
+            Fault::MutexKept if accepted(GO) && before[at] == READER_HOLDS => table[1] = 1,
             _ => (),
         }
         answer
     }
 
     fn nodes(&self, table: &[u8], out: &mut [u8]) -> u64 {
-        let answer = Model.nodes(table, out);
+        let answer = Model.nodes(&self.judged(table), out);
         if self.has(Fault::NodesWriteShort) && number_of(answer) == 12 {
             out.fill(0);
         }
@@ -136,8 +197,8 @@ impl Part for Faulty {
     }
 
     fn open_moves(&self, table: &[u8], thread: u16, out: &mut [u8]) -> u64 {
-        let answer = Model.open_moves(table, thread, out);
-        let own = [3, thread as u8];
+        let answer = Model.open_moves(&self.judged(table), thread, out);
+        let own = [SET as u8, thread as u8];
         if self.has(Fault::OwnFlagShut) && number_of(answer) == 0 && out.starts_with(&own) {
             return done(value_of(answer) - 2);
         }
@@ -177,7 +238,11 @@ impl Part for Faulty {
         if self.has(Fault::ScriptBound) && script.len() == 30_000 {
             return refused(8, 0);
         }
-        let answer = Model.run(script, out);
+        let answer = if self.has(Fault::HoldWithTarget) {
+            Model.run(&scripts::map_lines(script, without_target), out)
+        } else {
+            Model.run(script, out)
+        };
         self.clear_tail(Fault::RunClearsTail, answer, value_of(answer), out);
         if self.has(Fault::RunLastByte) && number_of(answer) == 0 {
             out[value_of(answer) as usize - 1] = b' ';

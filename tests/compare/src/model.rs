@@ -24,6 +24,33 @@ pub const CALL_EXCLUSIVE: u16 = 2;
 pub const SET: u16 = 3;
 pub const CLEAR: u16 = 4;
 pub const RELENT: u16 = 5;
+pub const HOLD: u16 = 6;
+/// The move with the largest number.
+pub const LAST_MOVE: u16 = HOLD;
+
+/// The phase in which a reader holds the mutex.
+pub const READER_HOLDS: u8 = 18;
+/// The phase with the largest number.
+pub const LAST_PHASE: u8 = READER_HOLDS;
+/// The phases of the holder, the thread that has the mutex.
+pub const HOLDER_PHASES: [u8; 8] = [10, 11, 12, 13, 14, 15, 16, READER_HOLDS];
+
+/// Whether a thread in this phase is the holder.
+pub const fn is_holder(phase: u8) -> bool {
+    let mut i = 0;
+    while i < HOLDER_PHASES.len() {
+        if HOLDER_PHASES[i] == phase {
+            return true;
+        }
+        i += 1;
+    }
+    false
+}
+
+/// Whether a move's target is a thread. Any other move's is 0.
+pub const fn takes_target(mov: u16) -> bool {
+    mov == SET || mov == CLEAR
+}
 
 /// The refusals, by their numbers, in checking order.
 #[derive(Clone, Copy, PartialEq, Eq, Debug)]
@@ -96,7 +123,7 @@ fn start(threads: usize, table: &mut [u8]) {
 }
 
 // Fields of a tally, 12 bits each: a count of threads, or a sum of phases.
-const HOLDERS: u32 = 0; // threads in 10 to 16
+const HOLDERS: u32 = 0; // threads in a holder's phase
 const PHASES: u32 = 12; // the sum of their phases
 const UNKNOWN: u32 = 24; // threads in no phase
 const FORBIDDEN: u32 = 36; // threads with forbidden 1
@@ -112,10 +139,10 @@ const ROWS: [[u64; 2]; 256] = {
     let mut phase = 0;
     while phase < 256 {
         let mut row = 0;
-        if phase >= 10 && phase <= 16 {
+        if is_holder(phase as u8) {
             row = 1 << HOLDERS | (phase as u64) << PHASES;
         }
-        if phase > 17 {
+        if phase > LAST_PHASE as usize {
             row = 1 << UNKNOWN;
         }
         let inside = phase >= 5 && phase <= 7;
@@ -189,6 +216,7 @@ fn agrees(table: &[u8], threads: usize, tally: u64) -> bool {
             10 => forbidden < threads && barred == 0,
             13 | 14 => forbidden == threads && barred == 0,
             15 => forbidden > 0,
+            // none, 16 and 18
             _ => forbidden == 0,
         }
 }
@@ -209,18 +237,22 @@ pub fn make_move(table: &mut [u8], thread: u16, mov: u16, target: u16) -> Outcom
     if thread >= threads {
         return Outcome::Refused(Refusal::NoThread);
     }
-    if mov > RELENT {
+    if mov > LAST_MOVE {
         return Outcome::Refused(Refusal::NoMove);
     }
-    let targets = if mov == SET || mov == CLEAR {
-        threads
-    } else {
-        1
-    };
-    if target >= targets {
+    if target >= targets(mov, threads) {
         return Outcome::Refused(Refusal::BadTarget);
     }
     apply(table, threads, &mut forbidden, thread, mov, target)
+}
+
+/// The number of targets that a move can have, from 0 upward.
+fn targets(mov: u16, threads: usize) -> usize {
+    if takes_target(mov) {
+        threads
+    } else {
+        1
+    }
 }
 
 /// Makes a move on a sound table for a thread, a move and a target in range.
@@ -257,6 +289,8 @@ fn apply(
             }
         }
         (RELENT, 11) => table[at] = 12,
+        (HOLD, 4) if table[1] == 1 => return Outcome::Refused(Refusal::MutexHeld),
+        (HOLD, 4) => (table[at], table[1]) = (READER_HOLDS, 1),
         _ => return Outcome::Refused(Refusal::NotInPhase),
     }
     Outcome::Quiet
@@ -295,6 +329,7 @@ fn go(table: &mut [u8], threads: usize, forbidden: &mut usize, at: usize) -> Out
         14 => return shown(table, at, 15, 7),
         16 => (table[at], table[1]) = (17, 0),
         17 => return shown(table, at, 0, 8),
+        READER_HOLDS => (table[at], table[1]) = (1, 0),
         _ => return Outcome::Refused(Refusal::NotInPhase),
     }
     Outcome::Quiet
@@ -303,7 +338,8 @@ fn go(table: &mut [u8], threads: usize, forbidden: &mut usize, at: usize) -> Out
 // ---------------------------------------------------- nodes and open moves
 
 /// The node of each phase.
-const NODES: [u8; 18] = [0, 1, 1, 1, 1, 2, 3, 4, 4, 5, 6, 6, 6, 7, 8, 9, 10, 10];
+const NODES: [u8; LAST_PHASE as usize + 1] =
+    [0, 1, 1, 1, 1, 2, 3, 4, 4, 5, 6, 6, 6, 7, 8, 9, 10, 10, 1];
 
 /// Writes the node of every thread.
 #[inline(never)]
@@ -334,26 +370,20 @@ pub fn open_moves(table: &[u8], thread: u16, out: &mut [u8]) -> Answer {
     }
     let moves: &[u16] = match table[place_of(thread)] {
         0 => &[CALL_SHARED, CALL_EXCLUSIVE],
+        4 if table[1] == 0 => &[GO, HOLD],
         9 if table[1] == 1 => &[],
         10 => &[SET],
         11 => &[GO, RELENT],
         15 => &[SET, CLEAR],
         _ => &[GO],
     };
-    let targets = |mov: u16| {
-        if mov == SET || mov == CLEAR {
-            threads
-        } else {
-            1
-        }
-    };
-    let size = moves.iter().map(|&mov| 2 * targets(mov)).sum();
+    let size = moves.iter().map(|&mov| 2 * targets(mov, threads)).sum();
     if out.len() < size {
         return refused(Refusal::NoRoom);
     }
     let mut rest = &mut out[..size];
     for &mov in moves {
-        let (now, later) = rest.split_at_mut(2 * targets(mov));
+        let (now, later) = rest.split_at_mut(2 * targets(mov, threads));
         for (target, pair) in now.chunks_exact_mut(2).enumerate() {
             pair[0] = mov as u8;
             pair[1] = target as u8;
@@ -526,6 +556,7 @@ fn form(line: &[u8]) -> Option<Form> {
         b"call shared" => (CALL_SHARED, 0),
         b"call exclusive" => (CALL_EXCLUSIVE, 0),
         b"relent" => (RELENT, 0),
+        b"hold" => (HOLD, 0),
         _ => with_target(words)?,
     };
     Some(Form::Move {

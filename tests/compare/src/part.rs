@@ -130,7 +130,7 @@ impl Entry {
 /// One call: the entry, its numbers (0 where it has fewer), what is read and
 /// what may be written. The move's table stands in `lent`; the check lends
 /// nothing.
-#[derive(Clone, Debug)]
+#[derive(Clone, PartialEq, Eq, Debug)]
 pub struct Call {
     pub entry: Entry,
     pub numbers: [u16; 3],
@@ -252,7 +252,7 @@ impl Lent {
 
 /// Makes calls of a part, each slice between guard bytes.
 pub struct Caller<'a> {
-    part: &'a dyn Part,
+    pub part: &'a dyn Part,
     read: Lent,
     lent: Lent,
 }

@@ -1,22 +1,26 @@
 //! Scripts to test with: random ones that run, and damaged ones.
 
-use crate::model;
+use crate::model::{self, LAST_MOVE};
 use crate::random::Random;
 use crate::tables;
 
-const MOVES: [&str; 6] = [
+/// The words of each move.
+const MOVES: [&str; LAST_MOVE as usize + 1] = [
     "go",
     "call shared",
     "call exclusive",
     "set",
     "clear",
     "relent",
+    "hold",
 ];
 
-fn push_move(script: &mut Vec<u8>, thread: usize, mov: usize, target: usize) {
-    let line = match mov {
-        3 | 4 => format!("({thread} ({} {target}))\n", MOVES[mov]),
-        _ => format!("({thread} ({}))\n", MOVES[mov]),
+fn push_move(script: &mut Vec<u8>, thread: usize, mov: u16, target: u16) {
+    let words = MOVES[usize::from(mov)];
+    let line = if model::takes_target(mov) {
+        format!("({thread} ({words} {target}))\n")
+    } else {
+        format!("({thread} ({words}))\n")
     };
     script.extend(line.bytes());
 }
@@ -61,25 +65,23 @@ fn push_line(r: &mut Random, script: &mut Vec<u8>, table: &mut [u8], wild: bool)
     let (mov, target) = match answer {
         model::Answer::Done(size) if size > 0 && !(wild && r.chance(1, 40)) => {
             let at = 2 * r.below(size / 2);
-            (usize::from(open[at]), usize::from(open[at + 1]))
+            (u16::from(open[at]), u16::from(open[at + 1]))
         }
         _ if !wild => return,
         _ => {
-            let mov = r.below(6);
-            (
-                mov,
-                if mov == 3 || mov == 4 {
-                    r.below(threads + 1)
-                } else {
-                    0
-                },
-            )
+            let mov = r.below(MOVES.len()) as u16;
+            let target = if model::takes_target(mov) {
+                r.below(threads + 1) as u16
+            } else {
+                0
+            };
+            (mov, target)
         }
     };
     if wild && r.chance(1, 200) {
         thread = threads + r.below(2);
     }
-    model::make_move(table, thread as u16, mov as u16, target as u16);
+    model::make_move(table, thread as u16, mov, target);
     push_move(script, thread, mov, target);
 }
 
@@ -113,6 +115,16 @@ pub fn script_of_size(r: &mut Random, size: usize) -> Vec<u8> {
     script
 }
 
+/// A script in which other lines stand where `edited` gives them. Lines are
+/// handed over without their line feed.
+pub fn map_lines(script: &[u8], edited: impl Fn(&[u8]) -> Option<Vec<u8>>) -> Vec<u8> {
+    script
+        .split(|&byte| byte == b'\n')
+        .map(|line| edited(line).unwrap_or(line.to_vec()))
+        .collect::<Vec<_>>()
+        .join(&b'\n')
+}
+
 /// A script with a fault or two, which may yet run.
 pub fn damaged(r: &mut Random, script: &[u8]) -> Vec<u8> {
     let mut script = script.to_vec();
@@ -133,8 +145,14 @@ pub fn damaged(r: &mut Random, script: &[u8]) -> Vec<u8> {
         8 => script.extend_from_within(..first),
         9 => script.extend(b"(0 (set 999))\n"),
         10 => script.extend(
-            r.pick(&["(00 (go))\n", "(0 (foo))\n", "(999 (go))\n", "(0 (set))\n"])
-                .bytes(),
+            r.pick(&[
+                "(00 (go))\n",
+                "(0 (foo))\n",
+                "(999 (go))\n",
+                "(0 (set))\n",
+                "(0 (hold 0))\n",
+            ])
+            .bytes(),
         ),
         11 => script.extend(
             r.pick(&["(note)\n", "(note(a))\n", "(note ))\n", "(note a", "\n"])

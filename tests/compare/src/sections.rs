@@ -3,11 +3,11 @@
 use crate::cases;
 use crate::comparison::Comparison;
 use crate::histories;
-use crate::model;
-use crate::part::{done, number_of, value_of, Call, Entry, ENTRIES};
+use crate::model::{self, LAST_MOVE, LAST_PHASE};
+use crate::part::{done, hex, number_of, value_of, Call, Caller, Entry, Model, ENTRIES};
 use crate::random::Random;
 use crate::tables;
-use crate::vectors::Vector;
+use crate::vectors::{before_hold, Vector};
 
 /// Random cases for each entry.
 const CASES: usize = 200_000;
@@ -15,15 +15,37 @@ const CASES: usize = 200_000;
 const PRINTED: [u8; 7] = [0, 1, 3, 5, 6, 7, 8];
 /// Numbers past every range, some of which a cut to eight bits brings back.
 const FAR: [u16; 3] = [255, 256, 65535];
+/// Numbers of threads, and how many tables moves reach for each.
+const REACHED: [(usize, usize); 3] = [(1, 16), (2, 479), (3, 14_118)];
 
-/// All vectors, held against the model and the part.
+/// All vectors, held against the model and the part. Those that the rule of
+/// `before_hold` names are held in the form that it gives them; as they stand,
+/// model and part must agree on them, and the answer of some is another now.
 pub fn vectors(c: &mut Comparison, vectors: &[Vector]) {
+    // Planted faults are sought without vectors too.
+    if vectors.is_empty() {
+        return;
+    }
+    let (mut named, mut changed) = (0, 0);
     for vector in vectors {
-        c.expect(&vector.name, &vector.call, vector.answer, &vector.after);
+        let old = before_hold(vector);
+        let held = old.as_ref().unwrap_or(vector);
+        c.expect(&held.name, &held.call, held.answer, &held.after);
+        if old.is_some() {
+            let answer = c.compare(&vector.call);
+            named += 1;
+            changed += u32::from(answer != vector.answer || c.lent() != vector.after);
+        }
         if c.stopped() {
             return;
         }
     }
+    c.say(&format!(
+        "  made before hold, with its move, phase or word: {named} vectors, {changed} of them with another answer now"
+    ));
+    c.claim(changed > 0, || {
+        format!("hold changes the answer of none of {named} vectors")
+    });
     for entry in ENTRIES {
         let count = vectors
             .iter()
@@ -42,14 +64,54 @@ fn upto(last: u16) -> Vec<u16> {
     (0..=last).chain(FAR).collect()
 }
 
-/// All reachable tables for one to three threads, each with all requests to
-/// the move, its nodes, and its open moves, which are those the move accepts.
-pub fn reached_tables(c: &mut Comparison) {
-    for (threads, count) in [(1, 16), (2, 461), (3, 13_767)] {
-        let tables = tables::reached(threads);
-        c.claim(tables.len() == count, || {
-            format!("{threads} threads: {} tables", tables.len())
+/// The tables that the part's own moves reach for one to three threads: their
+/// number, and that each is sound by the part's nodes. No request writes
+/// outside its table, and a refused one leaves the table as it was.
+pub fn reached_by_part(c: &mut Comparison) {
+    for (threads, count) in REACHED {
+        let before = c.passed;
+        let tables = tables::reached(c.part(), threads, count, |request, answer, caller| {
+            let accepted = number_of(answer) == 0;
+            let kept = caller.kept_the_rest(request);
+            if !c.stopped() {
+                c.claim(kept && (accepted || caller.lent() == request.lent), || {
+                    format!("wrote what it may not: {}", request.words())
+                });
+            }
         });
+        let made = c.passed - before;
+        counted(c, threads, &tables, count);
+        let mut caller = Caller::new(c.part());
+        for table in &tables {
+            let answer = caller.call(&Call::nodes(table.clone(), vec![0x5a; threads]));
+            c.claim(answer == done(threads as u64), || {
+                format!("a table reached isn't sound: {}", hex(table))
+            });
+            if c.stopped() {
+                return;
+            }
+        }
+        c.say(&format!(
+            "  {threads} threads: {} tables, {made} requests",
+            tables.len()
+        ));
+    }
+}
+
+/// Claims that so many tables are reached.
+fn counted(c: &mut Comparison, threads: usize, tables: &[Vec<u8>], count: usize) {
+    c.claim(tables.len() == count, || {
+        format!("{threads} threads: {} tables", tables.len())
+    });
+}
+
+/// All tables that the model's moves reach for one to three threads, each with
+/// all requests to the move, its nodes, and its open moves, which are those
+/// the move accepts.
+pub fn reached_tables(c: &mut Comparison) {
+    for (threads, count) in REACHED {
+        let tables = tables::reached(&Model, threads, count, |_, _, _| ());
+        counted(c, threads, &tables, count);
         let before = c.passed;
         for table in &tables {
             c.compare(&Call::nodes(table.clone(), vec![0x5a; threads]));
@@ -73,7 +135,7 @@ fn requests(c: &mut Comparison, table: &[u8], thread: u16) {
     let threads = u16::from(table[0]);
     let mut accepted = Vec::new();
     let mut call = Call::make_move(table.to_vec(), thread, 0, 0);
-    for mov in upto(7) {
+    for mov in upto(LAST_MOVE + 2) {
         for target in upto(threads + 1) {
             call.numbers = [thread, mov, target];
             if number_of(c.compare(&call)) == 0 {
@@ -97,7 +159,7 @@ fn requests(c: &mut Comparison, table: &[u8], thread: u16) {
 pub fn small_tables(c: &mut Comparison) {
     let before = c.passed;
     let mut cells = Vec::new();
-    for phase in 0..=18 {
+    for phase in 0..=LAST_PHASE + 1 {
         for flags in 0..9 {
             cells.push([phase, flags / 3, flags % 3]);
         }
@@ -209,14 +271,40 @@ pub fn small_histories(c: &mut Comparison) {
     c.say(&format!("  {} calls", c.passed - before));
 }
 
-/// A script of every form with each byte taken out, doubled, or replaced by
-/// each of the 256, and cut after each byte.
+/// Scripts that have every form between them, and the refusal that each prints
+/// last, 0 for none. In the second a reader waits at the mutex.
+const FORMS: [(&[u8], usize); 2] = [
+    (
+        b"(threads 12)\n(note a (b) c)\n(11 (call exclusive))\n(11 (go))\n(11 (set 10))\n\
+        (3 (call shared))\n(11 (relent))\n(11 (go))\n(note )\n(3 (go))\n(11 (clear 2))\n",
+        6,
+    ),
+    (
+        b"(threads 2)\n(1 (call exclusive))\n(1 (go))\n(1 (set 0))\n\
+        (0 (call shared))\n(0 (go))\n(0 (go))\n(0 (go))\n\
+        (1 (go))\n(1 (set 1))\n(1 (go))\n(1 (go))\n(1 (go))\n\
+        (1 (clear 0))\n(1 (clear 1))\n(1 (go))\n(0 (hold))\n(0 (go))\n",
+        0,
+    ),
+];
+
+/// These scripts with each byte taken out, doubled, or replaced by each
+/// of the 256, and cut after each byte.
 pub fn edited_scripts(c: &mut Comparison) {
     let before = c.passed;
-    let script = b"(threads 12)\n(note a (b) c)\n(11 (call exclusive))\n(11 (go))\n(11 (set 10))\n\
-        (3 (call shared))\n(11 (relent))\n(11 (go))\n(note )\n(3 (go))\n(11 (clear 2))\n";
+    for (script, refusal) in FORMS {
+        edited_script(c, script, refusal);
+    }
+    c.say(&format!("  {} calls", c.passed - before));
+}
+
+fn edited_script(c: &mut Comparison, script: &[u8], refusal: usize) {
     let mut call = Call::run(script.to_vec(), vec![0x5a; 400]);
-    c.compare(&call);
+    let size = value_of(c.compare(&call)) as usize;
+    let printed = refusal_printed(&c.lent()[..size]);
+    c.claim(printed == refusal, || {
+        format!("a script printed refusal {printed} and not {refusal}")
+    });
     for at in 0..script.len() {
         for byte in 0..=255 {
             call.read = script.to_vec();
@@ -233,7 +321,6 @@ pub fn edited_scripts(c: &mut Comparison) {
             return;
         }
     }
-    c.say(&format!("  {} calls", c.passed - before));
 }
 
 /// Lists of requests from a fresh table, each on the table that the one before
@@ -295,8 +382,9 @@ fn request(r: &mut Random, table: &[u8], thread: u16) -> (u16, u16) {
             .unwrap_or(0)
     };
     let mov = match table[3 + 3 * usize::from(thread)] {
-        _ if r.chance(1, 50) => tables::near(r, 6),
+        _ if r.chance(1, 50) => tables::mov(r),
         0 => r.pick(&[model::CALL_SHARED, model::CALL_EXCLUSIVE]),
+        4 if r.chance(1, 2) => model::HOLD,
         10 => model::SET,
         11 if r.chance(1, 200) => model::RELENT,
         15 if r.chance(1, 100) => model::SET,

@@ -3,7 +3,8 @@
 
 use std::collections::HashSet;
 
-use crate::model::{self, Outcome, MAX_THREADS, NO_TARGET};
+use crate::model::{self, HOLDER_PHASES, LAST_MOVE, LAST_PHASE, MAX_THREADS, NO_TARGET};
+use crate::part::{number_of, Call, Caller, Part};
 use crate::random::Random;
 
 /// A number of threads in range, small ones more often.
@@ -22,19 +23,27 @@ pub fn near(r: &mut Random, bound: usize) -> u16 {
     let number = match r.below(16) {
         0 => bound,
         1 => bound + 1,
-        2 => r.pick(&[
-            0, 1, 5, 6, 200, 201, 254, 255, 256, 257, 32768, 65280, 65535,
-        ]),
+        2 => r.pick(&[0, 1, 200, 201, 254, 255, 256, 257, 32768, 65280, 65535]),
         3 => r.below(bound) + 256 * (1 + r.below(255)),
         _ => r.below(bound),
     };
     number as u16
 }
 
+/// A move's number, mostly one that there is.
+pub fn mov(r: &mut Random) -> u16 {
+    near(r, usize::from(LAST_MOVE) + 1)
+}
+
 pub fn fresh(threads: usize) -> Vec<u8> {
     let mut table = vec![0; model::table_size(threads)];
     model::fresh(threads as u16, &mut table);
     table
+}
+
+/// The phase bytes of a table of any size.
+pub fn phases_mut(table: &mut [u8]) -> impl Iterator<Item = &mut u8> {
+    table.iter_mut().skip(3).step_by(3)
 }
 
 /// Which threads have forbidden 1: from none to all, in a row or at random.
@@ -62,7 +71,7 @@ pub fn sound(r: &mut Random, threads: usize) -> Vec<u8> {
     let holder = if r.chance(1, 4) {
         0
     } else {
-        10 + r.below(7) as u8
+        r.pick(&HOLDER_PHASES)
     };
     let at = r.below(threads);
     let target = r.below(threads);
@@ -112,15 +121,15 @@ pub fn damaged(r: &mut Random, table: &[u8]) -> Vec<u8> {
         0 => table[0] = near(r, 201) as u8,
         1 => table[1] = r.pick(&[0, 1, 2, 255]),
         2 => table[2] = r.pick(&[0, threads as u8 - 1, threads as u8, 200, 254, 255]),
-        3 => table[at] = r.below(20) as u8,
+        3 => table[at] = r.below(usize::from(LAST_PHASE) + 3) as u8,
         4 => table[at + 1] = r.below(3) as u8,
         5 => table[at + 2] = r.below(3) as u8,
-        6 => table[at] = 10 + r.below(7) as u8,
+        6 => table[at] = r.pick(&HOLDER_PHASES),
         7 => {
             table[at] = r.pick(&[2, 3, 5, 6, 7]);
             table[at + 1] = 1;
         }
-        8 => (table[at], table[at + 1]) = (18, 0),
+        8 => (table[at], table[at + 1]) = (LAST_PHASE + 1, 0),
         9 => {
             let i = r.below(table.len());
             table[i] = r.byte();
@@ -144,22 +153,45 @@ pub fn any(r: &mut Random) -> Vec<u8> {
     }
 }
 
-/// Every table that accepted moves reach from the fresh one.
-pub fn reached(threads: usize) -> Vec<Vec<u8>> {
-    let mut met = HashSet::from([fresh(threads)]);
-    let mut tables = vec![fresh(threads)];
+/// All requests for so many threads, each number also one past its range.
+fn requests(threads: u16) -> Vec<[u16; 3]> {
+    let mut requests = Vec::new();
+    for thread in 0..=threads {
+        for mov in 0..=LAST_MOVE + 1 {
+            for target in 0..=threads {
+                requests.push([thread, mov, target]);
+            }
+        }
+    }
+    requests
+}
+
+/// Every table that a part's accepted moves reach from its fresh one, which
+/// comes first. All requests are tried on each; `see` gets every request, its
+/// answer, and the caller with what was left. Past `most` tables the search
+/// ends.
+pub fn reached(
+    part: &dyn Part,
+    threads: usize,
+    most: usize,
+    mut see: impl FnMut(&Call, u64, &Caller),
+) -> Vec<Vec<u8>> {
+    let mut caller = Caller::new(part);
+    let room = vec![0x5a; model::table_size(threads)];
+    caller.call(&Call::fresh(threads as u16, room));
+    let mut tables = vec![caller.lent().to_vec()];
+    let mut met = HashSet::from([tables[0].clone()]);
+    let requests = requests(threads as u16);
     let mut next = 0;
-    while next < tables.len() {
-        for thread in 0..threads as u16 {
-            for mov in 0..=model::RELENT {
-                for target in 0..threads as u16 {
-                    let mut table = tables[next].clone();
-                    let outcome = model::make_move(&mut table, thread, mov, target);
-                    let accepted = !matches!(outcome, Outcome::Refused(_));
-                    if accepted && met.insert(table.clone()) {
-                        tables.push(table);
-                    }
-                }
+    while next < tables.len() && tables.len() <= most {
+        let mut request = Call::make_move(tables[next].clone(), 0, 0, 0);
+        for &numbers in &requests {
+            request.numbers = numbers;
+            let answer = caller.call(&request);
+            see(&request, answer, &caller);
+            if number_of(answer) == 0 && !met.contains(caller.lent()) {
+                met.insert(caller.lent().to_vec());
+                tables.push(caller.lent().to_vec());
             }
         }
         next += 1;

@@ -4,10 +4,13 @@
 use std::fs;
 use std::path::Path;
 
-use crate::model::RUN_ROOM;
+use crate::model::{HOLD, LAST_MOVE, LAST_PHASE, READER_HOLDS, RUN_ROOM};
 use crate::part::{done, refused, Call, Entry, ENTRIES};
+use crate::scripts::map_lines;
+use crate::tables::phases_mut;
 
 /// A call with its answer and the lent bytes after it.
+#[derive(Clone)]
 pub struct Vector {
     pub name: String,
     pub call: Call,
@@ -119,6 +122,44 @@ fn scripts(dir: &Path) -> Result<Vec<Vector>, String> {
         });
     }
     Ok(vectors)
+}
+
+/// The rule for the vectors, which were made before 02 §1: that request gives
+/// a move of 6, a phase byte of 18 and a line `(T (hold))` a meaning, which they
+/// did not have when the answers were found.
+///
+/// Given is the vector with a number, byte or word in its place that has no
+/// meaning now: its answer must still be right. For a vector without any of
+/// them, none.
+pub fn before_hold(vector: &Vector) -> Option<Vector> {
+    let mut old = vector.clone();
+    match old.call.entry {
+        Entry::Move => {
+            if old.call.numbers[1] == HOLD {
+                old.call.numbers[1] = LAST_MOVE + 1;
+            }
+            replace_phase(&mut old.call.lent);
+            replace_phase(&mut old.after);
+        }
+        Entry::Nodes | Entry::OpenMoves => replace_phase(&mut old.call.read),
+        Entry::Run => old.call.read = map_lines(&old.call.read, replace_hold),
+        Entry::Fresh | Entry::Check | Entry::Plan => (),
+    }
+    (old.call != vector.call).then_some(old)
+}
+
+/// Puts a byte that is no phase in place of each phase 18 of a table.
+fn replace_phase(table: &mut [u8]) {
+    phases_mut(table)
+        .filter(|phase| **phase == READER_HOLDS)
+        .for_each(|phase| *phase = LAST_PHASE + 1);
+}
+
+/// The line `(T (hold))` with a word that is no move in place of hold.
+fn replace_hold(line: &[u8]) -> Option<Vec<u8>> {
+    let thread = line.strip_prefix(b"(")?.strip_suffix(b" (hold))")?;
+    let is_number = !thread.is_empty() && thread.iter().all(u8::is_ascii_digit);
+    is_number.then(|| [b"(", thread, b" (held))"].concat())
 }
 
 /// All vectors. That there are none of a kind is an error.

@@ -3,7 +3,7 @@ use Prim.Native.Nat.{ℕ}
 use mathlib.Core.Path.{ap, _∙_}
 use borrow.Author.Needs.{needs}
 use lib.ListN.{getD}
-use Rattle.rules.specs.View.{subjectBy}
+use Rattle.theory.specs.Statements.{subjectBy}
 use Rattle.apply.proofs.find_subject.Statement.{statement}
 use Rattle.apply.proofs.find_subject.Tie as tie
 

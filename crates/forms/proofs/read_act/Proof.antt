@@ -4,9 +4,10 @@ use mathlib.Core.Bool.{false}
 use mathlib.Core.List.{List}
 use mathlib.Core.Path.{_≡_, sym, ap, _∙_}
 use borrow.Author.Needs.{needs}
-use Rattle.definitions.specs.Forms.{actForm}
+use Rattle.definitions.specs.Forms.{actText, plainMoves, plainForm, actForm}
 use Rattle.definitions.specs.Texts.{bytes, same}
-use Rattle.forms.specs.Readings.{formFor, aimedForm}
+use Rattle.definitions.specs.Threads.{gather}
+use Rattle.forms.specs.Readings.{formFor}
 use Rattle.forms.proofs.read_act.Statement.{statement}
 use Rattle.forms.proofs.read_act.Tie as tie
 
@@ -22,6 +23,9 @@ up3 c = c .before .before .before
 
 abbrev up4 : tie.Else4 → tie.Else3
 up4 c = c .before .before .before
+
+abbrev up5 : tie.Else5 → tie.Else4
+up5 c = c .before .before .before
 
 -- the texts that were compared before, without success
 not-go : (c : tie.Else1) → same (part c) (bytes " (go))") ≡ false
@@ -40,6 +44,10 @@ not-relent : (c : tie.Else4) → same (part (up2 (up3 (up4 c)))) (bytes " (relen
 unfolding bytes
 not-relent c = sym (c .before .same-text4 .ensures) ∙ c .if4 .left
 
+not-hold : (c : tie.Else5) → same (part (up2 (up3 (up4 (up5 c))))) (bytes " (hold))") ≡ false
+unfolding bytes
+not-hold c = sym (c .before .same-text5 .ensures) ∙ c .if5 .left
+
 slice-aggregate-same-text : tie.Need-slice-aggregate-same-text
 slice-aggregate-same-text c = search needs
 
@@ -53,7 +61,7 @@ asking-requires : tie.Need-asking-requires
 asking-requires c κs = search needs
 
 returns : tie.Need-returns
-unfolding actForm bytes
+unfolding actForm plainForm plainMoves gather actText bytes
 returns c =
     let test = c .before in
     rw (sym (test .before .same-text .ensures) ∙ test .if1 .taken) (ap formFor (c .asking .ensures))
@@ -71,7 +79,7 @@ asking-requires-2 : tie.Need-asking-requires-2
 asking-requires-2 c κs = search needs
 
 returns-2 : tie.Need-returns-2
-unfolding actForm bytes
+unfolding actForm plainForm plainMoves gather actText bytes
 returns-2 c =
     let test = c .before in
     let e = test .before .before .before in
@@ -90,7 +98,7 @@ asking-requires-3 : tie.Need-asking-requires-3
 asking-requires-3 c κs = search needs
 
 returns-3 : tie.Need-returns-3
-unfolding actForm bytes
+unfolding actForm plainForm plainMoves gather actText bytes
 returns-3 c =
     let test = c .before in
     let e = test .before .before .before in
@@ -109,21 +117,42 @@ asking-requires-4 : tie.Need-asking-requires-4
 asking-requires-4 c κs = search needs
 
 returns-4 : tie.Need-returns-4
-unfolding actForm bytes
+unfolding actForm plainForm plainMoves gather actText bytes
 returns-4 c =
     let test = c .before in
     let e = test .before .before .before in
     rw (not-go (up2 (up3 e)), not-shared (up3 e), not-exclusive e, sym (test .before .same-text4 .ensures) ∙ test .if4 .taken)
     (ap formFor (c .asking4 .ensures))
 
+slice-aggregate-same-text-5 : tie.Need-slice-aggregate-same-text-5
+slice-aggregate-same-text-5 c = search needs
+
+same-text-requires-5 : tie.Need-same-text-requires-5
+same-text-requires-5 c κs = search needs
+
+cast-asking-5 : tie.Need-cast-asking-5
+cast-asking-5 c = search needs
+
+asking-requires-5 : tie.Need-asking-requires-5
+asking-requires-5 c κs = search needs
+
+returns-5 : tie.Need-returns-5
+unfolding actForm plainForm plainMoves gather actText bytes
+returns-5 c =
+    let test = c .before in
+    let e = test .before .before .before in
+    rw (not-go (up2 (up3 (up4 e))), not-shared (up3 (up4 e)), not-exclusive (up4 e), not-relent e, sym (test .before .same-text5 .ensures) ∙ test .if5 .taken)
+    (ap formFor (c .asking5 .ensures))
+
 read-aimed-requires : tie.Need-read-aimed-requires
 read-aimed-requires c κs = search needs
 
-returns-5 : tie.Need-returns-5
-unfolding actForm aimedForm
-returns-5 c =
+returns-6 : tie.Need-returns-6
+unfolding actForm plainForm plainMoves gather actText bytes
+returns-6 c =
     let e = c .before in
-    rw (not-go (up2 (up3 (up4 e))), not-shared (up3 (up4 e)), not-exclusive (up4 e), not-relent e) (c .read-aimed .ensures)
+    rw (not-go (up2 (up3 (up4 (up5 e)))), not-shared (up3 (up4 (up5 e))), not-exclusive (up4 (up5 e)), not-relent (up5 e), not-hold e)
+    (c .read-aimed .ensures)
 
 pub read-act-spec : {M : Type 1} → statement M
 read-act-spec =
@@ -149,5 +178,10 @@ read-act-spec =
     cast-asking-4
     asking-requires-4
     returns-4
+    slice-aggregate-same-text-5
+    same-text-requires-5
+    cast-asking-5
+    asking-requires-5
+    returns-5
     read-aimed-requires
-    returns-5)
+    returns-6)

@@ -6,9 +6,8 @@ use mathlib.Core.Path.{_≡_, sym, ap, _∙_}
 use borrow.Author.Needs.{needs}
 use lib.ListN.{length, take, drop}
 use Rattle.definitions.specs.Codes.{setMove, clearMove}
-use Rattle.definitions.specs.Forms.{targetForm}
+use Rattle.definitions.specs.Forms.{targetForm, aimedForm}
 use Rattle.definitions.specs.Texts.{bytes, starts, numberRead}
-use Rattle.forms.specs.Readings.{aimedForm}
 use Rattle.theory.proofs.Lists.{from-on}
 use Rattle.theory.proofs.Texts.{starts-length}
 use Rattle.forms.proofs.read_aimed.Statement.{statement}

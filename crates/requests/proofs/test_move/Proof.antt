@@ -8,6 +8,7 @@ use Rattle.definitions.specs.Answers.{answered}
 use Rattle.definitions.specs.Bounds.{lastMove}
 use Rattle.definitions.specs.Moves.{targetFits}
 use Rattle.definitions.specs.Phases.{hasMove}
+use Rattle.theory.proofs.Tests.{true-T}
 use Rattle.requests.proofs.test_move.Statement.{statement}
 use Rattle.requests.proofs.test_move.Tie as tie
 
@@ -58,13 +59,13 @@ returns-4 : tie.Need-returns-4
 unfolding answered
 returns-4 c =
     let left = c .before .before in
-    rw (known (left .before .before), fits (left .before), exists left, sym (c .before .must-wait .ensures) ∙ c .if4 .taken)
+    rw (known (left .before .before), fits (left .before), exists left, sym (c .before .must-wait .ensures (true-T _ (exists left))) ∙ c .if4 .taken)
 
 returns-5 : tie.Need-returns-5
 unfolding answered
 returns-5 c =
     let left = c .before .before in
-    rw (known (left .before .before), fits (left .before), exists left, sym (c .before .must-wait .ensures) ∙ c .if4 .left)
+    rw (known (left .before .before), fits (left .before), exists left, sym (c .before .must-wait .ensures (true-T _ (exists left))) ∙ c .if4 .left)
 
 pub test-move-spec : {M : Type 1} → statement M
 test-move-spec =

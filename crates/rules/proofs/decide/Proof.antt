@@ -3,7 +3,7 @@ use Prim.Native.Nat.{suc}
 use mathlib.Core.Path.{refl}
 use borrow.Author.Needs.{needs}
 use Rattle.definitions.specs.Bounds.{lastMove}
-use Rattle.definitions.specs.Codes.{go, callShared, callExclusive, setMove, clearMove, relent}
+use Rattle.definitions.specs.Codes.{go, callShared, callExclusive, setMove, clearMove, relent, hold}
 use Rattle.definitions.specs.Moves.{effect}
 use Rattle.theory.proofs.Matches.{above}
 use Rattle.rules.proofs.Arms.{move-arm, called, no-arm}
@@ -22,10 +22,12 @@ decide-spec =
     (λ c κs. search needs)
     (λ c κs. search needs)
     (λ c κs. search needs)
+    (λ c κs. search needs)
     (λ c. called _ _ go _ (c .before .match .keys1) (c .go .ensures))
     (λ c. move-arm _ _ callShared _ _ (c .before .match .keys2) (c .show .ensures) (λ s r seen. record { cells = refl; shows = refl }))
     (λ c. move-arm _ _ callExclusive _ _ (c .before .match .keys3) (c .show2 .ensures) (λ s r seen. record { cells = refl; shows = refl }))
     (λ c. called _ _ setMove _ (c .before .match .keys4) (c .set-flag .ensures))
     (λ c. called _ _ clearMove _ (c .before .match .keys5) (c .clear-flag .ensures))
     (λ c. move-arm _ _ relent _ _ (c .before .match .keys6) (c .step .ensures) (λ s r seen. record { cells = refl; shows = refl }))
+    (λ c. move-arm _ _ hold _ _ (c .before .match .keys7) (c .set-mutex .ensures) (λ s r seen. record { cells = refl; shows = refl }))
     (λ c. no-arm _ _ _ (above (suc lastMove) _ (c .before .match .rest))))

@@ -31,6 +31,7 @@ go-spec =
     (λ c κs. search needs)
     (λ c κs. search needs)
     (λ c κs. search needs)
+    (λ c κs. search needs)
     (λ c. go-arm _ 1 _ _ (c .before .match .keys1) (c .set-busy .ensures) (λ s i t seen. record { cells = refl; shows = refl }))
     (λ c.
     let cells = c .before .before .before .args .v .cells in
@@ -51,4 +52,5 @@ go-spec =
     (λ c. go-arm _ 14 _ _ (c .before .match .keys13) (c .show5 .ensures) (λ s i t seen. record { cells = refl; shows = refl }))
     (λ c. go-arm _ 16 _ _ (c .before .match .keys14) (c .set-mutex2 .ensures) (λ s i t seen. record { cells = refl; shows = refl }))
     (λ c. go-arm _ 17 _ _ (c .before .match .keys15) (c .show6 .ensures) (λ s i t seen. record { cells = refl; shows = refl }))
+    (λ c. go-arm _ 18 _ _ (c .before .match .keys16) (c .set-mutex3 .ensures) (λ s i t seen. record { cells = refl; shows = refl }))
     (λ c. idle-arm _ _ (c .before .match .rest)))

@@ -1,7 +1,7 @@
 -- `subject_of` meets its contract: each return rewrites with the tests that led there.
 use mathlib.Core.Path.{sym, _∙_}
 use borrow.Author.Needs.{needs}
-use Rattle.rules.specs.View.{subjectBy}
+use Rattle.theory.specs.Statements.{subjectBy}
 use Rattle.rules.proofs.subject_of.Statement.{statement}
 use Rattle.rules.proofs.subject_of.Tie as tie
 

@@ -4,17 +4,18 @@ use mathlib.Core.Bool.{true, false, _&&_, _||_}
 use mathlib.Core.Path.{_≡_}
 use borrow.Author.Tests.{eq-eqb, ne-eqb}
 use lib.Dec.{ltb, eqb}
+use Rattle.definitions.specs.Sound.{opened}
 use Rattle.soundness.specs.Pass.{restFits}
 use Rattle.soundness.specs.declared.Tally.{Tally}
 use Rattle.soundness.proofs.rest_fits.Statement.{statement}
 use Rattle.soundness.proofs.rest_fits.Tie as tie
 
 module _ (t : Tally) (n : ℕ) where
-  in-16 : (eqb (t .holder) 0 || eqb (t .holder) 16) ≡ true → eqb (t .forbidden) 0 ≡ restFits t n
+  in-opened : (eqb (t .holder) 0 || opened (t .holder)) ≡ true → eqb (t .forbidden) 0 ≡ restFits t n
   unfolding restFits
-  in-16 a = simp a
+  in-opened a = simp a
 
-  module _ (a : (eqb (t .holder) 0 || eqb (t .holder) 16) ≡ false) where
+  module _ (a : (eqb (t .holder) 0 || opened (t .holder)) ≡ false) where
     in-10 : t .holder ≡ 10 → (ltb (t .forbidden) n && eqb (t .readers) 0) ≡ restFits t n
     unfolding restFits
     in-10 b = simp (a, eq-eqb (t .holder) 10 b)
@@ -29,7 +30,7 @@ module _ (t : Tally) (n : ℕ) where
       in-15 d = simp (a, ne-eqb (t .holder) 10 b, d)
 
 returns : tie.Need-returns
-returns c = in-16 _ _ (c .before .if1 .taken)
+returns c = in-opened _ _ (c .before .if1 .taken)
 
 returns-2 : tie.Need-returns-2
 returns-2 c =

@@ -48,4 +48,5 @@ row-of-spec =
     (λ c. at 15 (c .match .keys16) refl)
     (λ c. at 16 (c .match .keys17) refl)
     (λ c. at 17 (c .match .keys18) refl)
-    (λ c. past _ (above 18 _ (c .match .rest))))
+    (λ c. at 18 (c .match .keys19) refl)
+    (λ c. past _ (above 19 _ (c .match .rest))))
