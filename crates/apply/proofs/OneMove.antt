@@ -16,7 +16,6 @@ use Rattle.rules.specs.declared.Decided.{Decided}
 use Rattle.rules.specs.declared.View.{View}
 use Rattle.theory.specs.Tables.{SoundBytes, forbiddenCount}
 use Rattle.apply.specs.MoveMade.{MoveTried, TestedTable, Accepting, TwoThreads, storedCells}
-use Rattle.rules.proofs.Subject.{Within, effect-within}
 use Rattle.theory.proofs.Bytes.{sized-e}
 use Rattle.theory.proofs.Quantifiers.{howMany-most}
 use Rattle.theory.proofs.Replies.{accepted-is, all-passed}
@@ -24,7 +23,7 @@ use Rattle.theory.proofs.Soundness.{sound-e}
 use Rattle.theory.proofs.Storages.{reply-same, accepts-i, accepted-stores}
 use Rattle.theory.proofs.Ways.{accepted-e}
 use Rattle.theory.specs.Statements.{subjectOf}
-use Rattle.theory.proofs.Writers.{subject-thread}
+use Rattle.theory.proofs.MoveWrites.{subject-thread, Within, effect-within}
 use Rattle.apply.proofs.Counts.{flag-one, share-most, none-but, all-but}
 use Rattle.apply.proofs.StoredCells.{Inside, stored-cells, count-after}
 

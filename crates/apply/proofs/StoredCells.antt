@@ -15,33 +15,12 @@ use Rattle.rules.specs.View.{cellsOf, cellsWith, cellsAfter}
 use Rattle.rules.specs.declared.Cells.{Cells}
 use Rattle.theory.specs.Tables.{forbiddenCount}
 use Rattle.apply.specs.MoveMade.{storedCells}
-use Rattle.rules.proofs.Subject.{WithinOne, Within}
+use Rattle.theory.proofs.MoveWrites.{WithinOne, Within}
+use Rattle.theory.proofs.Places.{place, value, one-set, untouched}
 use Rattle.theory.proofs.Quantifiers.{howMany-change}
 use Rattle.theory.proofs.Tests.{either}
 
 -- ---- places of writes
-
--- where a write stands, and its value
-abbrev place : Write → ℕ
-place (mutex≔ v) = 1
-place (target≔ v) = 2
-place (phase≔ i v) = phaseAt i
-place (busy≔ i v) = busyAt i
-place (forbidden≔ i v) = forbiddenAt i
-
-abbrev value : Write → ℕ
-value (mutex≔ v) = v
-value (target≔ v) = v
-value (phase≔ i v) = v
-value (busy≔ i v) = v
-value (forbidden≔ i v) = v
-
-one-set : (bytes : List ℕ) (w : Write) → storedOne bytes w ≡ set bytes (place w) (value w)
-one-set bytes (mutex≔ v) = refl
-one-set bytes (target≔ v) = refl
-one-set bytes (phase≔ i v) = refl
-one-set bytes (busy≔ i v) = refl
-one-set bytes (forbidden≔ i v) = refl
 
 -- a place that a list of writes writes
 abbrev Written : ℕ → List Write → Type 0
@@ -140,18 +119,6 @@ stored-cells bytes i t (w ∷ ws) h x =
     ∙ overwritten-one bytes w (cell-writes i t after) (covered i t after w (x .0)))
 
 -- ---- how many forbidden are 1
-
--- a place that a list of writes doesn't write
-abbrev Unwritten : ℕ → List Write → Type 0
-Unwritten k [] = Unit {0}
-Unwritten k (w ∷ ws) = (k ≢ place w) × Unwritten k ws
-
-untouched : (bytes : List ℕ) (k : ℕ) (ws : List Write) → Unwritten k ws → getD (stored bytes ws) k 0 ≡ getD bytes k 0
-unfolding stored
-untouched bytes k [] h = refl
-untouched bytes k (w ∷ ws) h =
-    untouched (storedOne bytes w) k ws (h .1)
-    ∙ (ap (λ (l : List ℕ). getD l k 0) (one-set bytes w) ∙ getD-set-other bytes (place w) k (value w) 0 (h .0))
 
 subject-byte : (bytes : List ℕ) (i t : ℕ) (c : Cells) → Inside bytes i t → getD (storedCells bytes i t c) (forbiddenAt t) 0 ≡ c .forbidden
 unfolding stored

@@ -1,6 +1,6 @@
 // The numbers of the scope paper, each once, and the types that the part's entries are asked and answer with. What each case
 // of an enum means in the paper's numbers stands in specs/Answers.antt; the rest of specs/ holds the definitions that every
-// promise of the part cites.
+// promise of the part cites. "02 §1" is paragraph 1 of the paper of change requests.
 ghost use mathlib.Core.Path.{_≡_};
 ghost use Rattle.definitions.specs.Answers.{codeOf, eventOf, numberOf};
 ghost use Rattle.definitions.specs.Table.{countFits};

@@ -23,7 +23,7 @@ use Rattle.theory.proofs.Quantifiers.{every-at, every-i}
 use Rattle.theory.proofs.Soundness.{sound-e}
 use Rattle.theory.proofs.Tests.{and-l, and-r, and-i, or-e, or-r, no-both, same-test, implies-e}
 use Rattle.theory.proofs.Ways.{accepted-e, goPhases}
-use Rattle.theory.proofs.Writers.{subject-by, subject-thread}
+use Rattle.theory.proofs.MoveWrites.{subject-by, subject-thread}
 
 -- ---- one arm
 

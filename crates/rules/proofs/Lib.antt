@@ -1,3 +1,2 @@
--- The subject of a move and what it writes; then what an arm of the rules has to show.
-pub mod Subject
+-- What an arm of the rules has to show.
 pub mod Arms

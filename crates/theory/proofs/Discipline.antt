@@ -12,14 +12,13 @@ use mathlib.Core.Logic.{_⊎_, inl, inr, ⊎-elim}
 use mathlib.Core.Path.{_≡_, refl, sym, subst, ap, _∙_}
 use lib.Dec.{T, leb, ltb, eqb, eqb→eq}
 use lib.ListN.{getD}
-use lib.Seq.{getD-set-other}
 use Rattle.definitions.specs.Answers.{Reply, accepted, refused, leaves, Seen, Test, test, answered}
 use Rattle.definitions.specs.Bounds.{lastMove}
 use Rattle.definitions.specs.Codes.{go, callShared, hold}
 use Rattle.definitions.specs.Moves.{Effect, effect, goEffect, targetFits, takesMutex, mustWait, requestTests, stepReply, step, acceptsIn, moveReply, moveTable}
 use Rattle.definitions.specs.Phases.{hasMove}
 use Rattle.definitions.specs.Sound.{sound, opened}
-use Rattle.definitions.specs.Table.{Table, Write, mutex≔, target≔, phase≔, busy≔, forbidden≔, appliedOne, applied, phaseAt, busyAt, forbiddenAt, tableOf, storedOne, stored, byteTable}
+use Rattle.definitions.specs.Table.{Table, Write, mutex≔, target≔, phase≔, busy≔, forbidden≔, appliedOne, applied, phaseAt, busyAt, forbiddenAt, tableOf, byteTable}
 use Rattle.definitions.specs.Threads.{listOf}
 use Rattle.definitions.specs.declared.Request.{Request}
 use Rattle.theory.specs.Statements.{writesMutex, writesFlag, writesTarget, MayMake, MayMakeAll, MayWrite, its-phase, its-busy, a-forbidden, the-mutex, the-target, Disciplined}
@@ -27,46 +26,30 @@ use Rattle.theory.specs.Statements.{readerRound, readerPhase, readerMove
 use Rattle.theory.specs.Tables.{SoundBytes}
 use Rattle.theory.proofs.Bytes.{byte-keeps}
 use Rattle.theory.proofs.Cases.{or-at, none-of, among-range, has-phase}
+use Rattle.theory.proofs.MoveWrites.{may-make}
+use Rattle.theory.proofs.Places.{place, Unwritten, untouched}
 use Rattle.theory.proofs.Replies.{passed}
 use Rattle.theory.proofs.Soundness.{Sound, sound-e}
 use Rattle.theory.proofs.Stages.{between-e, between-i, opened-holds, opened-apart}
 use Rattle.theory.proofs.Storages.{accepts-e, accepted-stores, accepted-table, refused-stays, reply-same, table-step}
 use Rattle.theory.proofs.Tests.{T-true, eq-T, and-l, and-r, and-i, or-e, or-l, or-r, decided, no-both, not-i}
 use Rattle.theory.proofs.Ways.{Accepted, accepted-e, finds-free, phases-1, phases-6}
-use Rattle.theory.proofs.Writers.{may-make}
 
 -- ---- who writes what
 
--- the byte that a write is to
-abbrev byteOf : Write → ℕ
-byteOf (mutex≔ v) = 1
-byteOf (target≔ v) = 2
-byteOf (phase≔ j v) = phaseAt j
-byteOf (busy≔ j v) = busyAt j
-byteOf (forbidden≔ j v) = forbiddenAt j
-
-write-other : (bytes : List ℕ) (w : Write) (k : ℕ) → (k ≡ byteOf w → ⊥) → getD (storedOne bytes w) k 0 ≡ getD bytes k 0
-write-other bytes (mutex≔ v) k h = getD-set-other bytes 1 k v 0 h
-write-other bytes (target≔ v) k h = getD-set-other bytes 2 k v 0 h
-write-other bytes (phase≔ j v) k h = getD-set-other bytes (phaseAt j) k v 0 h
-write-other bytes (busy≔ j v) k h = getD-set-other bytes (busyAt j) k v 0 h
-write-other bytes (forbidden≔ j v) k h = getD-set-other bytes (forbiddenAt j) k v 0 h
-
 -- what a request may write, by the bytes
-may-write : (s : Table) (r : Request) (w : Write) → MayMake s r w → MayWrite r (s .phase (r .thread)) (byteOf w)
+may-write : (s : Table) (r : Request) (w : Write) → MayMake s r w → MayWrite r (s .phase (r .thread)) (place w)
 may-write s r (mutex≔ v) m = the-mutex refl m
 may-write s r (target≔ v) m = the-target refl m
 may-write s r (phase≔ j v) m = its-phase (ap phaseAt m)
 may-write s r (busy≔ j v) m = its-busy (ap busyAt m)
 may-write s r (forbidden≔ j v) m = a-forbidden j refl (m .1)
 
-stored-other : (s : Table) (r : Request) (k : ℕ) → (MayWrite r (s .phase (r .thread)) k → ⊥) → (bytes : List ℕ) (ws : List Write) → MayMakeAll s r ws
-    → getD (stored bytes ws) k 0 ≡ getD bytes k 0
-unfolding stored
-stored-other s r k h bytes [] m = refl
-stored-other s r k h bytes (w ∷ ws) m =
-    stored-other s r k h (storedOne bytes w) ws (m .1)
-    ∙ write-other bytes w k (λ e. h (subst (MayWrite r (s .phase (r .thread))) (sym e) (may-write s r w (m .0))))
+-- a byte that it may not write is none that it writes
+unwritten : (s : Table) (r : Request) (k : ℕ) → (MayWrite r (s .phase (r .thread)) k → ⊥) → (ws : List Write) → MayMakeAll s r ws → Unwritten k ws
+unwritten s r k h [] m = tt
+unwritten s r k h (w ∷ ws) m =
+    ((λ e. h (subst (MayWrite r (s .phase (r .thread))) (sym e) (may-write s r w (m .0)))), unwritten s r k h ws (m .1))
 
 -- a byte that the mover may not write stays
 pub discipline : (bytes : List ℕ) (r : Request) (k : ℕ) → (MayWrite r (tableOf bytes .phase (r .thread)) k → ⊥) → getD (moveTable bytes r) k 0 ≡ getD bytes k 0
@@ -75,7 +58,8 @@ discipline bytes r k h = by (decided (acceptsIn byteTable bytes r))
     by : T (acceptsIn byteTable bytes r) ⊎ T (not (acceptsIn byteTable bytes r)) → getD (moveTable bytes r) k 0 ≡ getD bytes k 0
     by (inl t) =
         let s = tableOf bytes in
-        ap (λ (b : List ℕ). getD b k 0) (accepted-stores byteTable bytes r t) ∙ stored-other s r k h bytes (effect s r .writes) (may-make s r (accepts-e byteTable bytes r t .1))
+        ap (λ (b : List ℕ). getD b k 0) (accepted-stores byteTable bytes r t)
+        ∙ untouched bytes k (effect s r .writes) (unwritten s r k h (effect s r .writes) (may-make s r (accepts-e byteTable bytes r t .1)))
     by (inr t) = ap (λ (b : List ℕ). getD b k 0) (refused-stays byteTable bytes r t)
 
 -- what each kind of byte would need

@@ -14,12 +14,13 @@ pub mod Replies
 pub mod TestLists
 pub mod Outputs
 pub mod Writes
+pub mod Places
 pub mod Bytes
 pub mod Ways
 pub mod Soundness
 pub mod Stages
 pub mod SoundSteps
-pub mod Writers
+pub mod MoveWrites
 -- the theorems
 pub mod Storages
 pub mod SoundKept

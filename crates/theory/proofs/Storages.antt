@@ -15,7 +15,7 @@ use Rattle.definitions.specs.Table.{Table, applied, Storage, itself}
 use Rattle.definitions.specs.declared.Request.{Request}
 use Rattle.theory.specs.Tables.{Keeps}
 use Rattle.theory.proofs.Replies.{passed, all-passed, accepted-is, peel, leaves-yes, leaves-no}
-use Rattle.theory.proofs.Writers.{writes-fit}
+use Rattle.theory.proofs.MoveWrites.{writes-fit}
 use Rattle.theory.proofs.Tests.{decided}
 
 -- the record's own step, as that of a storage

@@ -16,7 +16,7 @@ ghost use Rattle.definitions.specs.Run.{runEntry};
 ghost use Rattle.definitions.specs.Table.{freshEntry};
 ghost use Rattle.wospinzo.specs.Encoding.{moveNumber, countNumber, valueIn, valueBound, version};
 
-// The part's version: major, minor and patch number. The major number changes with a promise or with the header.
+// The part's version: major, minor and patch number. docs/CHANGELOG.md says what each of them promises.
 const MAJOR: u32 = 1;
 
 const MINOR: u32 = 1;

@@ -15,7 +15,7 @@ pub const MAX_HISTORY: usize = 60_000;
 pub const MAX_SCRIPT: usize = 30_000;
 /// A room in which the output of every run fits, in bytes.
 pub const RUN_ROOM: usize = 65_536;
-/// The deepest bracket of a note, the note's own being 1.
+/// The deepest bracket of a note's text; the note's own is not counted.
 const MAX_DEPTH: usize = 16;
 
 pub const GO: u16 = 0;

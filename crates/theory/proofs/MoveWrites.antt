@@ -110,3 +110,32 @@ fits-all s r i t (w ∷ ws) m = (fits-one s r i t w (m .0), fits-all s r i t ws 
 
 pub writes-fit : (s : Table) (r : Request) → T (accepts s r) → WritesFit (s .threads) (effect s r .writes)
 writes-fit s r t = fits-all s r (accepted-e s r t .thread-fits) (subject-thread s r t) (effect s r .writes) (may-make s r t)
+
+-- ---- the writes as the code makes them: the few bytes of mover and subject, loaded and stored
+
+-- a write of mover i with subject t
+abbrev pub WithinOne : ℕ → ℕ → Write → Type 0
+WithinOne i t (mutex≔ v) = Unit {0}
+WithinOne i t (target≔ v) = Unit {0}
+WithinOne i t (phase≔ j v) = j ≡ i
+WithinOne i t (busy≔ j v) = j ≡ i
+WithinOne i t (forbidden≔ j v) = j ≡ t
+
+abbrev pub Within : ℕ → ℕ → List Write → Type 0
+Within i t [] = Unit {0}
+Within i t (w ∷ ws) = WithinOne i t w × Within i t ws
+
+module _ (s : Table) (r : Request) where
+  within-one : (w : Write) → MayMake s r w → WithinOne (r .thread) (subjectOf s r) w
+  within-one (mutex≔ v) m = tt
+  within-one (target≔ v) m = tt
+  within-one (phase≔ j v) m = m
+  within-one (busy≔ j v) m = m
+  within-one (forbidden≔ j v) m = m .0
+
+  within : (ws : List Write) → MayMakeAll s r ws → Within (r .thread) (subjectOf s r) ws
+  within [] m = tt
+  within (w ∷ ws) m = (within-one w (m .0), within ws (m .1))
+
+pub effect-within : (s : Table) (r : Request) → T (accepts s r) → Within (r .thread) (subjectOf s r) (effect s r .writes)
+effect-within s r t = within s r (effect s r .writes) (may-make s r t)
