@@ -1,6 +1,6 @@
 /*
- * wospinzo.h - the busy-forbidden lock: its table, its moves, histories and
- * scripts. C99 or later, or C++11 or later.
+ * wospinzo.h - the busy-forbidden lock: its table, its moves, histories,
+ * scripts and watchers. C99 or later, or C++11 or later.
  *
  *   cc  -std=c99   -Iinclude -o executive executive.c   target/staticlib/libwospinzo.a
  *   c++ -std=c++11 -Iinclude -o executive executive.cpp target/staticlib/libwospinzo.a
@@ -20,16 +20,23 @@
  *   byte 4 + 3i      its busy flag, 0 or 1
  *   byte 5 + 3i      its forbidden flag, 0 or 1
  *
+ * A watcher is the second thing that a caller may own: a record of 203 bytes
+ * that judges each event as it happens, without the history being kept. It
+ * knows of no table: the caller hands it the events that the moves show.
+ *
  * Slices: a pointer, which is never null, and the number of bytes there, which
  * may be 0. The slices of one call must not overlap, and nothing else may read
- * or write them during the call.
+ * or write them during the call. A watcher is lent by a pointer to its record,
+ * which is never null either, and nothing else may read or write it during the
+ * call.
  *
  * Answers: every function but wospinzo_version answers a number of 64 bits,
  * which the functions below take apart. Its low byte is 0 where the request
  * was accepted, else the number of the refusal, the first that fits in the
- * order of their numbers. The rest is the value: of an accepted request what
- * the function says it answers; of a refusal its place, which is the index of
- * the first bad pair for refusals 9, 10 and 11, else 0.
+ * order of their numbers, but for 13, which is tested after 1 and before 9.
+ * The rest is the value: of an accepted request what the function says it
+ * answers; of a refusal its place, which for refusals 9, 10 and 11 of a
+ * history is the index of the first bad pair, else 0.
  *
  * A refused request leaves every lent byte as it was. An accepted one fills
  * exactly its output from the front and leaves the bytes after it.
@@ -47,7 +54,7 @@ extern "C" {
 /* The version of this header; wospinzo_version answers that of the archive.
  * docs/CHANGELOG.md says what a version promises. */
 #define WOSPINZO_VERSION_MAJOR 1
-#define WOSPINZO_VERSION_MINOR 1
+#define WOSPINZO_VERSION_MINOR 2
 #define WOSPINZO_VERSION_PATCH 0
 #define WOSPINZO_VERSION \
     (65536 * WOSPINZO_VERSION_MAJOR + 256 * WOSPINZO_VERSION_MINOR + WOSPINZO_VERSION_PATCH)
@@ -68,6 +75,8 @@ extern "C" {
 /* The bytes of a table for n threads, and of the largest table. */
 #define WOSPINZO_TABLE_SIZE(n) (3u + 3u * (n))
 #define WOSPINZO_MAX_TABLE_SIZE 603
+/* The bytes of a watcher's record. */
+#define WOSPINZO_WATCHER_SIZE 203
 /* The most bytes that wospinzo_open_moves writes for n threads. */
 #define WOSPINZO_OPEN_MOVES_ROOM(n) (4u * (n))
 /* The longest history and the longest script, in bytes. */
@@ -143,7 +152,8 @@ enum wospinzo_node {
     WOSPINZO_OE = 10        /* 16 and 17: out of exclusive */
 };
 
-/* The refusals, in the order in which a request is tested for them. */
+/* The refusals. A request is tested for them in the order of their numbers, but
+ * for 13, which is tested after 1 and before 9. */
 enum wospinzo_refusal_number {
     WOSPINZO_ACCEPTED = 0,
     WOSPINZO_BAD_SIZE = 1,     /* N is 0 or above 200, or the table isn't 3 + 3N bytes */
@@ -157,8 +167,30 @@ enum wospinzo_refusal_number {
     WOSPINZO_UNKNOWN_PAIR = 9, /* the event isn't 1 to 8, or its thread isn't below N */
     WOSPINZO_NOT_NEXT = 10,    /* the event isn't its thread's next */
     WOSPINZO_OCCUPIED = 11,    /* the section that must be empty isn't */
-    WOSPINZO_NO_ROOM = 12      /* the output is shorter than what would be written */
+    WOSPINZO_NO_ROOM = 12,     /* the output is shorter than what would be written */
+    WOSPINZO_INCONSISTENT = 13 /* the watcher's record isn't consistent: no watch could have left it */
 };
+
+/*
+ * The record of a watcher: bytes alone, without padding, at any address.
+ * wospinzo_watch_start fills it, wospinzo_watch_event brings it up to date, and
+ * nobody else may write it between calls. The caller may read it, and may put
+ * back, over a restart, the bytes that the last call left.
+ *
+ * It is consistent where the totals are what a count over the threads gives,
+ * every entry of `places` from N upward is 0, and the others are places that
+ * the plain lock shows: 0, 1, 2, 3, 5, 6 or 7, with one thread at most in
+ * exclusive (6), and then none in shared (2). Another record is turned down by
+ * 13. One that was damaged into another consistent one is not found.
+ */
+typedef struct wospinzo_watcher {
+    uint8_t threads;   /* N, 1 to 200 */
+    uint8_t shared;    /* how many threads are in shared */
+    uint8_t exclusive; /* how many threads are in exclusive */
+    /* Each thread's place in its round: the code of its last event, 0 before
+     * its first and after a 4 or 8. 0 from N upward. */
+    uint8_t places[WOSPINZO_MAX_THREADS];
+} wospinzo_watcher;
 
 /* Whether a request was accepted: 1 or 0. */
 static inline int wospinzo_accepted(uint64_t answer)
@@ -176,6 +208,13 @@ static inline unsigned wospinzo_refusal(uint64_t answer)
 static inline uint64_t wospinzo_value(uint64_t answer)
 {
     return answer >> 8;
+}
+
+/* Of an answer of wospinzo_watch_inside: 1 where nobody is inside, else 0. A
+ * refusal says nothing of who is inside, although its value is 0. */
+static inline int wospinzo_nobody_inside(uint64_t answer)
+{
+    return answer == 0;
 }
 
 /*
@@ -213,9 +252,20 @@ static inline unsigned wospinzo_forbidden(const uint8_t *table, uint16_t thread)
     return table[5u + 3u * thread];
 }
 
-/* Of this header: the largest table, and that an answer's parts fit. */
-typedef char wospinzo_assert_table[WOSPINZO_TABLE_SIZE(WOSPINZO_MAX_THREADS) == WOSPINZO_MAX_TABLE_SIZE ? 1 : -1];
-typedef char wospinzo_assert_byte[WOSPINZO_MAX_THREADS < WOSPINZO_NO_TARGET && WOSPINZO_NO_TARGET <= UINT8_MAX ? 1 : -1];
+/* Of this header: the largest table, that an answer's parts fit, and the
+ * layout of a watcher's record. Its size is odd, so that its alignment is 1. */
+#if defined(__cplusplus)
+#define WOSPINZO_ASSERT(name, condition) static_assert(condition, "wospinzo.h: " #name)
+#elif defined(__STDC_VERSION__) && __STDC_VERSION__ >= 201112L
+#define WOSPINZO_ASSERT(name, condition) _Static_assert(condition, "wospinzo.h: " #name)
+#else
+#define WOSPINZO_ASSERT(name, condition) typedef char wospinzo_assert_##name[(condition) ? 1 : -1]
+#endif
+WOSPINZO_ASSERT(table, WOSPINZO_TABLE_SIZE(WOSPINZO_MAX_THREADS) == WOSPINZO_MAX_TABLE_SIZE);
+WOSPINZO_ASSERT(byte, WOSPINZO_MAX_THREADS < WOSPINZO_NO_TARGET && WOSPINZO_NO_TARGET <= UINT8_MAX);
+WOSPINZO_ASSERT(watcher, sizeof(wospinzo_watcher) == WOSPINZO_WATCHER_SIZE);
+WOSPINZO_ASSERT(places, offsetof(wospinzo_watcher, places) == 3);
+#undef WOSPINZO_ASSERT
 
 /* The version of the archive, as WOSPINZO_VERSION. */
 WOSPINZO_USE_ANSWER
@@ -309,6 +359,40 @@ uint64_t wospinzo_plan(uint16_t threads, const uint8_t *history, size_t history_
  */
 WOSPINZO_USE_ANSWER
 uint64_t wospinzo_run(const uint8_t *script, size_t script_len, uint8_t *out, size_t out_len);
+
+/*
+ * Starts a watch of `threads` threads: fills the whole lent record, whatever it
+ * held, with N, every place 0 and both totals 0.
+ * Answers 0.
+ * Refusals: 1 where `threads` is 0 or above 200, with the record unchanged.
+ */
+WOSPINZO_USE_ANSWER
+uint64_t wospinzo_watch_start(uint16_t threads, wospinzo_watcher *watcher);
+
+/*
+ * Tests the record, then judges one event of one thread: by the rules of
+ * wospinzo_check, after the events that were accepted since the start, however
+ * many they are. Both numbers may be any of 16 bits. An accepted event is taken
+ * into the lent record.
+ * Answers 0.
+ * Refusals, in this order and all with place 0 and the record unchanged: 1
+ * where the record's N is 0 or above 200; 13 where it isn't consistent; 9
+ * where the event isn't 1 to 8 or its thread isn't below N; 10 where it isn't
+ * the thread's next; 11 where the section that must be empty isn't. The watch
+ * goes on as if a refused event had not been.
+ */
+WOSPINZO_USE_ANSWER
+uint64_t wospinzo_watch_event(wospinzo_watcher *watcher, uint16_t thread, uint16_t event);
+
+/*
+ * Is anybody inside, in shared or in exclusive? Tests the record, which is only
+ * read.
+ * Answers 1 where somebody is, 0 where nobody is; see wospinzo_nobody_inside.
+ * Refusals: 1 where the record's N is 0 or above 200, 13 where it isn't
+ * consistent.
+ */
+WOSPINZO_USE_ANSWER
+uint64_t wospinzo_watch_inside(const wospinzo_watcher *watcher);
 
 #ifdef __cplusplus
 }

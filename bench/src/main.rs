@@ -9,15 +9,17 @@ use std::time::Instant;
 
 use compare::archive::Archive;
 use compare::histories;
-use compare::model::{self, MAX_HISTORY, MAX_SCRIPT, RUN_ROOM};
+use compare::model::{self, Record, EXCLUSIVE_TOTAL, PLACES, RECORD_SIZE, SHARED_TOTAL};
+use compare::model::{MAX_HISTORY, MAX_SCRIPT, RUN_ROOM};
 use compare::part::{number_of, value_of, Model, Part};
 use compare::random::Random;
 use compare::scripts;
 use compare::tables;
+use compare::watchers;
 
 /// Rounds of which the median is taken.
 const ROUNDS: usize = 301;
-/// Tables that a timed move takes in turn.
+/// Tables that a timed move takes in turn, and records that an event does.
 const TABLES: usize = 8;
 /// How long the calls of one part of a round shall take.
 const SPAN: u128 = 20_000;
@@ -334,6 +336,67 @@ fn script_rows() {
     }
 }
 
+// ------------------------------------------------------------------ the watcher
+
+/// An event, the record that it is put to, and the bytes of the record that it
+/// may write.
+struct Put {
+    record: Record,
+    thread: u16,
+    event: u16,
+    kept: [(usize, u8); 3],
+}
+
+/// Random records, each with an event that is accepted (0) or gets refusal 10.
+fn puts(threads: usize, number: u8) -> Vec<Put> {
+    let mut r = Random::new(19);
+    let mut found = Vec::new();
+    while found.len() < TABLES {
+        let record = watchers::consistent(&mut r, threads as u8);
+        let [thread, event] = watchers::event(&mut r, &record);
+        let answer = Model.watch_event(&mut record.clone(), thread, event);
+        if number_of(answer) == number {
+            let places = [SHARED_TOTAL, EXCLUSIVE_TOTAL, PLACES + usize::from(thread)];
+            found.push(Put {
+                record,
+                thread,
+                event,
+                kept: places.map(|place| (place, record[place])),
+            });
+        }
+    }
+    found
+}
+
+/// Puts the event to each record in turn, and the record back after it.
+fn event_turns(mut puts: Vec<Put>) -> impl FnMut(&dyn Part) -> u64 {
+    let mut next = 0;
+    move |part| {
+        let put = &mut puts[next];
+        let answer = part.watch_event(&mut put.record, put.thread, put.event);
+        for (place, byte) in put.kept {
+            put.record[place] = byte;
+        }
+        next = (next + 1) % puts.len();
+        answer
+    }
+}
+
+fn watch_rows() {
+    head("the watcher");
+    row("start", |threads| {
+        let mut record = [0; RECORD_SIZE];
+        times(|part| part.watch_start(threads as u16, black_box(&mut record)))
+    });
+    for (name, number) in [("event, accepted", 0), ("event, refused (10)", 10)] {
+        row(name, |threads| times(event_turns(puts(threads, number))));
+    }
+    row("is anybody inside?", |threads| {
+        let record = watchers::consistent(&mut Random::new(23), threads as u8);
+        times(|part| part.watch_inside(black_box(&record)))
+    });
+}
+
 fn main() {
     println!("nanoseconds a call, median of {ROUNDS} rounds (31 or more for long calls)");
     moves();
@@ -343,5 +406,8 @@ fn main() {
     }
     if cfg!(feature = "script") {
         script_rows();
+    }
+    if cfg!(feature = "watch") {
+        watch_rows();
     }
 }

@@ -6,8 +6,9 @@
  * read. Panel tasks rewrite the settings now and then, a piece a turn too. A
  * reader that is turned away waits for the mutex, for some turns at most,
  * before it tries again; it gives the mutex back in the turn in which it took
- * it. The program counts reads, writes and torn reads, of which there must be
- * none.
+ * it. A watcher judges each event before its task acts on it. When the turns
+ * are over, the tasks that are in a section leave it. The program counts reads,
+ * writes and torn reads, of which there must be none.
  */
 #include <stdio.h>
 #include <stdlib.h>
@@ -33,6 +34,7 @@ struct request {
 };
 
 static uint8_t table[WOSPINZO_TABLE_SIZE(TASKS)];
+static wospinzo_watcher watcher;
 static struct task tasks[TASKS];
 static uint32_t settings[PIECES][WORDS];
 static unsigned long reads, writes, torn_reads, waits, holds, timeouts;
@@ -97,6 +99,17 @@ static void write_piece(struct task *task)
     task->piece++;
 }
 
+/* Puts an event to the watcher, which must accept it. */
+static void watch(uint16_t number, uint64_t event)
+{
+    uint64_t answer = wospinzo_watch_event(&watcher, number, (uint16_t)event);
+
+    if (!wospinzo_accepted(answer)) {
+        printf("task %u: the watcher's refusal %u\n", (unsigned)number, wospinzo_refusal(answer));
+        exit(2);
+    }
+}
+
 /* What an event means to the task that showed it. */
 static void heed(uint16_t number, struct task *task, uint64_t event)
 {
@@ -137,7 +150,10 @@ static void step(uint16_t number)
             holds++;
         else if (phase == WOSPINZO_PHASE_TRY_AGAIN)
             timeouts++;
-        heed(number, task, wospinzo_value(answer));
+        if (wospinzo_value(answer) != WOSPINZO_QUIET) {
+            watch(number, wospinzo_value(answer));
+            heed(number, task, wospinzo_value(answer));
+        }
     } else if (wospinzo_refusal(answer) == WOSPINZO_MUTEX_HELD) {
         task->waited++;
         waits++;
@@ -168,16 +184,38 @@ static void turn(uint16_t number)
         step(number);
 }
 
+/* The tasks that are in a section finish there and leave it; the others get no
+ * turn. Then nobody may be inside. */
+static void finish(void)
+{
+    unsigned turns;
+    uint16_t task;
+    uint64_t answer;
+
+    for (turns = 0; turns <= PIECES; turns++)
+        for (task = 0; task < TASKS; task++)
+            if (tasks[task].inside)
+                turn(task);
+    answer = wospinzo_watch_inside(&watcher);
+    if (!wospinzo_nobody_inside(answer)) {
+        printf("at the end: the watcher's refusal %u, somebody inside %u\n", wospinzo_refusal(answer),
+               (unsigned)wospinzo_value(answer));
+        exit(2);
+    }
+}
+
 int main(void)
 {
     unsigned turns;
     uint16_t task;
 
-    if (!wospinzo_accepted(wospinzo_fresh(TASKS, table, sizeof table)))
+    if (!wospinzo_accepted(wospinzo_fresh(TASKS, table, sizeof table)) ||
+        !wospinzo_accepted(wospinzo_watch_start(TASKS, &watcher)))
         return 2;
     for (turns = 0; turns < TURNS; turns++)
         for (task = 0; task < TASKS; task++)
             turn(task);
+    finish();
     printf("%d tasks, %d turns: %lu reads, %lu writes, %lu waits for the mutex, %lu holds, "
            "%lu timeouts, %lu torn reads\n",
            (int)TASKS, (int)TURNS, reads, writes, waits, holds, timeouts, torn_reads);

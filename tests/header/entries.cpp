@@ -1,6 +1,27 @@
 // Calls every entry from C++: the answers are those of a reader's first moves.
 #include "wospinzo.h"
 
+static_assert(sizeof(wospinzo_watcher) == 203 && alignof(wospinzo_watcher) == 1, "the layout of a watcher's record");
+
+// A watch of two threads: each part of the record, and each answer to the question.
+static bool watches()
+{
+    wospinzo_watcher watcher;
+
+    bool good = wospinzo_accepted(wospinzo_watch_start(2, &watcher)) && watcher.threads == 2;
+    good = good && wospinzo_accepted(wospinzo_watch_event(&watcher, 1, WOSPINZO_ENTER_SHARED_CALL));
+    good = good && wospinzo_nobody_inside(wospinzo_watch_inside(&watcher));
+    good = good && wospinzo_accepted(wospinzo_watch_event(&watcher, 1, WOSPINZO_ENTER_SHARED_RETURN));
+    good = good && watcher.shared == 1 && watcher.exclusive == 0 && watcher.places[1] == WOSPINZO_ENTER_SHARED_RETURN;
+    good = good && wospinzo_value(wospinzo_watch_inside(&watcher)) == 1;
+    good = good && !wospinzo_nobody_inside(wospinzo_watch_inside(&watcher));
+    good = good && wospinzo_watch_event(&watcher, 1, WOSPINZO_ENTER_SHARED_RETURN) == WOSPINZO_NOT_NEXT;
+    watcher.exclusive = 1;
+    good = good && wospinzo_watch_inside(&watcher) == WOSPINZO_INCONSISTENT;
+    good = good && !wospinzo_nobody_inside(wospinzo_watch_inside(&watcher));
+    return good;
+}
+
 int main()
 {
     uint8_t table[WOSPINZO_TABLE_SIZE(2)], out[64];
@@ -20,5 +41,5 @@ int main()
     good = good && wospinzo_value(wospinzo_plan(2, history, sizeof history, out, sizeof out)) == 4;
     good = good && wospinzo_value(wospinzo_run(script, sizeof script, out, sizeof out)) == 10;
     good = good && wospinzo_refusal(wospinzo_check(201, history, sizeof history)) == WOSPINZO_BAD_SIZE;
-    return good ? 0 : 1;
+    return good && watches() ? 0 : 1;
 }

@@ -16,6 +16,7 @@ enum { STACK = 1 << 18, FILL = 0xA5 };
 
 static uint8_t stack[STACK];
 static uint8_t table[WOSPINZO_MAX_TABLE_SIZE];
+static wospinzo_watcher watcher;
 static uint8_t history[WOSPINZO_MAX_HISTORY];
 static uint8_t script[WOSPINZO_MAX_SCRIPT];
 /* The plan of the longest history fits: a round of a writer, four events, takes 3N + 6 moves. */
@@ -31,6 +32,9 @@ static void open_moves(void) { answer = wospinzo_open_moves(table, sizeof table,
 static void check(void) { answer = wospinzo_check(WOSPINZO_MAX_THREADS, history, sizeof history); }
 static void plan(void) { answer = wospinzo_plan(WOSPINZO_MAX_THREADS, history, sizeof history, out, sizeof out); }
 static void run(void) { answer = wospinzo_run(script, sizeof script, out, WOSPINZO_RUN_ROOM); }
+static void watch_start(void) { answer = wospinzo_watch_start(WOSPINZO_MAX_THREADS, &watcher); }
+static void watch_event(void) { answer = wospinzo_watch_event(&watcher, 199, WOSPINZO_ENTER_EXCLUSIVE_CALL); }
+static void watch_inside(void) { answer = wospinzo_watch_inside(&watcher); }
 
 static size_t used(void (*entry)(void))
 {
@@ -92,6 +96,9 @@ int main(void)
         {"wospinzo_check", check, WOSPINZO_STACK},
         {"wospinzo_plan", plan, WOSPINZO_STACK},
         {"wospinzo_run", run, WOSPINZO_RUN_STACK},
+        {"wospinzo_watch_start", watch_start, WOSPINZO_STACK},
+        {"wospinzo_watch_event", watch_event, WOSPINZO_STACK},
+        {"wospinzo_watch_inside", watch_inside, WOSPINZO_STACK},
     };
     int refused = 0;
     size_t i, frame = used(nothing);

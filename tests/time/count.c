@@ -14,6 +14,7 @@ enum { MOST_PLAN = 13725300, PAST_LAST_MOVE = WOSPINZO_HOLD + 1 };
 
 static uint8_t table[WOSPINZO_MAX_TABLE_SIZE], kept[WOSPINZO_MAX_TABLE_SIZE];
 static uint8_t history[WOSPINZO_MAX_HISTORY], script[WOSPINZO_MAX_SCRIPT], out[MOST_PLAN];
+static wospinzo_watcher watcher;
 static uint64_t answer;
 static uint32_t version;
 static unsigned failures;
@@ -219,6 +220,109 @@ static void scripts(const char *first, const char *text, size_t most, const char
     COUNT(WOSPINZO_ACCEPTED, wospinzo_run(script, length, out, WOSPINZO_RUN_ROOM), "run %zu %s, the last line refused", length, what);
 }
 
+/* Starts a watch, which is counted. */
+static void start(uint16_t n)
+{
+    COUNT(WOSPINZO_ACCEPTED, wospinzo_watch_start(n, &watcher), "watch_start %u", n);
+}
+
+/* An event that is counted, on the record as it is, which is put back after it. */
+static void judged(unsigned expected, uint16_t n, uint16_t thread, uint16_t event, const char *what)
+{
+    wospinzo_watcher was = watcher;
+
+    COUNT(expected, wospinzo_watch_event(&watcher, thread, event), "watch_event %u event %u, %s", n, event, what);
+    watcher = was;
+}
+
+/* The events from one to another of a thread, each counted, then taken into the record. */
+static void events(uint16_t n, uint16_t thread, uint16_t from, uint16_t to, const char *what)
+{
+    uint16_t event;
+
+    for (event = from; event <= to; event++) {
+        judged(WOSPINZO_ACCEPTED, n, thread, event, what);
+        if (!wospinzo_accepted(wospinzo_watch_event(&watcher, thread, event))) failures++;
+    }
+}
+
+static void asked(unsigned expected, uint16_t n, const char *what)
+{
+    COUNT(expected, wospinzo_watch_inside(&watcher), "watch_inside %u %s", n, what);
+}
+
+/* A record that is turned down: by an event, and by the question. */
+static void bad_record(unsigned expected, uint16_t n, const char *what)
+{
+    judged(expected, n, 0, WOSPINZO_ENTER_SHARED_CALL, what);
+    asked(expected, n, what);
+}
+
+/* The record of a watch that has just started, with one part of it false. */
+static void bad_records(uint16_t n)
+{
+    uint8_t last = (uint8_t)(n - 1);
+    wospinzo_watcher started;
+
+    start(n);
+    started = watcher;
+    watcher.threads = WOSPINZO_MAX_THREADS + 1;
+    bad_record(WOSPINZO_BAD_SIZE, n, "refused by 1");
+    watcher = started;
+    watcher.shared = 1;
+    bad_record(WOSPINZO_INCONSISTENT, n, "a false total of shared");
+    watcher = started;
+    watcher.exclusive = 1;
+    bad_record(WOSPINZO_INCONSISTENT, n, "a false total of exclusive");
+    watcher = started;
+    watcher.places[last] = WOSPINZO_LEAVE_SHARED_RETURN;
+    bad_record(WOSPINZO_INCONSISTENT, n, "a place that no round has");
+    watcher = started;
+    if (n < WOSPINZO_MAX_THREADS) {
+        watcher.places[n] = WOSPINZO_ENTER_SHARED_CALL;
+        bad_record(WOSPINZO_INCONSISTENT, n, "a place from N upward");
+        watcher = started;
+    }
+    if (n > 1) {
+        watcher.exclusive = 2;
+        watcher.places[0] = watcher.places[last] = WOSPINZO_ENTER_EXCLUSIVE_RETURN;
+        bad_record(WOSPINZO_INCONSISTENT, n, "two in exclusive");
+        watcher.shared = watcher.exclusive = 1;
+        watcher.places[0] = WOSPINZO_ENTER_SHARED_RETURN;
+        bad_record(WOSPINZO_INCONSISTENT, n, "one in each section");
+    }
+}
+
+/* Each event of the last thread with the others outside, in shared, and one of them in exclusive. */
+static void watches(uint16_t n)
+{
+    uint16_t last = (uint16_t)(n - 1), t;
+
+    start(n);
+    asked(WOSPINZO_ACCEPTED, n, "nobody");
+    judged(WOSPINZO_UNKNOWN_PAIR, n, last, 0, "refused by 9");
+    judged(WOSPINZO_UNKNOWN_PAIR, n, last, UINT16_MAX, "refused by 9");
+    judged(WOSPINZO_UNKNOWN_PAIR, n, n, WOSPINZO_ENTER_SHARED_CALL, "refused by 9");
+    judged(WOSPINZO_NOT_NEXT, n, last, WOSPINZO_LEAVE_EXCLUSIVE_RETURN, "refused by 10");
+    events(n, last, WOSPINZO_ENTER_SHARED_CALL, WOSPINZO_LEAVE_EXCLUSIVE_RETURN, "others outside");
+    for (t = 0; t < last; t++) {
+        watcher.places[t] = WOSPINZO_ENTER_SHARED_RETURN;
+        watcher.shared++;
+    }
+    events(n, last, WOSPINZO_ENTER_SHARED_CALL, WOSPINZO_LEAVE_SHARED_RETURN, "others in shared");
+    events(n, last, WOSPINZO_ENTER_EXCLUSIVE_CALL, WOSPINZO_ENTER_EXCLUSIVE_CALL, "others in shared");
+    if (n > 1) {
+        judged(WOSPINZO_OCCUPIED, n, last, WOSPINZO_ENTER_EXCLUSIVE_RETURN, "refused by 11");
+        asked(WOSPINZO_ACCEPTED, n, "others in shared");
+        start(n);
+        events(n, 0, WOSPINZO_ENTER_EXCLUSIVE_CALL, WOSPINZO_ENTER_EXCLUSIVE_RETURN, "others outside");
+        events(n, last, WOSPINZO_ENTER_SHARED_CALL, WOSPINZO_ENTER_SHARED_CALL, "one in exclusive");
+        judged(WOSPINZO_OCCUPIED, n, last, WOSPINZO_ENTER_SHARED_RETURN, "refused by 11");
+        asked(WOSPINZO_ACCEPTED, n, "one in exclusive");
+    }
+    bad_records(n);
+}
+
 int main(void)
 {
     static const uint16_t counts[] = {1, 2, 8, 50, 100, 200};
@@ -239,7 +343,9 @@ int main(void)
     for (n = 1; n <= WOSPINZO_MAX_THREADS; n++) {
         lists(n);
         histories(n, 40);
+        watches(n);
     }
+    COUNT(WOSPINZO_BAD_SIZE, wospinzo_watch_start(0, &watcher), "watch_start 0 refused by 1");
     for (i = 0; i < sizeof lengths / sizeof *lengths; i++) {
         histories(1, lengths[i]);
         histories(8, lengths[i]);

@@ -6,8 +6,8 @@ use mathlib.Core.Path.{_≡_, refl, sym, ap, _∙_}
 use lib.Dec.{eqb, eqb→eq}
 use Rattle.definitions.specs.Threads.{every, howMany}
 use Rattle.soundness.proofs.Bools.{not-not}
-use Rattle.soundness.proofs.Threads.{every-same, except-count}
-use Rattle.theory.proofs.Quantifiers.{howMany-at}
+use Rattle.soundness.proofs.Threads.{except-count}
+use Rattle.theory.proofs.Quantifiers.{every-same, howMany-at}
 use Rattle.theory.proofs.Tests.{eq-T, same-test}
 
 -- how many have it, and how many have not

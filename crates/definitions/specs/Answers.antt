@@ -17,7 +17,7 @@ use Rattle.definitions.specs.declared.MaybeEvent.the-variants.{Known, Un
 use Rattle.definitions.specs.declared.Outcome.{Outcome}
 use Rattle.definitions.specs.declared.Outcome.the-variants as outcome
 use Rattle.definitions.specs.declared.Refusal.{Refusal}
-use Rattle.definitions.specs.declared.Refusal.the-variants.{BadSize, Unsound, NoThread, NoMove, BadTarget, NotInPhase, MutexHeld, BadForm, UnknownPair, NotNext, Occupied, NoRoom}
+use Rattle.definitions.specs.declared.Refusal.the-variants.{BadSize, Unsound, NoThread, NoMove, BadTarget, NotInPhase, MutexHeld, BadForm, UnknownPair, NotNext, Occupied, NoRoom, Inconsistent}
 
 -- ---- events and refusals by number
 
@@ -50,7 +50,7 @@ events =
 unfoldable pub eventOf : ℕ → MaybeEvent
 eventOf code = getD events code Unknown
 
--- "Turned down, in checking order": the numbers 1 to 12
+-- "Turned down, in checking order": the numbers 1 to 12; "New: 13, the watcher record is inconsistent" (02 §2)
 abbrev pub numberOf : Refusal → ℕ
 numberOf BadSize = 1
 numberOf Unsound = 2
@@ -64,6 +64,7 @@ numberOf UnknownPair = 9
 numberOf NotNext = 10
 numberOf Occupied = 11
 numberOf NoRoom = 12
+numberOf Inconsistent = 13
 
 -- ---- replies
 

@@ -10,6 +10,7 @@ pub mod Nodes
 pub mod Moves
 pub mod OpenMoves
 pub mod PlainLock
+pub mod Watch
 pub mod Plan
 pub mod Chains
 pub mod Texts

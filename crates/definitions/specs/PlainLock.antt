@@ -8,7 +8,7 @@ use lib.ListN.{length, getD, take}
 use Rattle.definitions.specs.Answers.{Reply, Test, test, testAt, passesAll, answered}
 use Rattle.definitions.specs.Bounds.{firstEvent, lastEvent, mostHistory}
 use Rattle.definitions.specs.Table.{countFits}
-use Rattle.definitions.specs.Threads.{every, some, gather, between}
+use Rattle.definitions.specs.Threads.{every, some, howMany, gather, between}
 
 -- "A history is a list of byte pairs, thread then event."
 pub record Pair : Type 0 where
@@ -23,6 +23,10 @@ pairsOf (t ∷ e ∷ rest) = record { thread = t; event = e } ∷ pairsOf rest
 -- each thread's place in its round
 abbrev pub Places : Type 0
 Places = ℕ → ℕ
+
+-- those that a list holds, an entry for each thread
+abbrev pub placesIn : List ℕ → Places
+placesIn places = λ t. getD places t 0
 
 abbrev pub atStart : Places
 atStart = λ t. 0
@@ -49,6 +53,10 @@ anyInShared n places = some n (λ t. eqb (places t) 2)
 
 abbrev pub anyInExclusive : ℕ → Places → Bool
 anyInExclusive n places = some n (λ t. eqb (places t) 6)
+
+-- how many of the threads below n are at a place
+abbrev pub howManyAt : ℕ → Places → ℕ → ℕ
+howManyAt n places place = howMany n (λ t. eqb (places t) place)
 
 -- "Event 2 needs nobody in exclusive. Event 6 needs nobody in either. Nothing else is forbidden."
 abbrev pub needMet : ℕ → Places → ℕ → Bool

@@ -118,7 +118,7 @@ impl Event {
     }
 }
 
-// Why a request is turned down, in checking order: the numbers 1 to 12.
+// Why a request is turned down: the numbers 1 to 12 in checking order, and 13 of the watcher, tested after 1 and before 9.
 pub enum Refusal {
     BadSize,
     Unsound,
@@ -132,6 +132,7 @@ pub enum Refusal {
     NotNext,
     Occupied,
     NoRoom,
+    Inconsistent,
 }
 
 impl Refusal {
@@ -151,6 +152,7 @@ impl Refusal {
             Refusal::NotNext => 10,
             Refusal::Occupied => 11,
             Refusal::NoRoom => 12,
+            Refusal::Inconsistent => 13,
         }
     }
 }
@@ -166,4 +168,27 @@ pub enum Outcome {
 pub enum Answer {
     Done(usize),
     Refused(Refusal, usize),
+}
+
+// "A watcher record holds N, each thread's place in its round .., and how many are in shared and in exclusive." (02 §2): bytes
+// alone, 203 of them, so that it has no padding and may stand at any address.
+#[repr(C)]
+pub struct Watcher {
+    pub threads: u8,
+    pub shared: u8,
+    pub exclusive: u8,
+    pub places: [u8; 200],
+}
+
+// What a watcher answers to its start and to an event.
+pub enum Watched {
+    Good,
+    Refused(Refusal),
+}
+
+// What it answers to "Is anybody inside?".
+pub enum Inside {
+    Somebody,
+    Nobody,
+    Refused(Refusal),
 }

@@ -5,16 +5,16 @@ use mathlib.Core.Bool.{Bool, true, false, _&&_}
 use mathlib.Core.List.{List, [], _∷_}
 use mathlib.Core.Logic.{_⊎_, inl, inr}
 use mathlib.Core.Path.{_≡_, refl, sym, subst, ap, _∙_, fun-ext}
-use lib.Dec.{T, leb, ltb, eqb, leb→le, le→leb, ltb→lt, eqb→eq}
+use lib.Dec.{T, leb, eqb, leb→le, le→leb, eqb→eq}
 use lib.ListN.{length, getD, set, take, replicate, length-set, length-replicate}
 use lib.Seq.{getD-set-same, getD-set-other}
-use Rattle.definitions.specs.Answers.{numberOf, accepted, refused, Test, test, testAt, answered, passesAll}
-use Rattle.definitions.specs.Bounds.{mostThreads, firstEvent, lastEvent, mostHistory}
-use Rattle.definitions.specs.PlainLock.{Pair, pairsOf, Places, atStart, placeAfter, advanced, placesAfter, isNext, pairTests, testsOf, checkTests, checkReply}
+use Rattle.definitions.specs.Answers.{numberOf, accepted, refused, Test, test, answered, passesAll}
+use Rattle.definitions.specs.Bounds.{mostThreads, mostHistory}
+use Rattle.definitions.specs.PlainLock.{Pair, pairsOf, Places, placesIn, atStart, placeAfter, advanced, placesAfter, pairTests, testsOf, checkTests, checkReply, howManyAt}
 use Rattle.definitions.specs.Table.{countFits}
-use Rattle.definitions.specs.Threads.{gather, between}
+use Rattle.definitions.specs.Threads.{gather}
 use Rattle.definitions.specs.declared.Refusal.{Refusal}
-use Rattle.history.specs.Counts.{howManyAt, standingOf, countsMeet, countTests, standingAfter, Counted, verdictReply}
+use Rattle.history.specs.Counts.{standingOf, standingAfter, Counted}
 use Rattle.history.specs.Pairs.{pairsReply}
 use Rattle.history.specs.declared.Standing.{Standing}
 use Rattle.history.specs.declared.Verdict.{Verdict}
@@ -24,18 +24,16 @@ use Rattle.theory.proofs.Lists.{zeros}
 use Rattle.theory.proofs.Pairs.{pairAt}
 use Rattle.theory.proofs.Quantifiers.{howMany-none}
 use Rattle.theory.proofs.Replies.{all-passed, passed, failed, peel, pass}
-use Rattle.theory.proofs.TestLists.{answered-e, one-more, first-failed}
+use Rattle.theory.proofs.TestLists.{one-more, first-failed}
 use Rattle.theory.proofs.Tests.{and-l, and-r, and-i, true-T, false-T, eq-T, same?}
 use Rattle.theory.proofs.Writes.{update-same, update-other}
 use Rattle.history.proofs.PlainLaws.{noPair, places-more, in-round}
-use Rattle.history.proofs.StandingLaws.{tests-same, is-counted, same-standing, standing-after}
+use Rattle.history.proofs.StandingLaws.{is-counted, same-standing}
+use Rattle.history.proofs.VerdictLaws.{VerdictOf, bad-verdict, fit-verdict}
 
 -- ---- the places that an array holds
 
-abbrev pub placesIn : List ℕ → Places
-placesIn a = λ t. getD a t 0
-
-placesIn-set : (a : List ℕ) (x : Pair) → x .thread < length a → placesIn (set a (x .thread) (placeAfter (x .event))) ≡ advanced (placesIn a) x
+pub placesIn-set : (a : List ℕ) (x : Pair) → x .thread < length a → placesIn (set a (x .thread) (placeAfter (x .event))) ≡ advanced (placesIn a) x
 placesIn-set a x l = fun-ext (λ t. at t (same? t (x .thread)))
   where
     place : ℕ
@@ -109,71 +107,36 @@ module _ (n : ℕ) (bytes a : List ℕ) (shared exclusive k : ℕ) (s : Passed n
       (is-counted n (placesIn a) (x .thread) few
       (λ e. in-round atStart (take k (pairsOf bytes)) (λ t z. omega arith) (x .thread) (sym (ap (λ (p : Places). p (x .thread)) (s .places)) ∙ e)))
 
-  tests-here : testsOf n (pairsOf bytes) k ≡ countTests n standing k x
+  tests-here : testsOf n (pairsOf bytes) k ≡ pairTests n (placesIn a) k x
   unfolding testsOf
   tests-here =
-      ap (λ (p : Places). pairTests n p k (getD (pairsOf bytes) k noPair)) (sym (s .places))
-      ∙ (ap (pairTests n (placesIn a) k) (pair-at bytes k l)
-      ∙ (sym (tests-same n (placesIn a) k x) ∙ ap (λ (z : Standing). countTests n z k x) (sym standing-is)))
-
-  -- what `judge` promises of its verdict
-  abbrev pub VerdictOf : Verdict → Type 0
-  VerdictOf v = (j : ℕ) → verdictReply j v ≡ answered (countTests n standing j x) (standingAfter standing (x .event))
+      ap (λ (p : Places). pairTests n p k (getD (pairsOf bytes) k noPair)) (sym (s .places)) ∙ ap (pairTests n (placesIn a) k) (pair-at bytes k l)
 
   -- a bad pair is the answer
-  pub bad-here : (v : Verdict) (r : Refusal) → v ≡ Bad r → VerdictOf v → refused (numberOf r) k ≡ pairsReply n bytes
+  pub bad-here : (v : Verdict) (r : Refusal) → v ≡ Bad r → VerdictOf n x standing v → refused (numberOf r) k ≡ pairsReply n bytes
   bad-here v r w judged =
-      let e : refused (numberOf r) k ≡ answered (countTests n standing k x) (standingAfter standing (x .event)) = rw w at (judged k) in
-      sym (first-failed (testsOf n (pairsOf bytes)) (length (pairsOf bytes)) (standingAfter standing (x .event)) k (length (pairsOf bytes)) (numberOf r) k
-      (omega (arith, pairs-length bytes)) (s .tested) (ap (λ (ts : List Test). answered ts (standingAfter standing (x .event))) tests-here ∙ sym e))
+      let after = standingAfter standing (x .event) in
+      sym (first-failed (testsOf n (pairsOf bytes)) (length (pairsOf bytes)) after k (length (pairsOf bytes)) (numberOf r) k
+      (omega (arith, pairs-length bytes)) (s .tested)
+      (ap (λ (ts : List Test). answered ts after) tests-here ∙ bad-verdict n (placesIn a) x standing standing-is v r w judged k))
 
   -- one that fits leads on
-  module _ (v : Verdict) (z : Standing) (w : v ≡ Fits z) (judged : VerdictOf v) where
-    fits-here : T (passesAll (countTests n standing k x)) × (standingAfter standing (x .event) ≡ z)
-    fits-here = answered-e (countTests n standing k x) (standingAfter standing (x .event)) z (sym (rw w at (judged k)))
-
-    passes-here : T (passesAll (countTests n standing k x))
-    passes-here = fits-here .0
-
-    after-here : z ≡ standingAfter standing (x .event)
-    after-here = sym (fits-here .1)
-
-    abbrev outside : Test
-    outside = testAt k 9 (between firstEvent lastEvent (x .event) && ltb (x .thread) n)
-
-    abbrev out-of-turn : Test
-    out-of-turn = testAt k 10 (isNext (placesIn a (x .thread)) (x .event))
-
-    abbrev occupied : Test
-    occupied = testAt k 11 (countsMeet standing (x .event))
-
-    below-here : x .thread < n
-    below-here =
-        ltb→lt (x .thread) n
-        (and-r (between firstEvent lastEvent (x .event)) (ltb (x .thread) n) (peel outside (out-of-turn ∷ occupied ∷ []) passes-here .0))
-
-    next-here : T (isNext (placesIn a (x .thread)) (x .event))
-    next-here = peel out-of-turn (occupied ∷ []) (peel outside (out-of-turn ∷ occupied ∷ []) passes-here .1) .0
-
-    moved-here : z ≡ standingOf n (advanced (placesIn a) x) (x .thread)
-    moved-here =
-        after-here
-        ∙ (ap (λ (y : Standing). standingAfter y (x .event)) standing-is ∙ standing-after n (placesIn a) x below-here next-here)
-
-    pub goes-on : x .thread < 256 → Passed n bytes (set a (x .thread) (z .place)) (z .shared) (z .exclusive) (k + 1)
-    goes-on byte =
-        let h = pairsOf bytes in
-        let m : placesIn (set a (x .thread) (z .place)) ≡ advanced (placesIn a) x = rw after-here (placesIn-set a x (omega (arith, s .size))) in
-        record {
-          within = omega arith;
-          size = length-set a (x .thread) (z .place) ∙ s .size;
-          places = m
-              ∙ (ap (λ (p : Places). advanced p x) (s .places)
-              ∙ (ap (advanced (placesAfter atStart (take k h))) (sym (pair-at bytes k l)) ∙ sym (places-more h k (omega (arith, pairs-length bytes)))));
-          in-shared = ap (λ (y : Standing). y .shared) moved-here ∙ ap (λ (p : Places). howManyAt n p 2) (sym m);
-          in-exclusive = ap (λ (y : Standing). y .exclusive) moved-here ∙ ap (λ (p : Places). howManyAt n p 6) (sym m);
-          tested = one-more (testsOf n h) k (s .tested) (subst (λ (ts : List Test). T (passesAll ts)) (sym tests-here) passes-here);
-        }
+  pub goes-on : (v : Verdict) (z : Standing) → v ≡ Fits z → VerdictOf n x standing v → x .thread < 256
+      → Passed n bytes (set a (x .thread) (z .place)) (z .shared) (z .exclusive) (k + 1)
+  goes-on v z w judged byte =
+      let h = pairsOf bytes in
+      let fit = fit-verdict n (placesIn a) x standing standing-is v z w judged k in
+      let m : placesIn (set a (x .thread) (z .place)) ≡ advanced (placesIn a) x = rw (fit .placed) (placesIn-set a x (omega (arith, s .size))) in
+      record {
+        within = omega arith;
+        size = length-set a (x .thread) (z .place) ∙ s .size;
+        places = m
+            ∙ (ap (λ (p : Places). advanced p x) (s .places)
+            ∙ (ap (advanced (placesAfter atStart (take k h))) (sym (pair-at bytes k l)) ∙ sym (places-more h k (omega (arith, pairs-length bytes)))));
+        in-shared = ap (λ (y : Standing). y .shared) (fit .after) ∙ ap (λ (p : Places). howManyAt n p 2) (sym m);
+        in-exclusive = ap (λ (y : Standing). y .exclusive) (fit .after) ∙ ap (λ (p : Places). howManyAt n p 6) (sym m);
+        tested = one-more (testsOf n h) k (s .tested) (subst (λ (ts : List Test). T (passesAll ts)) (sym tests-here) (fit .passes));
+      }
 
 -- ---- the tests for 1 and 8
 

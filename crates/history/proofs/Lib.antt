@@ -2,4 +2,5 @@
 pub mod PlainLaws
 pub mod StandingLaws
 pub mod RowLaws
+pub mod VerdictLaws
 pub mod CheckLaws

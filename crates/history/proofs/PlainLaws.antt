@@ -12,9 +12,8 @@ use lib.Dec.{T, eqb, eqb→eq}
 use lib.ListN.{length, getD, take}
 use lib.Seq.{take-suc}
 use Rattle.definitions.specs.Answers.{passesAll}
-use Rattle.definitions.specs.PlainLock.{Pair, Places, atStart, placeAfter, advanced, placesAfter, isNext, pairTests, testsOf, permitted}
+use Rattle.definitions.specs.PlainLock.{Pair, Places, atStart, placeAfter, advanced, placesAfter, isNext, pairTests, testsOf, permitted, howManyAt}
 use Rattle.definitions.specs.Threads.{every}
-use Rattle.history.specs.Counts.{howManyAt}
 use Rattle.theory.proofs.Quantifiers.{howMany-change}
 use Rattle.theory.proofs.Tests.{or-e, or-l, same-test, no-both, eq-T, decided, cond-yes, cond-no, cond-either}
 use Rattle.theory.proofs.Writes.{update-same, update-other}
@@ -50,6 +49,14 @@ permitted-from n p (x ∷ xs) =
 pub permitted-is : (n : ℕ) (h : List Pair) → permitted n h ≡ permittedFrom n atStart h
 unfolding permitted testsOf passesAll
 permitted-is n h = permitted-from n atStart h
+
+-- one behind the other
+pub permitted-append : (n : ℕ) (p : Places) (xs ys : List Pair) → permittedFrom n p (xs ++ ys) ≡ permittedFrom n p xs && permittedFrom n (placesAfter p xs) ys
+unfolding permittedFrom placesAfter
+permitted-append n p [] ys = refl
+permitted-append n p (x ∷ xs) ys =
+    ap (λ (b : Bool). pairFits n p x && b) (permitted-append n (advanced p x) xs ys)
+    ∙ sym (and-assoc (pairFits n p x) (permittedFrom n (advanced p x) xs) (permittedFrom n (placesAfter (advanced p x) xs) ys))
 
 -- ---- the next event
 
@@ -116,10 +123,14 @@ in-round p (x ∷ xs) fine =
 
 -- ---- the places after one pair more
 
-places-behind : (p : Places) (xs : List Pair) (x : Pair) → placesAfter p (xs ++ (x ∷ [])) ≡ advanced (placesAfter p xs) x
+pub places-append : (p : Places) (xs ys : List Pair) → placesAfter p (xs ++ ys) ≡ placesAfter (placesAfter p xs) ys
 unfolding placesAfter
-places-behind p [] x = refl
-places-behind p (y ∷ xs) x = places-behind (advanced p y) xs x
+places-append p [] ys = refl
+places-append p (x ∷ xs) ys = places-append (advanced p x) xs ys
+
+pub places-behind : (p : Places) (xs : List Pair) (x : Pair) → placesAfter p (xs ++ (x ∷ [])) ≡ advanced (placesAfter p xs) x
+unfolding placesAfter
+places-behind p xs x = places-append p xs (x ∷ [])
 
 pub places-more : (h : List Pair) (k : ℕ) → k < length h → placesAfter atStart (take (k + 1) h) ≡ advanced (placesAfter atStart (take k h)) (getD h k noPair)
 places-more h k l =

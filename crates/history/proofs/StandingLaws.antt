@@ -5,8 +5,8 @@ use mathlib.Core.Bool.{Bool, cond}
 use mathlib.Core.Path.{_≡_, refl, sym, ap}
 use lib.Dec.{T, eqb}
 use Rattle.definitions.specs.Bounds.{mostThreads}
-use Rattle.definitions.specs.PlainLock.{Pair, Places, placeAfter, advanced, isNext, needMet, pairTests}
-use Rattle.history.specs.Counts.{howManyAt, standingOf, countsMeet, countTests, standingAfter, Counted}
+use Rattle.definitions.specs.PlainLock.{Pair, Places, placeAfter, advanced, isNext, needMet, pairTests, howManyAt}
+use Rattle.history.specs.Counts.{standingOf, countsMeet, countTests, standingAfter, Counted}
 use Rattle.history.specs.declared.Standing.{Standing}
 use Rattle.theory.proofs.Quantifiers.{none-howMany, howMany-pos, howMany-most}
 use Rattle.theory.proofs.Tests.{eq-T}

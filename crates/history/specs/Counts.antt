@@ -8,15 +8,11 @@ use mathlib.Core.Path.{_≡_}
 use lib.Dec.{ltb, eqb}
 use Rattle.definitions.specs.Answers.{numberOf, Reply, accepted, refused, Test, testAt}
 use Rattle.definitions.specs.Bounds.{mostThreads, firstEvent, lastEvent}
-use Rattle.definitions.specs.PlainLock.{Pair, Places, placeAfter, isNext}
-use Rattle.definitions.specs.Threads.{howMany, between}
+use Rattle.definitions.specs.PlainLock.{Pair, Places, placeAfter, isNext, howManyAt}
+use Rattle.definitions.specs.Threads.{between}
 use Rattle.history.specs.declared.Standing.{Standing}
 use Rattle.history.specs.declared.Verdict.{Verdict}
 use Rattle.history.specs.declared.Verdict.the-variants.{Fits, Bad}
-
--- "A thread is in shared after its 2 until its 3, in exclusive after its 6 until its 7.": how many of the threads below n are at a place
-abbrev pub howManyAt : ℕ → Places → ℕ → ℕ
-howManyAt n places place = howMany n (λ t. eqb (places t) place)
 
 abbrev pub standingOf : ℕ → Places → ℕ → Standing
 standingOf n places thread =

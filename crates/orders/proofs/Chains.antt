@@ -8,16 +8,16 @@ use mathlib.Core.Path.{_≡_, refl, sym, subst, ap, _∙_}
 use lib.Dec.{T, ltb, eqb, ltb→lt, eqb→eq}
 use Rattle.definitions.specs.Answers.{accepted, Seen}
 use Rattle.definitions.specs.Bounds.{mostThreads}
-use Rattle.definitions.specs.Chains.{pairFor, historyIn, afterIn, acceptsAllIn, history, acceptsAll, Fits16, AllFit16}
+use Rattle.definitions.specs.Chains.{pairFor, historyIn, afterIn, acceptsAllIn, history, tableAfter, acceptsAll, Fits16, AllFit16}
 use Rattle.definitions.specs.Moves.{effect, stepReply, accepts, replyIn, stepIn, acceptsIn, namesThread, targetFits}
 use Rattle.definitions.specs.PlainLock.{Pair}
 use Rattle.definitions.specs.Sound.{sound}
-use Rattle.definitions.specs.Table.{Table, freshTable, applied, itself, byteTable, fresh}
+use Rattle.definitions.specs.Table.{Table, freshTable, tableOf, applied, itself, byteTable, fresh}
 use Rattle.definitions.specs.declared.Request.{Request}
 use Rattle.theory.proofs.Bytes.{byte-keeps, fresh-table, fresh-sized}
 use Rattle.theory.proofs.Replies.{accepted-is, all-passed}
 use Rattle.theory.proofs.SoundSteps.{kept-sound}
-use Rattle.theory.proofs.Storages.{reply-same, accepts-e, accepts-i, accepted-stores, history-same, accepts-all-same}
+use Rattle.theory.proofs.Storages.{reply-same, accepts-e, accepts-i, accepted-stores, history-same, after-same, accepts-all-same}
 use Rattle.theory.proofs.Tests.{and-l, and-r, and-i}
 use Rattle.theory.proofs.Ways.{Accepted, accepted-e, accepted-i}
 use Rattle.theory.proofs.Writes.{applied-keeps}
@@ -27,6 +27,9 @@ use Rattle.theory.proofs.Writes.{applied-keeps}
 module _ (n : ℕ) (least : 1 ≤ n) (most : n ≤ mostThreads) (rs : List Request) where
   pub history-fresh : history (fresh n) rs ≡ historyIn itself (freshTable n) rs
   history-fresh = history-same byteTable byte-keeps (fresh n) rs (fresh-sized n least most) ∙ ap (λ (s : Table). historyIn itself s rs) (fresh-table n)
+
+  pub after-fresh : tableOf (tableAfter (fresh n) rs) ≡ afterIn itself (freshTable n) rs
+  after-fresh = after-same byteTable byte-keeps (fresh n) rs (fresh-sized n least most) ∙ ap (λ (s : Table). afterIn itself s rs) (fresh-table n)
 
   pub accepts-fresh : acceptsAll (fresh n) rs ≡ acceptsAllIn itself (freshTable n) rs
   accepts-fresh = accepts-all-same byteTable byte-keeps (fresh n) rs (fresh-sized n least most) ∙ ap (λ (s : Table). acceptsAllIn itself s rs) (fresh-table n)

@@ -1,4 +1,5 @@
--- What a list of requests shows is permitted by the plain lock: a table's phases give every thread's place in its round;
+-- What a list of requests shows is permitted by the plain lock (`shown-permitted`) and leads to the places of the table that is left (`shown-places`): a table's phases give every thread's
+-- place in its round;
 -- a quiet move keeps the places, and a shown event is permitted at them and advances them.
 use Prim.Native.Nat.{ℕ, suc, _<_}
 use native.Mathlib.Omega.{arith}
@@ -9,10 +10,10 @@ use mathlib.Core.Path.{_≡_, refl, sym, subst, ap, _∙_}
 use lib.Dec.{T, eqb, eqb→eq}
 use Rattle.definitions.specs.Answers.{Reply, accepted, refused, isAccepted, Seen}
 use Rattle.definitions.specs.Bounds.{firstEvent, lastEvent, lastPhase}
-use Rattle.definitions.specs.Chains.{pairFor, historyIn}
+use Rattle.definitions.specs.Chains.{pairFor, historyIn, afterIn}
 use Rattle.definitions.specs.Moves.{Effect, quietly, showing, effect, replyIn, stepIn, acceptsIn}
 use Rattle.definitions.specs.Phases.{rows, holds, reading}
-use Rattle.definitions.specs.PlainLock.{Pair, Places, placeAfter, advanced, isNext, anyInShared, anyInExclusive, needMet}
+use Rattle.definitions.specs.PlainLock.{Pair, Places, placeAfter, advanced, placesAfter, isNext, anyInShared, anyInExclusive, needMet}
 use Rattle.definitions.specs.Sound.{sound}
 use Rattle.definitions.specs.Table.{Table, Write, phase≔, update, applied, itself}
 use Rattle.definitions.specs.Threads.{every, some, between, implies}
@@ -124,33 +125,45 @@ module _ (s : Table) (i mv t : ℕ) (rules : Sound s) (fits : i < s .threads) wh
 
 -- ---- a list of requests
 
--- an effect, then a history that is permitted after it
-view-then : (s : Table) (i : ℕ) (e : Effect) (h : List Pair) → View s i e → T (permittedFrom (s .threads) (placesOf (applied s (e .writes))) h)
-    → T (permittedFrom (s .threads) (placesOf s) (pairSeen i (e .shows) ++ h))
-unfolding permittedFrom
-view-then s i e h (unseen ws same) p = subst (λ (q : Places). T (permittedFrom (s .threads) q h)) same p
-view-then s i e h (seen k ws permits same) p =
-    and-i (pairFits (s .threads) (placesOf s) (pairOf i k)) _ permits (subst (λ (q : Places). T (permittedFrom (s .threads) q h)) same p)
+-- at places p a history is permitted, and leads to places q
+abbrev LeadsTo : ℕ → Places → List Pair → Places → Type 0
+LeadsTo n p h q = T (permittedFrom n p h) × (placesAfter p h ≡ q)
+
+-- an effect, then a history that leads on from it
+view-then : (s : Table) (i : ℕ) (e : Effect) (h : List Pair) (q : Places) → View s i e → LeadsTo (s .threads) (placesOf (applied s (e .writes))) h q
+    → LeadsTo (s .threads) (placesOf s) (pairSeen i (e .shows) ++ h) q
+unfolding permittedFrom placesAfter
+view-then s i e h q (unseen ws same) p = subst (λ (r : Places). LeadsTo (s .threads) r h q) same p
+view-then s i e h q (seen k ws permits same) p =
+    let rest = subst (λ (r : Places). LeadsTo (s .threads) r h q) same p in
+    (and-i (pairFits (s .threads) (placesOf s) (pairOf i k)) _ permits (rest .0), rest .1)
 
 -- a refused request shows nothing
 nothing-seen : (i : ℕ) (x : Reply Seen) → T (not (isAccepted x)) → pairFor i x ≡ []
 nothing-seen i (accepted a) t = absurd t
 nothing-seen i (refused number place) t = refl
 
--- from any sound table, at the places that its phases give
-pub shown-permitted : (s : Table) (rs : List Request) → T (sound s) → T (permittedFrom (s .threads) (placesOf s) (historyIn itself s rs))
-unfolding permittedFrom historyIn
-shown-permitted s [] g = tt
-shown-permitted s (r ∷ rs) g = choose (λ t k. shown-permitted t rs k) (decided (acceptsIn itself s r))
+-- from any sound table: at the places that its phases give, what is shown is permitted, and leads to those of the table that is left
+shown-leads : (s : Table) (rs : List Request) → T (sound s) → LeadsTo (s .threads) (placesOf s) (historyIn itself s rs) (placesOf (afterIn itself s rs))
+unfolding permittedFrom placesAfter historyIn afterIn
+shown-leads s [] g = (tt, refl)
+shown-leads s (r ∷ rs) g = choose (λ t k. shown-leads t rs k) (decided (acceptsIn itself s r))
   where
-    choose : ((t : Table) → T (sound t) → T (permittedFrom (t .threads) (placesOf t) (historyIn itself t rs))) → T (acceptsIn itself s r) ⊎ T (not (acceptsIn itself s r))
-        → T (permittedFrom (s .threads) (placesOf s) (pairFor (r .thread) (replyIn itself s r) ++ historyIn itself (stepIn itself s r) rs))
+    choose : ((t : Table) → T (sound t) → LeadsTo (t .threads) (placesOf t) (historyIn itself t rs) (placesOf (afterIn itself t rs)))
+        → T (acceptsIn itself s r) ⊎ T (not (acceptsIn itself s r))
+        → LeadsTo (s .threads) (placesOf s) (pairFor (r .thread) (replyIn itself s r) ++ historyIn itself (stepIn itself s r) rs) (placesOf (afterIn itself (stepIn itself s r) rs))
     choose rec (inr t) = rw (nothing-seen (r .thread) (replyIn itself s r) t, refused-stays itself s r t) (rec s g)
     choose rec (inl t) =
         let ok = accepts-e itself s r t .1 in
         let a = accepted-e s r ok in
         let u = applied s (effect s r .writes) in
         rw (own-reply s r ok, own-step s r ok)
-        (view-then s (r .thread) (effect s r) (historyIn itself u rs)
+        (view-then s (r .thread) (effect s r) (historyIn itself u rs) (placesOf (afterIn itself u rs))
         (view s (r .thread) (r .mv) (r .target) (sound-e s g) (a .thread-fits) (effect s r) (way s r a))
-        (subst (λ (n : ℕ). T (permittedFrom n (placesOf u) (historyIn itself u rs))) (applied-keeps s (effect s r .writes)) (rec u (kept-sound s r ok))))
+        (subst (λ (n : ℕ). LeadsTo n (placesOf u) (historyIn itself u rs) (placesOf (afterIn itself u rs))) (applied-keeps s (effect s r .writes)) (rec u (kept-sound s r ok))))
+
+pub shown-permitted : (s : Table) (rs : List Request) → T (sound s) → T (permittedFrom (s .threads) (placesOf s) (historyIn itself s rs))
+shown-permitted s rs g = shown-leads s rs g .0
+
+pub shown-places : (s : Table) (rs : List Request) → T (sound s) → placesAfter (placesOf s) (historyIn itself s rs) ≡ placesOf (afterIn itself s rs)
+shown-places s rs g = shown-leads s rs g .1

@@ -15,6 +15,7 @@ use Rattle.theory.proofs.Figure1 as figure
 use Rattle.theory.proofs.OpenMovesExact as exact
 use Rattle.theory.proofs.SoundKept as kept
 use Rattle.theory.proofs.Storages as storages
+use Rattle.watching.proofs.EveryEvent as watching
 use Rattle.wospinzo.proofs.Apart as apart
 use Rattle.wospinzo.proofs.wospinzo_check.Met as check
 use Rattle.wospinzo.proofs.wospinzo_fresh.Met as fresh
@@ -24,6 +25,9 @@ use Rattle.wospinzo.proofs.wospinzo_open_moves.Met as open-moves
 use Rattle.wospinzo.proofs.wospinzo_plan.Met as plan
 use Rattle.wospinzo.proofs.wospinzo_run.Met as run
 use Rattle.wospinzo.proofs.wospinzo_version.Met as version
+use Rattle.wospinzo.proofs.wospinzo_watch_event.Met as watch-event
+use Rattle.wospinzo.proofs.wospinzo_watch_inside.Met as watch-inside
+use Rattle.wospinzo.proofs.wospinzo_watch_start.Met as watch-start
 use Rattle.promises.proofs.Rooms as rooms
 
 pub proved : {M : Type 1} → Promises M
@@ -37,8 +41,13 @@ proved =
       wospinzo-check = check.met;
       wospinzo-plan = plan.met;
       wospinzo-run = run.met;
+      wospinzo-watch-start = watch-start.met;
+      wospinzo-watch-event = watch-event.met;
+      wospinzo-watch-inside = watch-inside.met;
       move-told = apart.outcomes-apart;
       count-told = apart.answers-apart;
+      watch-told = apart.watched-apart;
+      inside-told = apart.inside-apart;
       refused-keeps = kept.refused-keeps;
       fresh-room = rooms.fresh-exactly;
       nodes-room = rooms.nodes-exactly;
@@ -84,4 +93,13 @@ proved =
       run-permitted = λ script. orders.run-shown script .0;
       run-prints = events-printed;
       run-steps = steps-counted;
+      watch-verdict = watching.verdict;
+      watch-permitted = watching.kept-permitted;
+      watch-exactly = watching.accepted-exactly;
+      watch-throughout = watching.accepted-throughout;
+      watch-lock = watching.lock-watched;
+      watch-record = watching.lock-record;
+      watch-consistent = watching.consistent-exactly;
+      watch-counted = watching.inside-counted;
+      watch-question = watching.inside-watched;
     }

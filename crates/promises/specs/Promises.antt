@@ -1,36 +1,43 @@
--- Everything that is promised and proved of the part, in the order of the three demands. proofs/Citations.antt proves it, each line by citing.
+-- Everything that is promised and proved of the part, in the order of the three demands, and then of the watcher (02 §2). proofs/Citations.antt proves it, each line by citing.
 -- The words are those of crates/definitions/specs and of the specs/ of the crates named below. `statement` is the contract of a function as it stands in its source, for every model `M` of memory.
 use Prim.Native.Nat.{ℕ, _+_, _*_, _≤_, _<_}
-use mathlib.Core.Bool.{true, not}
-use mathlib.Core.List.{List, _++_}
+use mathlib.Core.Bool.{Bool, true, not}
+use mathlib.Core.List.{List, [], _∷_, _++_}
 use mathlib.Core.Logic.{_↔_}
 use mathlib.Core.Path.{_≡_}
-use lib.Dec.{T}
-use lib.ListN.{length, getD, take, drop}
-use Rattle.definitions.specs.Answers.{accepted, refused, answerReply, outcomeReply, filled, deliveryReply, deliveryOutput}
+use lib.Dec.{T, eqb}
+use lib.ListN.{length, getD, take, drop, replicate}
+use Rattle.definitions.specs.Answers.{accepted, refused, isAccepted, answerReply, outcomeReply, filled, deliveryReply, deliveryOutput}
 use Rattle.definitions.specs.Bounds.{mostThreads, mostScript, enoughOutput}
-use Rattle.definitions.specs.Chains.{historyIn, history, acceptsAll, requestsOf}
+use Rattle.definitions.specs.Chains.{historyIn, history, tableAfter, acceptsAll, requestsOf}
 use Rattle.definitions.specs.Forms.{threads, request, note, noteFits, formOf, threadsLine, spelled}
 use Rattle.definitions.specs.Moves.{ask, stepReply, step, accepts, replyIn, stepIn, acceptsIn, moveReply, moveTable}
 use Rattle.definitions.specs.Nodes.{nodesOf, nodesEntry}
 use Rattle.definitions.specs.OpenMoves.{openMoves, openEntry}
-use Rattle.definitions.specs.PlainLock.{Pair, pairsOf, permitted, checkReply}
+use Rattle.definitions.specs.PlainLock.{Pair, pairsOf, placesIn, atStart, placesAfter, permitted, checkReply}
 use Rattle.definitions.specs.Plan.{plan, bytesOf, planEntry}
 use Rattle.definitions.specs.Run.{eventLines, stepsLine, runOutputOf, runEntry, programOutput}
 use Rattle.definitions.specs.Sound.{sound}
 use Rattle.definitions.specs.Table.{Table, Storage, itself, byteTable, tableOf, size, fresh, freshEntry, phaseAt, busyAt}
 use Rattle.definitions.specs.Texts.{bytes}
+use Rattle.definitions.specs.Threads.{howMany, among}
+use Rattle.definitions.specs.Watch.{recordOf, started, consistent, watchedReply, insideReply, questionReply, watchReplies, watchRecord}
 use Rattle.definitions.specs.declared.Answer.{Answer}
+use Rattle.definitions.specs.declared.Inside.{Inside}
 use Rattle.definitions.specs.declared.Outcome.{Outcome}
 use Rattle.definitions.specs.declared.Request.{Request}
+use Rattle.definitions.specs.declared.Watched.{Watched}
+use Rattle.definitions.specs.declared.Watcher.{Watcher}
 use Rattle.forms.specs.Grammar.{numberBound, Spellable, Spells}
 use Rattle.orders.specs.Histories.{mostEvents, historyBytes, AllBytes, Passes, FirstBad, Makes}
+use Rattle.orders.specs.Rounds.{placesOf}
 use Rattle.runs.specs.Requests.{Closes, requestsIn, movesOf, threadsOf, moveLines}
 use Rattle.soundness.specs.Pass.{foundOf, passes}
 use Rattle.theory.specs.Outputs.{Delivered}
 use Rattle.theory.specs.Statements.{OutsideView, writesMutex, MayWrite, Disciplined, atMutex, localMove, Agree, Stands}
 use Rattle.theory.specs.Tables.{SoundBytes, Keeps}
-use Rattle.wospinzo.specs.Encoding.{moveNumber, countNumber}
+use Rattle.watching.specs.Verdicts.{verdictOn, verdictsOn, acceptedOf, someInside}
+use Rattle.wospinzo.specs.Encoding.{moveNumber, countNumber, watchNumber, insideNumber}
 use Rattle.printout.proofs.print_input.Statement as printing
 use Rattle.wospinzo.proofs.wospinzo_check.Statement as check
 use Rattle.wospinzo.proofs.wospinzo_fresh.Statement as fresh-table
@@ -40,6 +47,9 @@ use Rattle.wospinzo.proofs.wospinzo_open_moves.Statement as open-moves
 use Rattle.wospinzo.proofs.wospinzo_plan.Statement as plan-bytes
 use Rattle.wospinzo.proofs.wospinzo_run.Statement as run
 use Rattle.wospinzo.proofs.wospinzo_version.Statement as version
+use Rattle.wospinzo.proofs.wospinzo_watch_event.Statement as watch-event
+use Rattle.wospinzo.proofs.wospinzo_watch_inside.Statement as watch-inside
+use Rattle.wospinzo.proofs.wospinzo_watch_start.Statement as watch-start
 
 pub record Promises (M : Type 1) : Type 2 where
   -- ---- 1. Nothing breaks an entry
@@ -48,6 +58,8 @@ pub record Promises (M : Type 1) : Type 2 where
   -- The version answers `version`. The move, asked r, answers `moveNumber (moveReply table r)` and leaves `moveTable table r`. The check answers `countNumber (checkReply n history)`.
   -- The others write: they answer `countNumber (deliveryReply d out)` and leave `deliveryOutput d out`, where d is
   -- `freshEntry n`, `nodesEntry table`, `openEntry table thread`, `planEntry n history` or `runEntry script`. Lent bytes that are only read stay.
+  -- Of a watcher's record w the start answers `watchNumber (startReply n)` and leaves `startRecord n w`; an event x answers `watchNumber (eventReply w x)` and leaves `eventRecord w x`;
+  -- the question answers `insideNumber (questionReply w)`.
   pub wospinzo-version : version.statement M
   pub wospinzo-fresh : fresh-table.statement M
   pub wospinzo-move : move.statement M
@@ -56,9 +68,14 @@ pub record Promises (M : Type 1) : Type 2 where
   pub wospinzo-check : check.statement M
   pub wospinzo-plan : plan-bytes.statement M
   pub wospinzo-run : run.statement M
+  pub wospinzo-watch-start : watch-start.statement M
+  pub wospinzo-watch-event : watch-event.statement M
+  pub wospinzo-watch-inside : watch-inside.statement M
   -- The number that an entry answers tells its reply.
   pub move-told : (a b : Outcome) → moveNumber (outcomeReply a) ≡ moveNumber (outcomeReply b) → outcomeReply a ≡ outcomeReply b
   pub count-told : (a b : Answer) → countNumber (answerReply a) ≡ countNumber (answerReply b) → answerReply a ≡ answerReply b
+  pub watch-told : (a b : Watched) → watchNumber (watchedReply a) ≡ watchNumber (watchedReply b) → watchedReply a ≡ watchedReply b
+  pub inside-told : (a b : Inside) → insideNumber (insideReply a) ≡ insideNumber (insideReply b) → insideReply a ≡ insideReply b
   -- A refused move leaves every byte of the table.
   pub refused-keeps : (table : List ℕ) (r : Request) → T (not (acceptsIn byteTable table r)) → moveTable table r ≡ table
   -- Rooms that suffice: 3 + 3N bytes are exactly the fresh table, N bytes the nodes;
@@ -149,3 +166,27 @@ pub record Promises (M : Type 1) : Type 2 where
       × (runOutputOf script ≡ eventLines (history (fresh (threadsOf script)) (movesOf script)) ++ last) × Closes (movesOf script) last
   pub run-steps : (script before : List ℕ) (k : ℕ) → runOutputOf script ≡ before ++ stepsLine k
       → (k ≡ length (movesOf script)) × (movesOf script ≡ requestsIn (moveLines script))
+  -- ---- 4. The watcher
+
+  -- From the start record, whatever events come: each is answered as the plain lock's rules answer it behind the events accepted so far, and the record left is that of the accepted ones.
+  pub watch-verdict : (n : ℕ) → 1 ≤ n → n ≤ mostThreads → (xs : List Pair)
+      → (watchReplies (started n) xs ≡ verdictsOn n [] xs) × (watchRecord (started n) xs ≡ recordOf n (placesAfter atStart (acceptedOf n [] xs)))
+  -- The accepted events are permitted, the next one is accepted exactly if it is permitted behind them, and so a list is accepted throughout exactly if it is permitted.
+  pub watch-permitted : (n : ℕ) → 1 ≤ n → n ≤ mostThreads → (xs : List Pair) → T (permitted n (acceptedOf n [] xs))
+  pub watch-exactly : (n : ℕ) → 1 ≤ n → n ≤ mostThreads → (xs : List Pair) (x : Pair)
+      → isAccepted (verdictOn n (acceptedOf n [] xs) x) ≡ permitted n (acceptedOf n [] xs ++ (x ∷ []))
+  pub watch-throughout : (n : ℕ) → 1 ≤ n → n ≤ mostThreads → (h : List Pair)
+      → T (permitted n h) ↔ (watchReplies (started n) h ≡ replicate (length h) (accepted tt))
+  -- What requests show from a fresh table is accepted throughout by a watcher for the same N, and leaves the record of the places that the table's nodes give.
+  pub watch-lock : (n : ℕ) → 1 ≤ n → n ≤ mostThreads → (rs : List Request) → let h = history (fresh n) rs in
+      (watchReplies (started n) h ≡ replicate (length h) (accepted tt)) × (watchRecord (started n) h ≡ recordOf n (placesAfter atStart h))
+  pub watch-record : (n : ℕ) → 1 ≤ n → n ≤ mostThreads → (rs : List Request)
+      → watchRecord (started n) (history (fresh n) rs) ≡ recordOf n (placesOf (tableOf (tableAfter (fresh n) rs)))
+  -- 13 is exact: a record for 1 to 200 threads is consistent if and only if some events, bytes all, leave it.
+  pub watch-consistent : (w : Watcher) → length (w .places) ≡ mostThreads → 1 ≤ w .threads → w .threads ≤ mostThreads
+      → T (consistent w) ↔ ((xs : List Pair) × AllBytes (historyBytes xs) × (watchRecord (started (w .threads)) xs ≡ w))
+  -- "Is anybody inside?" is yes exactly if a count of the threads that are inside isn't 0; in a watch it is always answered, and by the events accepted so far.
+  pub watch-counted : (w : Watcher) (b : Bool) → questionReply w ≡ accepted b
+      → (b ≡ not (eqb (howMany (w .threads) (λ t. among (placesIn (w .places) t) (2 ∷ 6 ∷ []))) 0)) × (b ≡ someInside (w .threads) (placesIn (w .places)))
+  pub watch-question : (n : ℕ) → 1 ≤ n → n ≤ mostThreads → (xs : List Pair)
+      → questionReply (watchRecord (started n) xs) ≡ accepted (someInside n (placesAfter atStart (acceptedOf n [] xs)))

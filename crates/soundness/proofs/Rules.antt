@@ -15,12 +15,12 @@ use Rattle.definitions.specs.Table.{Table}
 use Rattle.definitions.specs.Threads.{every, some, howMany, between, implies}
 use Rattle.soundness.specs.Pass.{threadFits, forbiddenReader, tallyBelow, fitBelow, mutexAgrees}
 use Rattle.soundness.specs.declared.Tally.{Tally}
-use Rattle.theory.proofs.Quantifiers.{every-at, every-i, howMany-most}
+use Rattle.theory.proofs.Quantifiers.{every-at, every-i, every-same, howMany-most, some-howMany}
 use Rattle.theory.proofs.Stages.{range-holds, opened-holds}
 use Rattle.theory.proofs.Tests.{and-cong, and-l, and-r, and-i, T-true, same-test}
 use Rattle.soundness.proofs.Bools.{implies-cong, not-not}
 use Rattle.soundness.proofs.Holders.{holder-is, holder-any}
-use Rattle.soundness.proofs.Threads.{every-same, some-count, some-not-none, every-count, none-count, except-count}
+use Rattle.soundness.proofs.Threads.{some-not-none, every-count, none-count, except-count}
 
 -- ---- one thread by itself
 
@@ -176,4 +176,4 @@ module _ (s : Table)
   unfolding rule15
   is-15 =
       implies-cong _ _ _ _ (in-range 15 15 tt tt)
-      (λ _. some-count (s .threads) up ∙ not-none (t .forbidden))
+      (λ _. some-howMany up (s .threads) ∙ not-none (t .forbidden))

@@ -1,4 +1,4 @@
--- Laws of the words on threads, every, some and how many: words that agree thread by thread, and each word as a count. More of them stand in the crate theory.
+-- Laws of the words on threads, every, some and how many: each word as a count. More of them stand in the crate theory.
 use Prim.Native.Nat.{ℕ, zero, suc, _+_, _≤_, _<_}
 use native.Mathlib.Nat.{add-zero, eq-or-lt-of-le, le-of-suc-le-suc, not-suc-le-zero}
 use native.Mathlib.Numerals.{add-one}
@@ -9,18 +9,9 @@ use mathlib.Core.Path.{_≡_, refl, sym, subst, ap, _∙_}
 use borrow.Author.Tests.{eq-eqb, ne-eqb}
 use lib.Dec.{eqb, eqb·suc-suc}
 use Rattle.definitions.specs.Threads.{every, some, howMany}
-use Rattle.theory.proofs.Quantifiers.{howMany-at, howMany-most, none-howMany}
-use Rattle.soundness.proofs.Bools.{not-not}
-
-pub every-same : (n : ℕ) (f g : ℕ → Bool) → ((i : ℕ) → i < n → f i ≡ g i) → every n f ≡ every n g
-unfolding every
-every-same zero f g h = refl
-every-same (suc n) f g h = cc (every-same n f g (λ i l. h i (omega arith)), h n (omega arith))
+use Rattle.theory.proofs.Quantifiers.{every-same, howMany-at, howMany-most, some-howMany}
 
 -- the words as counts
-pub some-count : (n : ℕ) (f : ℕ → Bool) → some n f ≡ not (eqb (howMany n f) 0)
-some-count n f = sym (not-not (some n f)) ∙ ap not (none-howMany f n)
-
 pub every-count : (n : ℕ) (f : ℕ → Bool) → every n f ≡ eqb (howMany n f) n
 unfolding every howMany
 every-count zero f = refl
@@ -40,7 +31,7 @@ none-count (suc n) f = more (f n) (none-count n f)
     more false h = simp (and-true, add-zero) h
 
 pub some-not-none : (n : ℕ) (f : ℕ → Bool) → some n f ≡ not (every n (λ i. not (f i)))
-some-not-none n f = some-count n f ∙ ap not (sym (none-count n f))
+some-not-none n f = some-howMany f n ∙ ap not (sym (none-count n f))
 
 -- a count that grows past k, or by as much as k
 past : (a k : ℕ) (b : Bool) → k ≤ a → (eqb a k && not b) ≡ eqb (a + cond b 1 0) k

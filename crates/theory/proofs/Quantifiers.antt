@@ -3,7 +3,7 @@ use Prim.Native.Nat.{ℕ, zero, suc, _+_, _≤_, _<_}
 use native.Mathlib.Nat.{add-zero, not-suc-le-zero, le-of-suc-le-suc}
 use native.Mathlib.Numerals.{add-one}
 use native.Mathlib.Omega.{arith}
-use mathlib.Core.Bool.{Bool, true, false, cond, not, _&&_, _||_}
+use mathlib.Core.Bool.{Bool, true, false, cond, not, _&&_, _||_, Bool·not-not}
 use mathlib.Core.Logic.{_⊎_, inl, inr, ⊎-elim}
 use mathlib.Core.Path.{_≡_, refl, sym, subst, ap, _∙_}
 use lib.Dec.{T, eqb, eqb·suc-zero}
@@ -95,6 +95,10 @@ module _ (f : ℕ → Bool) where
       more false true m e = sym (ap (λ (k : ℕ). eqb k 0) (add-one m) ∙ eqb·suc-zero m)
       more false false m e = e ∙ ap (λ (k : ℕ). eqb k 0) (sym (add-zero m))
 
+  -- and some
+  pub some-howMany : (n : ℕ) → some n f ≡ not (eqb (howMany n f) 0)
+  some-howMany n = sym (Bool·not-not (some n f)) ∙ ap not (none-howMany n)
+
   -- "at most one": two threads of which f holds are one
   pub at-most-one : (n : ℕ) → howMany n f ≤ 1 → (i j : ℕ) → i < n → j < n → T (f i) → T (f j) → i ≡ j
   unfolding howMany
@@ -121,6 +125,12 @@ module _ (f : ℕ → Bool) where
           let z = howMany-none n (λ i l. not-i (f i) (λ u. let e = h i n (omega arith) (omega arith) u t in absurd (omega arith))) in
           rw (z, T-true (f n) t) (omega arith)
       go rec (inr t) = rw (T-false (f n) t) (omega arith)
+
+-- two tests that agree below n
+pub every-same : (n : ℕ) (f g : ℕ → Bool) → ((i : ℕ) → i < n → f i ≡ g i) → every n f ≡ every n g
+unfolding every
+every-same zero f g h = refl
+every-same (suc n) f g h = cc (every-same n f g (λ i l. h i (omega arith)), h n (omega arith))
 
 module _ (f g : ℕ → Bool) where
   pub howMany-same : (n : ℕ) → ((i : ℕ) → i < n → f i ≡ g i) → howMany n f ≡ howMany n g

@@ -29,7 +29,7 @@ answered-e {A} ts a b e =
 -- what is answered where one fails
 module _ {A : Type 0} (a : A) (ts : List Test) where
   -- with another answer in store
-  other-answer : {B : Type 0} (b : B) (number place : ℕ) → answered ts b ≡ refused number place → answered ts a ≡ refused number place
+  pub other-answer : {B : Type 0} (b : B) (number place : ℕ) → answered ts b ≡ refused number place → answered ts a ≡ refused number place
   other-answer b number place e = ap (λ (us : List Test). answered us a) (sym (append-nil ts)) ∙ in-front a b ts [] number place e
 
   -- a refusal

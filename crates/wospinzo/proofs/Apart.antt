@@ -1,6 +1,7 @@
--- No two answers of an entry have the same number: the number tells the reply. One law for every encoding whose values tell what is answered, then the two that there are.
+-- No two answers of an entry have the same number: the number tells the reply. One law for every encoding whose values tell what is answered, then those that there are.
 use Prim.Native.Nat.{ℕ, _≤_, _<_}
 use native.Mathlib.Omega.{arith}
+use mathlib.Core.Bool.{Bool, true, false}
 use mathlib.Core.Path.{_≡_, refl, ap, ap₂}
 use lib.Dec.{lit≤}
 use Rattle.definitions.specs.Answers.{Reply, accepted, refused, shown, codeOf, numberOf, outcomeReply, answerReply}
@@ -9,11 +10,16 @@ use Rattle.definitions.specs.declared.Answer.the-variants as answer
 use Rattle.definitions.specs.declared.Event.{Event}
 use Rattle.definitions.specs.declared.Event.the-variants.{EnterSharedCall, EnterSharedReturn, LeaveSharedCall, LeaveSharedReturn}
 use Rattle.definitions.specs.declared.Event.the-variants.{EnterExclusiveCall, EnterExclusiveReturn, LeaveExclusiveCall, LeaveExclusiveReturn}
+use Rattle.definitions.specs.declared.Inside.{Inside}
+use Rattle.definitions.specs.declared.Inside.the-variants as inside
 use Rattle.definitions.specs.declared.Outcome.{Outcome}
 use Rattle.definitions.specs.declared.Outcome.the-variants as outcome
 use Rattle.definitions.specs.declared.Refusal.{Refusal}
-use Rattle.definitions.specs.declared.Refusal.the-variants.{BadSize, Unsound, NoThread, NoMove, BadTarget, NotInPhase, MutexHeld, BadForm, UnknownPair, NotNext, Occupied, NoRoom}
-use Rattle.wospinzo.specs.Encoding.{encoded, countValue, moveNumber, countNumber}
+use Rattle.definitions.specs.declared.Refusal.the-variants.{BadSize, Unsound, NoThread, NoMove, BadTarget, NotInPhase, MutexHeld, BadForm, UnknownPair, NotNext, Occupied, NoRoom, Inconsistent}
+use Rattle.definitions.specs.declared.Watched.{Watched}
+use Rattle.definitions.specs.declared.Watched.the-variants as watched
+use Rattle.definitions.specs.Watch.{watchedReply, insideReply}
+use Rattle.wospinzo.specs.Encoding.{encoded, countValue, watchValue, insideValue, moveNumber, countNumber, watchNumber, insideNumber}
 
 -- a refusal's number is from 1 to 255
 abbrev Numbered : {A : Type 0} → Reply A → Type 0
@@ -44,6 +50,7 @@ numbers UnknownPair = (lit≤ tt, lit≤ tt)
 numbers NotNext = (lit≤ tt, lit≤ tt)
 numbers Occupied = (lit≤ tt, lit≤ tt)
 numbers NoRoom = (lit≤ tt, lit≤ tt)
+numbers Inconsistent = (lit≤ tt, lit≤ tt)
 
 codes : (e : Event) → 1 ≤ codeOf e
 codes EnterSharedCall = lit≤ tt
@@ -55,7 +62,7 @@ codes EnterExclusiveReturn = lit≤ tt
 codes LeaveExclusiveCall = lit≤ tt
 codes LeaveExclusiveReturn = lit≤ tt
 
--- ---- the two encodings
+-- ---- the encodings
 
 answer-numbered : (a : Answer) → Numbered (answerReply a)
 answer-numbered (answer.Done n) = tt
@@ -63,6 +70,27 @@ answer-numbered (answer.Refused r p) = numbers r
 
 pub answers-apart : (a b : Answer) → countNumber (answerReply a) ≡ countNumber (answerReply b) → answerReply a ≡ answerReply b
 answers-apart a b e = apart countValue (λ m n d. d) (answerReply a) (answerReply b) (answer-numbered a) (answer-numbered b) e
+
+watched-numbered : (a : Watched) → Numbered (watchedReply a)
+watched-numbered watched.Good = tt
+watched-numbered (watched.Refused r) = numbers r
+
+pub watched-apart : (a b : Watched) → watchNumber (watchedReply a) ≡ watchNumber (watchedReply b) → watchedReply a ≡ watchedReply b
+watched-apart a b e = apart watchValue (λ u v d. refl) (watchedReply a) (watchedReply b) (watched-numbered a) (watched-numbered b) e
+
+inside-numbered : (a : Inside) → Numbered (insideReply a)
+inside-numbered inside.Somebody = tt
+inside-numbered inside.Nobody = tt
+inside-numbered (inside.Refused r) = numbers r
+
+inside-told : (a b : Bool) → insideValue a ≡ insideValue b → a ≡ b
+inside-told true true e = refl
+inside-told true false e = absurd (omega arith)
+inside-told false true e = absurd (omega arith)
+inside-told false false e = refl
+
+pub inside-apart : (a b : Inside) → insideNumber (insideReply a) ≡ insideNumber (insideReply b) → insideReply a ≡ insideReply b
+inside-apart a b e = apart insideValue inside-told (insideReply a) (insideReply b) (inside-numbered a) (inside-numbered b) e
 
 pub outcomes-apart : (a b : Outcome) → moveNumber (outcomeReply a) ≡ moveNumber (outcomeReply b) → outcomeReply a ≡ outcomeReply b
 unfolding encoded

@@ -1,6 +1,7 @@
 -- An answer as one number, for C: the low byte is the refusal's number, 0 where the request is accepted; the rest is the value of what is answered, or the refusal's place.
 -- Of the answers that one entry can give no two have the same number (proofs/Apart).
 use Prim.Native.Nat.{ℕ, _+_, _*_}
+use mathlib.Core.Bool.{Bool, cond}
 use Rattle.definitions.specs.Answers.{Reply, accepted, refused, Seen, shown, quiet}
 
 -- one rule for every entry, given the value of what it answers
@@ -17,9 +18,22 @@ seenValue quiet = 0
 abbrev pub countValue : ℕ → ℕ
 countValue count = count
 
--- what the move entry answers for its reply, and every other entry for its own
+-- of a watcher's start or event nothing, of its question 1 for yes
+abbrev pub watchValue : Unit {0} → ℕ
+watchValue u = 0
+
+abbrev pub insideValue : Bool → ℕ
+insideValue inside = cond inside 1 0
+
+-- what the move entry answers for its reply, the watcher's for theirs, and every other entry for its own
 abbrev pub moveNumber : Reply Seen → ℕ
 moveNumber = encoded seenValue
+
+abbrev pub watchNumber : Reply (Unit {0}) → ℕ
+watchNumber = encoded watchValue
+
+abbrev pub insideNumber : Reply Bool → ℕ
+insideNumber = encoded insideValue
 
 abbrev pub countNumber : Reply ℕ → ℕ
 countNumber = encoded countValue
@@ -35,4 +49,4 @@ valueBound = 36_028_797_018_963_968
 
 -- the version, as the header has it: 65,536 times the major number, 256 times the minor one, and the patch number
 abbrev pub version : ℕ
-version = 65_536 * 1 + 256 * 1 + 0
+version = 65_536 * 1 + 256 * 2 + 0

@@ -2,11 +2,17 @@
 // number (specs/Encoding.antt): its low byte is the refusal's number, 0 where the request is accepted, and the rest is the
 // refusal's place, the count, or the event's code.
 use definitions::Answer;
+use definitions::Inside;
 use definitions::Outcome;
 use definitions::Request;
+use definitions::Watched;
+use definitions::Watcher;
+use watch::Head;
 ghost use Prim.Native.Nat.{_<_};
 ghost use mathlib.Core.Path.{_≡_};
+ghost use lib.ListN.{length};
 ghost use Rattle.definitions.specs.Answers.{outcomeReply, answerReply, deliveryReply, deliveryOutput};
+ghost use Rattle.definitions.specs.Bounds.{mostThreads};
 ghost use Rattle.definitions.specs.Moves.{ask, moveReply, moveTable};
 ghost use Rattle.definitions.specs.Nodes.{nodesEntry};
 ghost use Rattle.definitions.specs.OpenMoves.{openEntry};
@@ -14,12 +20,14 @@ ghost use Rattle.definitions.specs.PlainLock.{checkReply};
 ghost use Rattle.definitions.specs.Plan.{planEntry};
 ghost use Rattle.definitions.specs.Run.{runEntry};
 ghost use Rattle.definitions.specs.Table.{freshEntry};
-ghost use Rattle.wospinzo.specs.Encoding.{moveNumber, countNumber, valueIn, valueBound, version};
+ghost use Rattle.definitions.specs.Watch.{watchedReply, insideReply, startReply, startRecord, eventReply, eventRecord, questionReply};
+ghost use Rattle.wospinzo.specs.Encoding.{moveNumber, countNumber, watchNumber, insideNumber, valueIn, valueBound, version};
+ghost use Rattle.wospinzo.specs.Records.{recordWith, left};
 
 // The part's version: major, minor and patch number. docs/CHANGELOG.md says what each of them promises.
 const MAJOR: u32 = 1;
 
-const MINOR: u32 = 1;
+const MINOR: u32 = 2;
 
 const PATCH: u32 = 0;
 
@@ -112,6 +120,160 @@ pub extern "C" fn wospinzo_run(script: &[u8], out: &mut [u8]) -> u64
 {
     let answer = script::run(script, out);
     answer_number(answer)
+}
+
+// The number of a watcher's answer to its start or to an event.
+fn watch_number(answer: Watched) -> u64
+    ensures { λ r. ⌜ r ≡ watchNumber (watchedReply answer) ⌝ }
+{
+    match answer {
+        Watched::Good => 0,
+        Watched::Refused(refusal) => refusal.number() as u64,
+    }
+}
+
+// The number of its answer to the question.
+fn inside_number(answer: Inside) -> u64
+    ensures { λ r. ⌜ r ≡ insideNumber (insideReply answer) ⌝ }
+{
+    match answer {
+        Inside::Somebody => 256,
+        Inside::Nobody => 0,
+        Inside::Refused(refusal) => refusal.number() as u64,
+    }
+}
+
+// What is left of a watcher's record but for its places, and the number that is answered.
+struct Renewed {
+    threads: u8,
+    shared: u8,
+    exclusive: u8,
+    number: u64,
+}
+
+fn start_record(count: u16, threads: u8, shared: u8, exclusive: u8, places: &mut [u8]) -> Renewed
+    requires { ⌜ length (now places) ≡ mostThreads ⌝ }
+    ensures { λ r. ⌜ r .number ≡ watchNumber (startReply count) ⌝ }
+    ensures { λ r. ⌜ left r (now (places .exit)) ≡ startRecord count (recordWith threads shared exclusive (now (places .entry))) ⌝ }
+{
+    let update = watch::start(
+        count,
+        Head {
+            threads,
+            shared,
+            exclusive,
+        },
+        places,
+    );
+    let head = update.head;
+    let answer = update.answer;
+    let number = watch_number(answer);
+    Renewed {
+        threads: head.threads,
+        shared: head.shared,
+        exclusive: head.exclusive,
+        number,
+    }
+}
+
+fn update_record(
+    threads: u8,
+    shared: u8,
+    exclusive: u8,
+    places: &mut [u8],
+    thread: u16,
+    event: u16,
+) -> Renewed
+    requires { ⌜ length (now places) ≡ mostThreads ⌝ }
+    ensures { λ r. ⌜ r .number ≡ watchNumber (eventReply (recordWith threads shared exclusive (now (places .entry))) (record { thread = thread; event = event })) ⌝ }
+    ensures { λ r. ⌜ left r (now (places .exit)) ≡ eventRecord (recordWith threads shared exclusive (now (places .entry))) (record { thread = thread; event = event }) ⌝ }
+{
+    let update = watch::watch_event(
+        Head {
+            threads,
+            shared,
+            exclusive,
+        },
+        places,
+        thread,
+        event,
+    );
+    let head = update.head;
+    let answer = update.answer;
+    let number = watch_number(answer);
+    Renewed {
+        threads: head.threads,
+        shared: head.shared,
+        exclusive: head.exclusive,
+        number,
+    }
+}
+
+fn ask_record(threads: u8, shared: u8, exclusive: u8, places: &[u8]) -> u64
+    requires { ⌜ length (now places) ≡ mostThreads ⌝ }
+    ensures { λ r. ⌜ r ≡ insideNumber (questionReply (recordWith threads shared exclusive (now (places .entry)))) ⌝ }
+{
+    let answer = watch::anybody_inside(
+        Head {
+            threads,
+            shared,
+            exclusive,
+        },
+        places,
+    );
+    inside_number(answer)
+}
+
+// A watcher's record for N threads, before any event.
+#[no_mangle]
+pub extern "C" fn wospinzo_watch_start(threads: u16, watcher: &mut Watcher) -> u64
+    ensures { λ r. ⌜ r ≡ watchNumber (startReply threads) ⌝ }
+    ensures { λ r. ⌜ now (watcher .exit) ≡ startRecord threads (now (watcher .entry)) ⌝ }
+{
+    let made = start_record(
+        threads,
+        watcher.threads,
+        watcher.shared,
+        watcher.exclusive,
+        &mut watcher.places,
+    );
+    watcher.threads = made.threads;
+    watcher.shared = made.shared;
+    watcher.exclusive = made.exclusive;
+    made.number
+}
+
+// One event, judged and added where the record is kept.
+#[no_mangle]
+pub extern "C" fn wospinzo_watch_event(watcher: &mut Watcher, thread: u16, event: u16) -> u64
+    ensures { λ r. ⌜ r ≡ watchNumber (eventReply (now (watcher .entry)) (record { thread = thread; event = event })) ⌝ }
+    ensures { λ r. ⌜ now (watcher .exit) ≡ eventRecord (now (watcher .entry)) (record { thread = thread; event = event }) ⌝ }
+{
+    let made = update_record(
+        watcher.threads,
+        watcher.shared,
+        watcher.exclusive,
+        &mut watcher.places,
+        thread,
+        event,
+    );
+    watcher.threads = made.threads;
+    watcher.shared = made.shared;
+    watcher.exclusive = made.exclusive;
+    made.number
+}
+
+// "Is anybody inside?"
+#[no_mangle]
+pub extern "C" fn wospinzo_watch_inside(watcher: &Watcher) -> u64
+    ensures { λ r. ⌜ r ≡ insideNumber (questionReply (now (watcher .entry))) ⌝ }
+{
+    ask_record(
+        watcher.threads,
+        watcher.shared,
+        watcher.exclusive,
+        &watcher.places,
+    )
 }
 
 // The version, for a maker's program to compare with the header's that it was built with.

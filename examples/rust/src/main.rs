@@ -5,13 +5,15 @@
 //! read. Panel tasks rewrite the settings now and then, a piece a turn too. A
 //! reader that is turned away waits for the mutex, for some turns at most,
 //! before it tries again; it gives the mutex back in the turn in which it took
-//! it. The program counts reads, writes and torn reads, of which there must be
-//! none.
+//! it. A watcher judges each event before its task acts on it. When the turns
+//! are over, the tasks that are in a section leave it. The program counts reads,
+//! writes and torn reads, of which there must be none.
 
+use std::error::Error;
 use std::process::ExitCode;
 
 use wospinzo::{
-    forbidden, fresh, make_move, phase, table_size, Event, Move, Outcome, Phase, Refusal,
+    forbidden, fresh, make_move, phase, table_size, Event, Move, Outcome, Phase, Refusal, Watcher,
 };
 
 const READERS: usize = 6;
@@ -53,6 +55,7 @@ struct Counts {
 
 struct Executive {
     table: [u8; table_size(TASKS as u16)],
+    watcher: Watcher,
     tasks: [Task; TASKS],
     settings: [[u32; WORDS]; PIECES],
     counts: Counts,
@@ -68,6 +71,7 @@ impl Executive {
         fresh(TASKS as u16, &mut table)?;
         Ok(Executive {
             table,
+            watcher: Watcher::new(TASKS as u16)?,
             tasks: [Task::default(); TASKS],
             settings: [[0; WORDS]; PIECES],
             counts: Counts::default(),
@@ -158,6 +162,7 @@ impl Executive {
             _ => (),
         }
         if let Outcome::Shown(event) = outcome {
+            self.watcher.event(number as u16, event)?;
             self.heed(number, event);
         }
         Ok(())
@@ -180,15 +185,32 @@ impl Executive {
         }
         Ok(())
     }
+
+    /// The tasks that are in a section finish there and leave it; the others
+    /// get no turn. Then nobody may be inside.
+    fn finish(&mut self) -> Result<(), Box<dyn Error>> {
+        for _ in 0..=PIECES {
+            for number in 0..TASKS {
+                if self.tasks[number].inside {
+                    self.turn(number)?;
+                }
+            }
+        }
+        match self.watcher.anybody_inside()? {
+            true => Err("the watcher has somebody inside at the end".into()),
+            false => Ok(()),
+        }
+    }
 }
 
-fn run() -> Result<Counts, Refusal> {
+fn run() -> Result<Counts, Box<dyn Error>> {
     let mut executive = Executive::new()?;
     for _ in 0..TURNS {
         for number in 0..TASKS {
             executive.turn(number)?;
         }
     }
+    executive.finish()?;
     Ok(executive.counts)
 }
 
@@ -202,8 +224,8 @@ fn main() -> ExitCode {
         torn,
     } = match run() {
         Ok(counts) => counts,
-        Err(refusal) => {
-            println!("{refusal}");
+        Err(error) => {
+            println!("{error}");
             return ExitCode::from(2);
         }
     };

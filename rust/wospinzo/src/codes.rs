@@ -248,7 +248,9 @@ impl Phase {
 }
 
 /// Why a request was turned down. Its number is `refusal as u8`; a request is
-/// tested in the order of the numbers. A minor version may add a refusal.
+/// tested in the order of the numbers, but for [`Refusal::Inconsistent`], which
+/// is tested after [`Refusal::BadSize`] and before [`Refusal::UnknownPair`]. A
+/// minor version may add a refusal.
 #[derive(Clone, Copy, Debug, PartialEq, Eq, Hash, PartialOrd, Ord)]
 #[repr(u8)]
 #[non_exhaustive]
@@ -279,11 +281,14 @@ pub enum Refusal {
     Occupied = 11,
     /// The output is shorter than what would be written.
     NoRoom = 12,
+    /// The record of a [`Watcher`](crate::Watcher) isn't consistent: no watch
+    /// leads to it.
+    Inconsistent = 13,
 }
 
 impl Refusal {
-    /// All refusals, in the order of their numbers, 1 to 12.
-    pub const ALL: [Refusal; 12] = [
+    /// All refusals, in the order of their numbers, 1 to 13.
+    pub const ALL: [Refusal; 13] = [
         Refusal::BadSize,
         Refusal::Unsound,
         Refusal::NoThread,
@@ -296,12 +301,13 @@ impl Refusal {
         Refusal::NotNext,
         Refusal::Occupied,
         Refusal::NoRoom,
+        Refusal::Inconsistent,
     ];
 
-    /// The refusal of a number, none outside 1 to 12.
+    /// The refusal of a number, none outside 1 to 13.
     pub const fn from_number(number: u8) -> Option<Refusal> {
         match number {
-            1..=12 => Some(Refusal::ALL[number as usize - 1]),
+            1..=13 => Some(Refusal::ALL[number as usize - 1]),
             _ => None,
         }
     }
@@ -322,6 +328,7 @@ impl fmt::Display for Refusal {
             Refusal::NotNext => "not the thread's next event",
             Refusal::Occupied => "section occupied",
             Refusal::NoRoom => "output too short",
+            Refusal::Inconsistent => "inconsistent watcher",
         })
     }
 }

@@ -76,6 +76,30 @@
 //! # }
 //! ```
 //!
+//! # A watcher
+//!
+//! A [`Watcher`] judges each event as it happens, as [`check`] would judge the
+//! history so far, without the history being kept. It is a record of
+//! [`WATCHER_SIZE`] bytes that the caller owns, apart from the table. What it
+//! refuses leaves it as it was, and the watch goes on from there.
+//!
+//! ```
+//! use wospinzo::{fresh, make_move, table_size, Move, Outcome, Refusal, Watcher};
+//!
+//! # fn main() -> Result<(), Refusal> {
+//! let mut table = [0; table_size(1)];
+//! fresh(1, &mut table)?;
+//! let mut watcher = Watcher::new(1)?;
+//! for mov in [Move::CallShared, Move::Go, Move::Go, Move::Go] {
+//!     if let Outcome::Shown(event) = make_move(&mut table, 0, mov)? {
+//!         watcher.event(0, event)?;
+//!     }
+//! }
+//! assert_eq!(watcher.anybody_inside(), Ok(true));
+//! # Ok(())
+//! # }
+//! ```
+//!
 //! # Functions
 //!
 //! | function | what it does | refusals |
@@ -87,6 +111,9 @@
 //! | [`check`] | judges a history of events | 1, 8 to 11 |
 //! | [`plan`] | moves that show a given history | 1, 8 to 12 |
 //! | [`run`] | runs a script | 8, 12 |
+//! | [`Watcher::new`] | starts a watch | 1 |
+//! | [`Watcher::event`], [`Watcher::event_code`] | judges one event | 1, 13, 9 to 11 |
+//! | [`Watcher::anybody_inside`] | whether a section has somebody in it | 1, 13 |
 //!
 //! A refused request leaves every lent byte as it was. An accepted one fills
 //! exactly its output from the front and leaves the bytes after it.
@@ -114,16 +141,20 @@
 
 mod codes;
 pub mod raw;
+mod watcher;
 
 pub use codes::{Event, Move, Node, Outcome, Phase, Refusal, Rejected};
+pub use watcher::Watcher;
 
 /// The version of this crate and of the header: 65,536 times the major, 256
 /// times the minor, and the patch number. [`version`] is that of the archive.
-pub const VERSION: u32 = 65_536 + 256;
+pub const VERSION: u32 = 65_536 + 2 * 256;
 /// The largest number of threads.
 pub const MAX_THREADS: u16 = 200;
 /// The bytes of the largest table.
 pub const MAX_TABLE_SIZE: usize = table_size(MAX_THREADS);
+/// The bytes of a [`Watcher`].
+pub const WATCHER_SIZE: usize = 203;
 /// The target byte of a table that has no target.
 pub const NO_TARGET: u8 = 255;
 /// The longest history, in bytes.

@@ -1,7 +1,11 @@
 //! The entries as the archive exports them.
 //!
 //! A slice is a pointer, which is never null, and the number of bytes there.
-//! The slices of one call must not overlap. An answer is taken apart by [`refusal`] and [`value`].
+//! The slices of one call must not overlap. A watcher is lent by a pointer to
+//! it, which is never null. An answer is taken apart by [`refusal`] and
+//! [`value`].
+
+use crate::Watcher;
 
 extern "C" {
     /// See [`version`](crate::version).
@@ -42,6 +46,13 @@ extern "C" {
     /// See [`run`](crate::run).
     #[cfg(feature = "script")]
     pub fn wospinzo_run(script: *const u8, script_len: usize, out: *mut u8, out_len: usize) -> u64;
+    /// See [`Watcher::new`]. The value answered is 0.
+    pub fn wospinzo_watch_start(threads: u16, watcher: *mut Watcher) -> u64;
+    /// See [`Watcher::event_code`]. The value answered is 0.
+    pub fn wospinzo_watch_event(watcher: *mut Watcher, thread: u16, event: u16) -> u64;
+    /// See [`Watcher::anybody_inside`]. The value answered is 1 for yes, 0 for
+    /// no.
+    pub fn wospinzo_watch_inside(watcher: *const Watcher) -> u64;
 }
 
 /// The number of an answer's refusal, 0 where the request was accepted.

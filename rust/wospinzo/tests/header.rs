@@ -4,7 +4,7 @@ use std::collections::HashMap;
 use std::fs;
 use std::path::Path;
 
-use wospinzo::{Event, Move, Node, Phase, Refusal};
+use wospinzo::{Event, Move, Node, Phase, Refusal, Watcher};
 
 /// The constants of the header, enumerators and plain macros.
 fn header() -> HashMap<String, u32> {
@@ -76,6 +76,7 @@ fn codes_are_those_of_the_header() {
     same("VERSION_PATCH".into(), wospinzo::VERSION & 255);
     same("MAX_THREADS".into(), wospinzo::MAX_THREADS.into());
     same("MAX_TABLE_SIZE".into(), wospinzo::MAX_TABLE_SIZE as u32);
+    same("WATCHER_SIZE".into(), size_of::<Watcher>() as u32);
     same("NO_TARGET".into(), wospinzo::NO_TARGET.into());
     same("MAX_HISTORY".into(), wospinzo::MAX_HISTORY as u32);
     same("MAX_SCRIPT".into(), wospinzo::MAX_SCRIPT as u32);
@@ -94,7 +95,7 @@ fn other_numbers_are_no_codes() {
     assert_eq!(Node::from_code(11), None);
     assert_eq!(Phase::from_number(19), None);
     assert_eq!(Refusal::from_number(0), None);
-    assert_eq!(Refusal::from_number(13), None);
+    assert_eq!(Refusal::from_number(14), None);
     assert_eq!(Move::from_numbers(7, 0), None);
     assert_eq!(Move::from_numbers(0, 1), None);
     assert_eq!(Move::from_numbers(6, 1), None);

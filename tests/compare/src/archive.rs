@@ -1,5 +1,8 @@
-//! The part as the archive exports it. A slice is a pointer, then a length.
+//! The part as the archive exports it. A slice is a pointer, then a length; a
+//! watcher's record is a pointer to its bytes.
 
+#[cfg(feature = "watch")]
+use crate::model::Record;
 use crate::part::Part;
 
 extern "C" {
@@ -25,6 +28,12 @@ extern "C" {
     ) -> u64;
     #[cfg(feature = "script")]
     fn wospinzo_run(script: *const u8, script_len: usize, out: *mut u8, out_len: usize) -> u64;
+    #[cfg(feature = "watch")]
+    fn wospinzo_watch_start(threads: u16, watcher: *mut Record) -> u64;
+    #[cfg(feature = "watch")]
+    fn wospinzo_watch_event(watcher: *mut Record, thread: u16, event: u16) -> u64;
+    #[cfg(feature = "watch")]
+    fn wospinzo_watch_inside(watcher: *const Record) -> u64;
 }
 
 pub struct Archive;
@@ -69,5 +78,17 @@ impl Part for Archive {
     #[cfg(feature = "script")]
     fn run(&self, script: &[u8], out: &mut [u8]) -> u64 {
         unsafe { wospinzo_run(script.as_ptr(), script.len(), out.as_mut_ptr(), out.len()) }
+    }
+    #[cfg(feature = "watch")]
+    fn watch_start(&self, threads: u16, record: &mut Record) -> u64 {
+        unsafe { wospinzo_watch_start(threads, record) }
+    }
+    #[cfg(feature = "watch")]
+    fn watch_event(&self, record: &mut Record, thread: u16, event: u16) -> u64 {
+        unsafe { wospinzo_watch_event(record, thread, event) }
+    }
+    #[cfg(feature = "watch")]
+    fn watch_inside(&self, record: &Record) -> u64 {
+        unsafe { wospinzo_watch_inside(record) }
     }
 }

@@ -7,6 +7,7 @@ use crate::part::{Call, Entry};
 use crate::random::Random;
 use crate::scripts;
 use crate::tables;
+use crate::watchers;
 
 /// An output for what takes `needed` bytes, mostly long enough.
 fn output(r: &mut Random, needed: usize) -> Vec<u8> {
@@ -24,12 +25,17 @@ fn output(r: &mut Random, needed: usize) -> Vec<u8> {
     out
 }
 
-fn fresh(r: &mut Random) -> Call {
-    let threads = match r.below(8) {
+/// A number of threads to start with, in range as a rule.
+fn to_start(r: &mut Random) -> u16 {
+    match r.below(8) {
         0 => r.pick(&[0, 1, 200, 201, 255, 256, 257, 456, 457, 32768, 65535]),
         1 => r.word() as u16,
         _ => tables::threads(r) as u16,
-    };
+    }
+}
+
+fn fresh(r: &mut Random) -> Call {
+    let threads = to_start(r);
     let needed = model::table_size(usize::from(threads).min(300));
     Call::fresh(threads, output(r, needed))
 }
@@ -148,6 +154,24 @@ fn run(r: &mut Random) -> Call {
     Call::run(script, output(r, needed))
 }
 
+fn watch_start(r: &mut Random) -> Call {
+    let mut record = watchers::any(r);
+    if r.chance(1, 2) {
+        record.fill_with(|| r.byte());
+    }
+    Call::watch_start(to_start(r), &record)
+}
+
+fn watch_event(r: &mut Random) -> Call {
+    let record = watchers::any(r);
+    let [thread, event] = watchers::event(r, &record);
+    Call::watch_event(&record, thread, event)
+}
+
+fn watch_inside(r: &mut Random) -> Call {
+    Call::watch_inside(&watchers::any(r))
+}
+
 /// A random call of an entry.
 pub fn any(r: &mut Random, entry: Entry) -> Call {
     match entry {
@@ -158,5 +182,8 @@ pub fn any(r: &mut Random, entry: Entry) -> Call {
         Entry::Check => check(r),
         Entry::Plan => plan(r),
         Entry::Run => run(r),
+        Entry::WatchStart => watch_start(r),
+        Entry::WatchEvent => watch_event(r),
+        Entry::WatchInside => watch_inside(r),
     }
 }

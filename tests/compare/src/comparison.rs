@@ -2,6 +2,9 @@
 
 use crate::part::{hex, number_of, value_of, Call, Caller, Entry, Model, Part};
 
+/// How many numbers an answer can have: 0 where accepted, and the refusals'.
+const NUMBERS: usize = 14;
+
 /// The part beside the model, and the count of what was compared.
 pub struct Comparison<'a> {
     part: Caller<'a>,
@@ -14,7 +17,7 @@ pub struct Comparison<'a> {
     pub passed: u64,
     pub failed: u64,
     /// The refusals seen since the last reset; 0 stands for an accepted call.
-    seen: [bool; 13],
+    seen: [bool; NUMBERS],
 }
 
 impl<'a> Comparison<'a> {
@@ -27,7 +30,7 @@ impl<'a> Comparison<'a> {
             quiet: false,
             passed: 0,
             failed: 0,
-            seen: [false; 13],
+            seen: [false; NUMBERS],
         }
     }
 
@@ -95,20 +98,20 @@ impl<'a> Comparison<'a> {
     /// the lent bytes after it.
     pub fn expect(&mut self, name: &str, call: &Call, answer: u64, after: &[u8]) {
         let got = self.model.call(call);
-        let equal = got == answer && self.model.lent() == after;
-        let found = hex(self.model.lent());
-        self.claim(equal, || {
-            let text = difference(call, (answer, &hex(after)), (got, &found), true);
-            format!("{name}: the model\n{text}")
+        let found = self.model.lent();
+        let wrong = (got != answer || found != after)
+            .then(|| difference(call, (answer, &hex(after)), (got, &hex(found)), true));
+        self.claim(wrong.is_none(), || {
+            format!("{name}: the model\n{}", wrong.unwrap_or_default())
         });
         if self.has(call.entry) && !self.stopped() {
             let got = self.part.call(call);
             let kept = self.part.kept_the_rest(call);
-            let equal = got == answer && kept && self.part.lent() == after;
-            let found = hex(self.part.lent());
-            self.claim(equal, || {
-                let text = difference(call, (answer, &hex(after)), (got, &found), kept);
-                format!("{name}: the part\n{text}")
+            let found = self.part.lent();
+            let wrong = (got != answer || !kept || found != after)
+                .then(|| difference(call, (answer, &hex(after)), (got, &hex(found)), kept));
+            self.claim(wrong.is_none(), || {
+                format!("{name}: the part\n{}", wrong.unwrap_or_default())
             });
         }
     }
@@ -119,7 +122,7 @@ impl<'a> Comparison<'a> {
     }
 
     pub fn reset_seen(&mut self) {
-        self.seen = [false; 13];
+        self.seen = [false; NUMBERS];
     }
 
     /// Claims that since the last reset an entry accepted a call and gave each

@@ -1,12 +1,13 @@
 //! The marked and other examples of the scope paper and its bounds, and
-//! examples of hold.
+//! examples of hold and of the watcher.
 
 use crate::comparison::Comparison;
 use crate::histories;
-use crate::model::{self, MAX_HISTORY, MAX_SCRIPT, RUN_ROOM};
+use crate::model::{self, Record, MAX_HISTORY, MAX_SCRIPT, RECORD_SIZE, RUN_ROOM};
 use crate::part::{done, refused, Call};
 use crate::random::Random;
 use crate::scripts;
+use crate::watchers::record;
 
 /// M1 to M12.
 pub fn marked(c: &mut Comparison) {
@@ -220,5 +221,212 @@ fn lengths(c: &mut Comparison) {
             scripts::script_of_size(&mut r, size),
             vec![7; RUN_ROOM],
         ));
+    }
+}
+
+/// Examples of the watcher.
+pub fn watcher(c: &mut Comparison) {
+    starts(c);
+    watch(c, "a round in shared, a round in exclusive", &ROUNDS);
+    watch(c, "a watch goes on after a bad event", &GOES_ON);
+    watch(c, "reader and writer excluded", &EXCLUDED);
+    watch(c, "readers together, writers not", &TOGETHER);
+    most_threads(c);
+    bad_records(c);
+    order_of_refusals(c);
+}
+
+fn starts(c: &mut Comparison) {
+    let old = [7; RECORD_SIZE];
+    for threads in [1, 200] {
+        let after = record(threads, 0, 0, &[]);
+        let call = Call::watch_start(u16::from(threads), &old);
+        c.expect("start", &call, done(0), &after);
+    }
+    for threads in [0, 201, 255, 256, 257, 65535] {
+        let call = Call::watch_start(threads, &old);
+        c.expect("bad start", &call, refused(1, 0), &old);
+    }
+}
+
+/// A step of a watch of two threads: thread and event, the refusal (0 for
+/// none), the record's bytes up to the second place, and whether anybody is
+/// inside then.
+type Step = ([u16; 2], u64, [u8; 5], bool);
+
+const ROUNDS: [Step; 8] = [
+    ([0, 1], 0, [2, 0, 0, 1, 0], false),
+    ([0, 2], 0, [2, 1, 0, 2, 0], true),
+    ([0, 3], 0, [2, 0, 0, 3, 0], false),
+    ([0, 4], 0, [2, 0, 0, 0, 0], false),
+    ([0, 5], 0, [2, 0, 0, 5, 0], false),
+    ([0, 6], 0, [2, 0, 1, 6, 0], true),
+    ([0, 7], 0, [2, 0, 0, 7, 0], false),
+    ([0, 8], 0, [2, 0, 0, 0, 0], false),
+];
+
+const GOES_ON: [Step; 17] = [
+    ([0, 0], 9, [2, 0, 0, 0, 0], false),
+    ([0, 9], 9, [2, 0, 0, 0, 0], false),
+    ([0, 257], 9, [2, 0, 0, 0, 0], false),
+    ([2, 1], 9, [2, 0, 0, 0, 0], false),
+    ([256, 1], 9, [2, 0, 0, 0, 0], false),
+    ([1, 2], 10, [2, 0, 0, 0, 0], false),
+    ([1, 8], 10, [2, 0, 0, 0, 0], false),
+    ([1, 1], 0, [2, 0, 0, 0, 1], false),
+    ([1, 1], 10, [2, 0, 0, 0, 1], false),
+    ([1, 2], 0, [2, 1, 0, 0, 2], true),
+    ([1, 4], 10, [2, 1, 0, 0, 2], true),
+    ([1, 9], 9, [2, 1, 0, 0, 2], true),
+    ([1, 3], 0, [2, 0, 0, 0, 3], false),
+    ([1, 5], 10, [2, 0, 0, 0, 3], false),
+    ([1, 4], 0, [2, 0, 0, 0, 0], false),
+    ([1, 6], 10, [2, 0, 0, 0, 0], false),
+    ([1, 5], 0, [2, 0, 0, 0, 5], false),
+];
+
+const EXCLUDED: [Step; 14] = [
+    ([0, 1], 0, [2, 0, 0, 1, 0], false),
+    ([0, 2], 0, [2, 1, 0, 2, 0], true),
+    ([1, 5], 0, [2, 1, 0, 2, 5], true),
+    ([1, 6], 11, [2, 1, 0, 2, 5], true),
+    ([0, 3], 0, [2, 0, 0, 3, 5], false),
+    ([1, 6], 0, [2, 0, 1, 3, 6], true),
+    ([0, 4], 0, [2, 0, 1, 0, 6], true),
+    ([0, 1], 0, [2, 0, 1, 1, 6], true),
+    ([0, 2], 11, [2, 0, 1, 1, 6], true),
+    ([1, 7], 0, [2, 0, 0, 1, 7], false),
+    ([0, 2], 0, [2, 1, 0, 2, 7], true),
+    ([1, 8], 0, [2, 1, 0, 2, 0], true),
+    ([0, 3], 0, [2, 0, 0, 3, 0], false),
+    ([0, 4], 0, [2, 0, 0, 0, 0], false),
+];
+
+const TOGETHER: [Step; 14] = [
+    ([0, 1], 0, [2, 0, 0, 1, 0], false),
+    ([1, 1], 0, [2, 0, 0, 1, 1], false),
+    ([0, 2], 0, [2, 1, 0, 2, 1], true),
+    ([1, 2], 0, [2, 2, 0, 2, 2], true),
+    ([0, 3], 0, [2, 1, 0, 3, 2], true),
+    ([1, 3], 0, [2, 0, 0, 3, 3], false),
+    ([0, 4], 0, [2, 0, 0, 0, 3], false),
+    ([1, 4], 0, [2, 0, 0, 0, 0], false),
+    ([0, 5], 0, [2, 0, 0, 5, 0], false),
+    ([1, 5], 0, [2, 0, 0, 5, 5], false),
+    ([1, 6], 0, [2, 0, 1, 5, 6], true),
+    ([0, 6], 11, [2, 0, 1, 5, 6], true),
+    ([1, 7], 0, [2, 0, 0, 5, 7], false),
+    ([0, 6], 0, [2, 0, 1, 6, 7], true),
+];
+
+/// Makes the steps of a watch, and asks the question after each.
+fn watch(c: &mut Comparison, name: &str, steps: &[Step]) {
+    let mut before = record(2, 0, 0, &[]);
+    inside(c, name, &before, false);
+    for &([thread, event], refusal, after, answer) in steps {
+        let after = record(after[0], after[1], after[2], &after[3..]);
+        let call = Call::watch_event(&before, thread, event);
+        c.expect(name, &call, refused(refusal, 0), &after);
+        inside(c, name, &after, answer);
+        before = after;
+    }
+}
+
+fn inside(c: &mut Comparison, name: &str, record: &Record, answer: bool) {
+    let call = Call::watch_inside(record);
+    c.expect(name, &call, done(u64::from(answer)), &[]);
+}
+
+/// The last of 200 threads, alone and with all others in shared.
+fn most_threads(c: &mut Comparison) {
+    let name = "200 threads";
+    let with = |shared: u8, exclusive: u8, others: u8, last: u8| {
+        let mut places = [others; 200];
+        places[199] = last;
+        record(200, shared, exclusive, &places)
+    };
+    for (event, before, after) in [
+        (5, with(0, 0, 0, 0), with(0, 0, 0, 5)),
+        (6, with(0, 0, 0, 5), with(0, 1, 0, 6)),
+        (7, with(0, 1, 0, 6), with(0, 0, 0, 7)),
+        (8, with(0, 0, 0, 7), with(0, 0, 0, 0)),
+        (1, with(199, 0, 2, 0), with(199, 0, 2, 1)),
+        (2, with(199, 0, 2, 1), with(200, 0, 2, 2)),
+        (3, with(200, 0, 2, 2), with(199, 0, 2, 3)),
+        (4, with(199, 0, 2, 3), with(199, 0, 2, 0)),
+    ] {
+        let call = Call::watch_event(&before, 199, event);
+        c.expect(name, &call, done(0), &after);
+    }
+    inside(c, name, &with(200, 0, 2, 2), true);
+    inside(c, name, &with(0, 1, 7, 6), true);
+    inside(c, name, &with(0, 0, 7, 3), false);
+    let before = with(199, 0, 2, 5);
+    let call = Call::watch_event(&before, 199, 6);
+    c.expect(name, &call, refused(11, 0), &before);
+    let call = Call::watch_event(&before, 200, 1);
+    c.expect(name, &call, refused(9, 0), &before);
+}
+
+/// Records that are turned down by good and bad events, and by the question.
+fn bad_records(c: &mut Comparison) {
+    let last_entry = |threads: u8, entry: u8| {
+        let mut record = record(threads, 0, 0, &[]);
+        record[RECORD_SIZE - 1] = entry;
+        record
+    };
+    let cases = [
+        ("N of 0", 1, record(0, 0, 0, &[])),
+        ("N of 201", 1, record(201, 0, 0, &[])),
+        ("N of 255", 1, record(255, 0, 0, &[])),
+        ("N of 0, shared 1", 1, record(0, 1, 0, &[])),
+        ("N of 0, entry 0", 1, record(0, 0, 0, &[1])),
+        ("N of 201, exclusive 1 for 0", 1, record(201, 0, 1, &[])),
+        ("N of 201, place 4", 1, record(201, 0, 0, &[0, 4])),
+        ("shared 1 for 0", 13, record(2, 1, 0, &[])),
+        ("shared 0 for 1", 13, record(2, 0, 0, &[0, 2])),
+        ("shared 1 for 2", 13, record(3, 1, 0, &[0, 2, 2])),
+        ("shared 255 for 1", 13, record(2, 255, 0, &[0, 2])),
+        ("exclusive 1 for 0", 13, record(2, 0, 1, &[])),
+        ("exclusive 0 for 1", 13, record(2, 0, 0, &[0, 6])),
+        ("exclusive 2 for 1", 13, record(2, 0, 2, &[1, 6])),
+        ("the totals changed over", 13, record(2, 0, 1, &[0, 2])),
+        ("entry N", 13, record(2, 0, 0, &[0, 0, 1])),
+        ("entry N + 1", 13, record(2, 0, 0, &[0, 0, 0, 5])),
+        ("entry N, counted", 13, record(2, 1, 0, &[0, 0, 2])),
+        ("entry N, not counted", 13, record(2, 0, 0, &[0, 0, 6])),
+        ("entry 199 of 2", 13, last_entry(2, 3)),
+        ("entry 199 of 199", 13, last_entry(199, 255)),
+        ("place 4", 13, record(2, 0, 0, &[0, 4])),
+        ("place 8", 13, record(2, 0, 0, &[0, 8])),
+        ("place 255", 13, record(2, 0, 0, &[0, 255])),
+        ("place 4 of thread 199", 13, last_entry(200, 4)),
+        ("two in exclusive", 13, record(3, 0, 2, &[0, 6, 6])),
+        ("two in exclusive", 13, record(3, 0, 2, &[1, 6, 6])),
+        ("in exclusive and shared", 13, record(3, 1, 1, &[0, 6, 2])),
+    ];
+    for (name, number, record) in cases {
+        for [thread, event] in [[0, 1], [0, 2], [0, 9], [200, 1]] {
+            let call = Call::watch_event(&record, thread, event);
+            c.expect(name, &call, refused(number, 0), &record);
+        }
+        let call = Call::watch_inside(&record);
+        c.expect(name, &call, refused(number, 0), &[]);
+    }
+}
+
+/// Events that are bad in more than one way, on a consistent record: thread 0
+/// is in exclusive, thread 1 is not there yet, thread 2 is outside.
+fn order_of_refusals(c: &mut Comparison) {
+    let before = record(3, 0, 1, &[6, 1]);
+    for (name, [thread, event], number) in [
+        ("9 before 10", [1, 9], 9),
+        ("9 before 10 and 11", [3, 2], 9),
+        ("10 before 11", [2, 2], 10),
+        ("10 before 11", [1, 6], 10),
+        ("11", [1, 2], 11),
+    ] {
+        let call = Call::watch_event(&before, thread, event);
+        c.expect(name, &call, refused(number, 0), &before);
     }
 }

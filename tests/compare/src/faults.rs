@@ -1,9 +1,14 @@
 //! The model with one fault, to see that the comparison finds it.
 
-use crate::model::{GO, HOLD, READER_HOLDS, SET};
+use std::cell::Cell;
+
+use crate::model::{
+    Record, EXCLUSIVE_TOTAL, GO, HOLD, MAX_THREADS, PLACES, READER_HOLDS, SET, SHARED_TOTAL,
+};
 use crate::part::{done, number_of, refused, value_of, Model, Part};
 use crate::scripts;
 use crate::tables::phases_mut;
+use crate::watchers::count_again;
 
 #[derive(Clone, Copy, PartialEq, Eq, Debug)]
 pub enum Fault {
@@ -59,9 +64,46 @@ pub enum Fault {
     HoldWithoutHolder,
     /// `(T (hold K))` is read as `(T (hold))`.
     HoldWithTarget,
+    /// The watcher's numbers of 16 bits are cut to 8.
+    WatchThreadsCut,
+    WatchThreadCut,
+    WatchEventCut,
+    /// The watcher writes the record in spite of a bad N.
+    BadStartWrites,
+    /// The watcher's start leaves the place of the last thread.
+    StartKeepsPlace,
+    /// The watcher accepts every event.
+    WatchAcceptsAll,
+    /// The watcher turns every event down.
+    WatchTurnsAllDown,
+    /// A bad event changes the thread's place.
+    WatchWritesRefused,
+    /// After a bad event nothing is watched until the next start.
+    WatchStops,
+    /// Event 3 leaves the total of shared.
+    SharedTotalKept,
+    /// Event 7 leaves the total of exclusive.
+    ExclusiveTotalKept,
+    /// The entries from N upward aren't tested.
+    EntriesUntested,
+    /// The totals aren't tested.
+    TotalsUntested,
+    /// Two threads may be in exclusive.
+    TwoInExclusive,
+    /// One thread may be in exclusive while another is in shared.
+    SharedBesideExclusive,
+    /// Place 4 passes.
+    PlaceOfFour,
+    /// The question looks at one total.
+    InsideOfShared,
+    InsideOfExclusive,
+    /// Refusal 9 is tested before 13.
+    UnknownFirst,
+    /// Refusal 13 is tested before 1.
+    InconsistentFirst,
 }
 
-pub const FAULTS: [Fault; 29] = [
+pub const FAULTS: [Fault; 49] = [
     Fault::ThreadsCut,
     Fault::ThreadCut,
     Fault::MoveCut,
@@ -91,6 +133,26 @@ pub const FAULTS: [Fault; 29] = [
     Fault::ForbiddenBesideHold,
     Fault::HoldWithoutHolder,
     Fault::HoldWithTarget,
+    Fault::WatchThreadsCut,
+    Fault::WatchThreadCut,
+    Fault::WatchEventCut,
+    Fault::BadStartWrites,
+    Fault::StartKeepsPlace,
+    Fault::WatchAcceptsAll,
+    Fault::WatchTurnsAllDown,
+    Fault::WatchWritesRefused,
+    Fault::WatchStops,
+    Fault::SharedTotalKept,
+    Fault::ExclusiveTotalKept,
+    Fault::EntriesUntested,
+    Fault::TotalsUntested,
+    Fault::TwoInExclusive,
+    Fault::SharedBesideExclusive,
+    Fault::PlaceOfFour,
+    Fault::InsideOfShared,
+    Fault::InsideOfExclusive,
+    Fault::UnknownFirst,
+    Fault::InconsistentFirst,
 ];
 
 /// A line `(T (hold K))` without its target.
@@ -101,11 +163,31 @@ fn without_target(line: &[u8]) -> Option<Vec<u8>> {
     Some(format!("{thread} (hold))").into_bytes())
 }
 
+/// Puts one thread from a place to another. Gives how many were put there.
+fn replace_one(places: &mut [u8], from: u8, to: u8) -> u8 {
+    match places.iter_mut().find(|place| **place == from) {
+        Some(place) => {
+            *place = to;
+            1
+        }
+        None => 0,
+    }
+}
+
 pub struct Faulty {
-    pub fault: Fault,
+    fault: Fault,
+    /// Whether the watch has stopped.
+    stopped: Cell<bool>,
 }
 
 impl Faulty {
+    pub fn new(fault: Fault) -> Faulty {
+        Faulty {
+            fault,
+            stopped: Cell::new(false),
+        }
+    }
+
     fn has(&self, fault: Fault) -> bool {
         self.fault == fault
     }
@@ -133,6 +215,32 @@ impl Faulty {
             _ => (),
         }
         judged
+    }
+
+    /// The record that the watcher's test takes this one for.
+    fn judged_record(&self, record: &Record) -> Record {
+        let mut judged = *record;
+        let threads = usize::from(record[0]).min(MAX_THREADS);
+        let [_, shared, exclusive, places @ ..] = &mut judged;
+        match (self.fault, *shared, *exclusive) {
+            (Fault::EntriesUntested, ..) => places[threads..].fill(0),
+            (Fault::TotalsUntested, ..) => count_again(&mut judged),
+            (Fault::TwoInExclusive, _, 2) => *exclusive -= replace_one(places, 6, 7),
+            (Fault::SharedBesideExclusive, 1, 1) => *shared -= replace_one(places, 2, 3),
+            (Fault::PlaceOfFour, ..) => places
+                .iter_mut()
+                .filter(|place| **place == 4)
+                .for_each(|place| *place = 3),
+            _ => (),
+        }
+        judged
+    }
+
+    /// Whether a record's bad N is passed over, since the rest is inconsistent.
+    fn inconsistent_first(&self, record: &Record) -> bool {
+        let mut rest = *record;
+        rest[0] = MAX_THREADS as u8;
+        self.has(Fault::InconsistentFirst) && number_of(Model.watch_inside(&rest)) == 13
     }
 
     /// Clears what follows an accepted output of `size` bytes.
@@ -248,5 +356,67 @@ impl Part for Faulty {
             out[value_of(answer) as usize - 1] = b' ';
         }
         answer
+    }
+
+    fn watch_start(&self, threads: u16, record: &mut Record) -> u64 {
+        let before = *record;
+        let answer = Model.watch_start(self.cut(Fault::WatchThreadsCut, threads), record);
+        self.stopped.set(false);
+        match self.fault {
+            Fault::BadStartWrites if number_of(answer) != 0 => record.fill(0),
+            Fault::StartKeepsPlace if number_of(answer) == 0 => {
+                let last = PLACES + usize::from(record[0]) - 1;
+                record[last] = before[last];
+            }
+            _ => (),
+        }
+        answer
+    }
+
+    fn watch_event(&self, record: &mut Record, thread: u16, event: u16) -> u64 {
+        let before = *record;
+        if self.stopped.get() {
+            return done(0);
+        }
+        let thread = self.cut(Fault::WatchThreadCut, thread);
+        let event = self.cut(Fault::WatchEventCut, event);
+        *record = self.judged_record(&before);
+        let answer = Model.watch_event(record, thread, event);
+        let refusal = number_of(answer);
+        if refusal != 0 {
+            *record = before;
+        }
+        let bad = (9..=11).contains(&refusal);
+        let known = thread < u16::from(before[0]) && (1..=8).contains(&event);
+        let accepted = |made: u16| refusal == 0 && event == made;
+        match self.fault {
+            Fault::WatchAcceptsAll => return done(0),
+            Fault::WatchTurnsAllDown if refusal == 0 => {
+                *record = before;
+                return refused(10, 0);
+            }
+            Fault::WatchWritesRefused if bad && known => {
+                record[PLACES + usize::from(thread)] = event as u8;
+            }
+            Fault::WatchStops => self.stopped.set(bad),
+            Fault::SharedTotalKept if accepted(3) => record[SHARED_TOTAL] = before[SHARED_TOTAL],
+            Fault::ExclusiveTotalKept if accepted(7) => {
+                record[EXCLUSIVE_TOTAL] = before[EXCLUSIVE_TOTAL]
+            }
+            Fault::UnknownFirst if refusal == 13 && !known => return refused(9, 0),
+            _ if refusal == 1 && self.inconsistent_first(&before) => return refused(13, 0),
+            _ => (),
+        }
+        answer
+    }
+
+    fn watch_inside(&self, record: &Record) -> u64 {
+        let answer = Model.watch_inside(&self.judged_record(record));
+        match (self.fault, number_of(answer)) {
+            (Fault::InsideOfShared, 0) => done(u64::from(record[SHARED_TOTAL] > 0)),
+            (Fault::InsideOfExclusive, 0) => done(u64::from(record[EXCLUSIVE_TOTAL] > 0)),
+            (_, 1) if self.inconsistent_first(record) => refused(13, 0),
+            _ => answer,
+        }
     }
 }

@@ -14,3 +14,4 @@ pub mod scripts;
 pub mod sections;
 pub mod tables;
 pub mod vectors;
+pub mod watchers;

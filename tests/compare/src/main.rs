@@ -28,6 +28,9 @@ fn archive_entries() -> Vec<Entry> {
     if !cfg!(feature = "script") {
         entries.retain(|&entry| entry != Entry::Run);
     }
+    if !cfg!(feature = "watch") {
+        entries.retain(|entry| !entry.is_of_watcher());
+    }
     entries
 }
 
@@ -38,7 +41,7 @@ struct Section {
     run: fn(&mut Comparison, &[vectors::Vector]),
 }
 
-const SECTIONS: [Section; 12] = [
+const SECTIONS: [Section; 15] = [
     Section {
         name: "vectors",
         needs: None,
@@ -58,6 +61,11 @@ const SECTIONS: [Section; 12] = [
         name: "examples of hold",
         needs: None,
         run: |c, _| examples::hold(c),
+    },
+    Section {
+        name: "examples of the watcher",
+        needs: Some(Entry::WatchEvent),
+        run: |c, _| examples::watcher(c),
     },
     Section {
         name: "tables that the part's own moves reach, counted",
@@ -80,6 +88,11 @@ const SECTIONS: [Section; 12] = [
         run: |c, _| sections::small_histories(c),
     },
     Section {
+        name: "all small records of a watcher of one and two threads, consistent or not",
+        needs: Some(Entry::WatchEvent),
+        run: |c, _| sections::small_records(c),
+    },
+    Section {
         name: "scripts with each byte edited",
         needs: Some(Entry::Run),
         run: |c, _| sections::edited_scripts(c),
@@ -88,6 +101,11 @@ const SECTIONS: [Section; 12] = [
         name: "walks",
         needs: None,
         run: |c, _| sections::walks(c, SEED),
+    },
+    Section {
+        name: "whole watches",
+        needs: Some(Entry::WatchEvent),
+        run: |c, _| sections::watches(c, SEED),
     },
     Section {
         name: "plans made by the move",
@@ -130,7 +148,7 @@ fn find_faults(vectors: &[vectors::Vector]) -> (u64, u64) {
     for fault in faults::FAULTS {
         // The vectors alone would find some: what is tested is the rest.
         for (vectors, with) in [(vectors, "with"), (&[][..], "without")] {
-            let part = faults::Faulty { fault };
+            let part = faults::Faulty::new(fault);
             let mut c = Comparison::silent(&part, &ENTRIES);
             compare_all(&mut c, vectors);
             if c.failed > 0 {

@@ -1,9 +1,10 @@
 //! Every entry of the part in plain Rust over slices: the table and its moves,
-//! the nodes, the open moves, histories, plans and scripts.
+//! the nodes, the open moves, histories, plans, scripts and the watcher.
 //!
 //! It shares no code with the part. It makes the same tests in the same order,
-//! and judges a table in one pass over its threads. Its entries are not
-//! inlined: a benchmark then calls them as it calls the archive's.
+//! and judges a table or a watcher's record in one pass over its threads. Its
+//! entries are not inlined: a benchmark then calls them as it calls the
+//! archive's.
 
 /// The largest number of threads.
 pub const MAX_THREADS: usize = 200;
@@ -52,7 +53,8 @@ pub const fn takes_target(mov: u16) -> bool {
     mov == SET || mov == CLEAR
 }
 
-/// The refusals, by their numbers, in checking order.
+/// The refusals, by their numbers, in checking order; but 13 is tested after 1
+/// and before 9.
 #[derive(Clone, Copy, PartialEq, Eq, Debug)]
 pub enum Refusal {
     BadSize = 1,
@@ -67,6 +69,7 @@ pub enum Refusal {
     NotNext = 10,
     Occupied = 11,
     NoRoom = 12,
+    Inconsistent = 13,
 }
 
 /// What a move answers. A shown event is given by its code.
@@ -733,4 +736,88 @@ fn run_line(
             apply(table, threads, forbidden, thread, mov, target),
         ))),
     }
+}
+
+// --------------------------------------------------------------- the watcher
+
+/// The number of bytes of a watcher's record.
+pub const RECORD_SIZE: usize = 3 + MAX_THREADS;
+/// Where a record's totals stand: how many are in shared and in exclusive.
+pub const SHARED_TOTAL: usize = 1;
+pub const EXCLUSIVE_TOTAL: usize = 2;
+/// Where the places start, one for each of 200 threads: a thread's last event,
+/// 0 before its first and after a 4 or 8.
+pub const PLACES: usize = 3;
+
+/// A watcher's record: N, the totals and the places.
+pub type Record = [u8; RECORD_SIZE];
+
+/// Starts a watch of `threads` threads.
+#[inline(never)]
+pub fn watch_start(threads: u16, record: &mut Record) -> Result<(), Refusal> {
+    if threads == 0 || usize::from(threads) > MAX_THREADS {
+        return Err(Refusal::BadSize);
+    }
+    record.fill(0);
+    record[0] = threads as u8;
+    Ok(())
+}
+
+/// Refusals 1 and 13: the record's N, then whether it is consistent. Gives N.
+fn inspect(record: &Record) -> Result<usize, Refusal> {
+    let threads = usize::from(record[0]);
+    if threads == 0 || threads > MAX_THREADS {
+        return Err(Refusal::BadSize);
+    }
+    let (places, beyond) = record[PLACES..].split_at(threads);
+    let (mut shared, mut exclusive, mut wrong) = (0, 0, 0);
+    for &place in places {
+        shared += u8::from(place == 2);
+        exclusive += u8::from(place == 6);
+        wrong |= u8::from(place == 4 || place > 7);
+    }
+    for &entry in beyond {
+        wrong |= entry;
+    }
+    let excluded = exclusive == 0 || (exclusive == 1 && shared == 0);
+    let counted = record[SHARED_TOTAL] == shared && record[EXCLUSIVE_TOTAL] == exclusive;
+    if wrong != 0 || !excluded || !counted {
+        return Err(Refusal::Inconsistent);
+    }
+    Ok(threads)
+}
+
+/// Judges one event and, where it is good, writes it to the record.
+#[inline(never)]
+pub fn watch_event(record: &mut Record, thread: u16, event: u16) -> Result<(), Refusal> {
+    let threads = inspect(record)?;
+    let thread = usize::from(thread);
+    if !(1..=8).contains(&event) || thread >= threads {
+        return Err(Refusal::UnknownPair);
+    }
+    let event = event as u8;
+    let place = record[PLACES + thread];
+    let next = event == place + 1 || (place == 0 && event == 5);
+    if !next {
+        return Err(Refusal::NotNext);
+    }
+    let [_, shared, exclusive, ..] = record;
+    match event {
+        2 if *exclusive > 0 => return Err(Refusal::Occupied),
+        6 if *shared > 0 || *exclusive > 0 => return Err(Refusal::Occupied),
+        2 => *shared += 1,
+        3 => *shared -= 1,
+        6 => *exclusive += 1,
+        7 => *exclusive -= 1,
+        _ => (),
+    }
+    record[PLACES + thread] = if event == 4 || event == 8 { 0 } else { event };
+    Ok(())
+}
+
+/// Whether anybody is inside, in shared or in exclusive.
+#[inline(never)]
+pub fn watch_inside(record: &Record) -> Result<bool, Refusal> {
+    inspect(record)?;
+    Ok(record[SHARED_TOTAL] > 0 || record[EXCLUSIVE_TOTAL] > 0)
 }

@@ -3,9 +3,10 @@
 //!
 //! An answer's low byte is the refusal's number, 0 where accepted. The rest is
 //! the refusal's place, or the number answered: a count, or for the move the
-//! event's code, 0 for quiet.
+//! event's code, 0 for quiet. The watcher answers 0, and its question 1 for yes
+//! and 0 for no.
 
-use crate::model::{self, Answer, Outcome};
+use crate::model::{self, Answer, Outcome, Record, Refusal};
 
 /// The entries of the part. Those that an archive lacks keep the default.
 pub trait Part {
@@ -21,6 +22,15 @@ pub trait Part {
     }
     fn run(&self, _script: &[u8], _out: &mut [u8]) -> u64 {
         panic!("the part has no run")
+    }
+    fn watch_start(&self, _threads: u16, _record: &mut Record) -> u64 {
+        panic!("the part has no watcher")
+    }
+    fn watch_event(&self, _record: &mut Record, _thread: u16, _event: u16) -> u64 {
+        panic!("the part has no watcher")
+    }
+    fn watch_inside(&self, _record: &Record) -> u64 {
+        panic!("the part has no watcher")
     }
 }
 
@@ -51,6 +61,14 @@ fn encoded(answer: Answer) -> u64 {
     }
 }
 
+/// A watcher's answer; its refusals have place 0.
+fn watched(answer: Result<u64, Refusal>) -> u64 {
+    match answer {
+        Ok(value) => done(value),
+        Err(refusal) => refused(refusal as u64, 0),
+    }
+}
+
 impl Part for Model {
     fn fresh(&self, threads: u16, out: &mut [u8]) -> u64 {
         encoded(model::fresh(threads, out))
@@ -77,6 +95,15 @@ impl Part for Model {
     fn run(&self, script: &[u8], out: &mut [u8]) -> u64 {
         encoded(model::run(script, out))
     }
+    fn watch_start(&self, threads: u16, record: &mut Record) -> u64 {
+        watched(model::watch_start(threads, record).map(|()| 0))
+    }
+    fn watch_event(&self, record: &mut Record, thread: u16, event: u16) -> u64 {
+        watched(model::watch_event(record, thread, event).map(|()| 0))
+    }
+    fn watch_inside(&self, record: &Record) -> u64 {
+        watched(model::watch_inside(record).map(u64::from))
+    }
 }
 
 #[derive(Clone, Copy, PartialEq, Eq, PartialOrd, Ord, Debug)]
@@ -88,9 +115,12 @@ pub enum Entry {
     Check,
     Plan,
     Run,
+    WatchStart,
+    WatchEvent,
+    WatchInside,
 }
 
-pub const ENTRIES: [Entry; 7] = [
+pub const ENTRIES: [Entry; 10] = [
     Entry::Fresh,
     Entry::Move,
     Entry::Nodes,
@@ -98,6 +128,9 @@ pub const ENTRIES: [Entry; 7] = [
     Entry::Check,
     Entry::Plan,
     Entry::Run,
+    Entry::WatchStart,
+    Entry::WatchEvent,
+    Entry::WatchInside,
 ];
 
 impl Entry {
@@ -110,7 +143,17 @@ impl Entry {
             "check",
             "plan",
             "run",
+            "watch_start",
+            "watch_event",
+            "watch_inside",
         ][self as usize]
+    }
+
+    pub fn is_of_watcher(self) -> bool {
+        matches!(
+            self,
+            Entry::WatchStart | Entry::WatchEvent | Entry::WatchInside
+        )
     }
 
     /// The refusals that the entry can give.
@@ -123,13 +166,16 @@ impl Entry {
             Entry::Check => &[1, 8, 9, 10, 11],
             Entry::Plan => &[1, 8, 9, 10, 11, 12],
             Entry::Run => &[8, 12],
+            Entry::WatchStart => &[1],
+            Entry::WatchEvent => &[1, 9, 10, 11, 13],
+            Entry::WatchInside => &[1, 13],
         }
     }
 }
 
 /// One call: the entry, its numbers (0 where it has fewer), what is read and
-/// what may be written. The move's table stands in `lent`; the check lends
-/// nothing.
+/// what may be written. The move's table and the record of a watcher's start
+/// and event stand in `lent`; the check and the watcher's question lend nothing.
 #[derive(Clone, PartialEq, Eq, Debug)]
 pub struct Call {
     pub entry: Entry,
@@ -195,6 +241,30 @@ impl Call {
             lent: out,
         }
     }
+    pub fn watch_start(threads: u16, record: &Record) -> Call {
+        Call {
+            entry: Entry::WatchStart,
+            numbers: [threads, 0, 0],
+            read: vec![],
+            lent: record.to_vec(),
+        }
+    }
+    pub fn watch_event(record: &Record, thread: u16, event: u16) -> Call {
+        Call {
+            entry: Entry::WatchEvent,
+            numbers: [thread, event, 0],
+            read: vec![],
+            lent: record.to_vec(),
+        }
+    }
+    pub fn watch_inside(record: &Record) -> Call {
+        Call {
+            entry: Entry::WatchInside,
+            numbers: [0; 3],
+            read: record.to_vec(),
+            lent: vec![],
+        }
+    }
 
     /// The call in the words of the vectors' file, its bytes in hexadecimal.
     pub fn words(&self) -> String {
@@ -202,12 +272,14 @@ impl Call {
         let (read, lent) = (hex(&self.read), hex(&self.lent));
         let name = self.entry.name();
         match self.entry {
-            Entry::Fresh => format!("{name} {first} {lent}"),
+            Entry::Fresh | Entry::WatchStart => format!("{name} {first} {lent}"),
             Entry::Move => format!("{name} {lent} {first} {second} {third}"),
             Entry::Nodes | Entry::Run => format!("{name} {read} {lent}"),
             Entry::OpenMoves => format!("{name} {read} {first} {lent}"),
             Entry::Check => format!("{name} {first} {read}"),
             Entry::Plan => format!("{name} {first} {read} {lent}"),
+            Entry::WatchEvent => format!("{name} {lent} {first} {second}"),
+            Entry::WatchInside => format!("{name} {read}"),
         }
     }
 }
@@ -250,6 +322,11 @@ impl Lent {
     }
 }
 
+/// A watcher's record, which is what a call of the watcher reads or lends.
+fn record(bytes: &mut [u8]) -> &mut Record {
+    bytes.try_into().expect("a watcher's record")
+}
+
 /// Makes calls of a part, each slice between guard bytes.
 pub struct Caller<'a> {
     pub part: &'a dyn Part,
@@ -281,6 +358,9 @@ impl<'a> Caller<'a> {
             Entry::Check => self.part.check(numbers[0], read),
             Entry::Plan => self.part.plan(numbers[0], read, lent),
             Entry::Run => self.part.run(read, lent),
+            Entry::WatchStart => self.part.watch_start(numbers[0], record(lent)),
+            Entry::WatchEvent => self.part.watch_event(record(lent), numbers[0], numbers[1]),
+            Entry::WatchInside => self.part.watch_inside(record(read)),
         }
     }
 

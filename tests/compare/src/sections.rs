@@ -4,10 +4,13 @@ use crate::cases;
 use crate::comparison::Comparison;
 use crate::histories;
 use crate::model::{self, LAST_MOVE, LAST_PHASE};
-use crate::part::{done, hex, number_of, value_of, Call, Caller, Entry, Model, ENTRIES};
+use crate::model::{Record, EXCLUSIVE_TOTAL, RECORD_SIZE, SHARED_TOTAL};
+use crate::part::{done, hex, number_of, refused, value_of};
+use crate::part::{Call, Caller, Entry, Model, ENTRIES};
 use crate::random::Random;
 use crate::tables;
-use crate::vectors::{before_hold, Vector};
+use crate::vectors::{self, before_hold, Vector};
+use crate::watchers;
 
 /// Random cases for each entry.
 const CASES: usize = 200_000;
@@ -17,6 +20,20 @@ const PRINTED: [u8; 7] = [0, 1, 3, 5, 6, 7, 8];
 const FAR: [u16; 3] = [255, 256, 65535];
 /// Numbers of threads, and how many tables moves reach for each.
 const REACHED: [(usize, usize); 3] = [(1, 16), (2, 479), (3, 14_118)];
+/// Numbers of threads, and how many of the small records are consistent.
+const CONSISTENT: [(usize, usize); 2] = [(1, 7), (2, 46)];
+/// Numbers of threads of walks, plans and watches.
+const THREADS: [usize; 7] = [1, 2, 3, 4, 8, 50, 200];
+/// Requests of a walk.
+const REQUESTS: usize = 20_000;
+/// The nodes Shared and Exclusive, of those inside.
+const NODES_INSIDE: [u8; 2] = [3, 8];
+/// Events of a random list that is watched.
+const EVENTS: usize = 400;
+/// Events of a long watch: more than a history holds or 16 bits count.
+const MANY_EVENTS: usize = 70_000;
+/// The verdicts on an event of a watch.
+const VERDICTS: [u8; 4] = [0, 9, 10, 11];
 
 /// All vectors, held against the model and the part. Those that the rule of
 /// `before_hold` names are held in the form that it gives them; as they stand,
@@ -46,7 +63,7 @@ pub fn vectors(c: &mut Comparison, vectors: &[Vector]) {
     c.claim(changed > 0, || {
         format!("hold changes the answer of none of {named} vectors")
     });
-    for entry in ENTRIES {
+    for entry in vectors::entries() {
         let count = vectors
             .iter()
             .filter(|vector| vector.call.entry == entry)
@@ -327,10 +344,11 @@ fn edited_script(c: &mut Comparison, script: &[u8], refusal: usize) {
 /// left; what they show is a permitted history.
 pub fn walks(c: &mut Comparison, seed: u64) {
     let (mut requests, mut shown) = (0, 0);
-    for (round, threads) in [1, 2, 3, 4, 8, 50, 200].repeat(4).into_iter().enumerate() {
+    for (round, threads) in THREADS.repeat(4).into_iter().enumerate() {
         let mut r = Random::new(seed ^ round as u64);
-        let history = walk(c, &mut r, threads, 20_000);
-        requests += 20_000;
+        let mut history = Vec::new();
+        walk(c, &mut r, threads, |_, pair, _| history.extend(pair));
+        requests += REQUESTS;
         shown += history.len() / 2;
         permitted(c, threads, &history);
         if c.stopped() {
@@ -342,16 +360,21 @@ pub fn walks(c: &mut Comparison, seed: u64) {
     ));
 }
 
-/// Makes so many requests; gives what they show.
-fn walk(c: &mut Comparison, r: &mut Random, threads: usize, requests: usize) -> Vec<u8> {
+/// Makes the requests of a walk. `see` gets each event shown, its thread before
+/// it, and the table after it.
+fn walk(
+    c: &mut Comparison,
+    r: &mut Random,
+    threads: usize,
+    mut see: impl FnMut(&mut Comparison, [u8; 2], &[u8]),
+) {
     c.compare(&Call::fresh(
         threads as u16,
         vec![0x5a; model::table_size(threads)],
     ));
     let mut table = c.lent().to_vec();
-    let mut history = Vec::new();
     let mut thread = 0;
-    for _ in 0..requests {
+    for _ in 0..REQUESTS {
         if r.chance(1, 3) {
             thread = r.below(threads) as u16;
         }
@@ -364,10 +387,9 @@ fn walk(c: &mut Comparison, r: &mut Random, threads: usize, requests: usize) -> 
         let answer = c.compare(&Call::make_move(table.clone(), thread, mov, target));
         table.copy_from_slice(c.lent());
         if number_of(answer) == 0 && value_of(answer) > 0 {
-            history.extend([thread as u8, value_of(answer) as u8]);
+            see(c, [thread as u8, value_of(answer) as u8], &table);
         }
     }
-    history
 }
 
 /// A move for a thread: as a rule one that its phase has, with the lowest
@@ -414,7 +436,7 @@ fn permitted(c: &mut Comparison, threads: usize, history: &[u8]) {
 /// is accepted, and together they show the history.
 pub fn plans(c: &mut Comparison, seed: u64) {
     let mut moves = 0;
-    for (round, threads) in [1, 2, 3, 4, 8, 50, 200].repeat(20).into_iter().enumerate() {
+    for (round, threads) in THREADS.repeat(20).into_iter().enumerate() {
         let mut r = Random::new(seed ^ round as u64);
         let pairs = r.below(120);
         let history = histories::history(&mut r, threads, pairs, false);
@@ -459,4 +481,191 @@ fn replay(c: &mut Comparison, threads: usize, plan: &[u8], history: &[u8]) -> us
         format!("a plan for {threads} threads doesn't show its history")
     });
     plan.len() / 3
+}
+
+/// Every small record of one and two threads, consistent or not: the question,
+/// and all events of all threads, past their ranges too.
+pub fn small_records(c: &mut Comparison) {
+    for (threads, count) in CONSISTENT {
+        let before = c.passed;
+        let records = watchers::small(threads);
+        let mut consistent = 0;
+        for record in &records {
+            let answer = c.compare(&Call::watch_inside(record));
+            consistent += usize::from(number_of(answer) == 0);
+            events(c, record);
+            if c.stopped() {
+                return;
+            }
+        }
+        let made = c.passed - before;
+        c.claim(consistent == count, || {
+            format!("{threads} threads: {consistent} consistent records")
+        });
+        c.say(&format!(
+            "  {threads} threads: {} records, {consistent} of them consistent, {made} calls",
+            records.len()
+        ));
+    }
+}
+
+/// All events on one record.
+fn events(c: &mut Comparison, record: &Record) {
+    let mut call = Call::watch_event(record, 0, 0);
+    for thread in upto(3).into_iter().chain([199, 200]) {
+        // 257 is 1 where it is cut to eight bits.
+        for event in upto(9).into_iter().chain([257]) {
+            call.numbers = [thread, event, 0];
+            c.compare(&call);
+        }
+    }
+}
+
+/// A watch, and the record that its events left.
+struct Watch {
+    record: Record,
+}
+
+impl Watch {
+    fn start(c: &mut Comparison, threads: usize) -> Watch {
+        let mut record = [0x5a; RECORD_SIZE];
+        let answer = c.compare(&Call::watch_start(threads as u16, &record));
+        c.claim(answer == done(0), || {
+            format!("no watch of {threads} threads")
+        });
+        record.copy_from_slice(c.lent());
+        Watch { record }
+    }
+
+    /// The verdict on an event.
+    fn event(&mut self, c: &mut Comparison, [thread, event]: [u8; 2]) -> u64 {
+        let call = Call::watch_event(&self.record, u16::from(thread), u16::from(event));
+        let verdict = c.compare(&call);
+        self.record.copy_from_slice(c.lent());
+        verdict
+    }
+
+    /// How many are in shared and in exclusive.
+    fn totals(&self) -> [u8; 2] {
+        [SHARED_TOTAL, EXCLUSIVE_TOTAL].map(|at| self.record[at])
+    }
+
+    /// Claims what is answered to "Is anybody inside?".
+    fn inside(&self, c: &mut Comparison, inside: bool) {
+        let call = Call::watch_inside(&self.record);
+        let answer = c.compare(&call);
+        c.claim(answer == done(u64::from(inside)), || {
+            format!("anybody inside is {inside}: {}", call.words())
+        });
+    }
+}
+
+/// Whole watches: of the walks, of lists of random events, and a long one.
+pub fn watches(c: &mut Comparison, seed: u64) {
+    let mut shown = 0;
+    for (round, threads) in THREADS.repeat(4).into_iter().enumerate() {
+        let mut r = Random::new(seed ^ round as u64);
+        shown += watched_walk(c, &mut r, threads);
+        if c.stopped() {
+            return;
+        }
+    }
+    c.say(&format!("  28 walks, {shown} events, all accepted"));
+    let mut verdicts = [0; VERDICTS.len()];
+    for (round, threads) in THREADS.repeat(20).into_iter().enumerate() {
+        let mut r = Random::new(seed ^ round as u64);
+        watched_list(c, &mut r, threads, &mut verdicts);
+        if c.stopped() {
+            return;
+        }
+    }
+    c.claim(!verdicts.contains(&0), || {
+        format!("verdicts {VERDICTS:?} are given {verdicts:?} times")
+    });
+    c.say(&format!(
+        "  140 lists, {} events, verdicts {} given {verdicts:?} times",
+        140 * EVENTS,
+        numbers(&VERDICTS)
+    ));
+    long_watch(c);
+}
+
+/// A thread goes round many times, in shared and in exclusive by turns.
+fn long_watch(c: &mut Comparison) {
+    let mut watch = Watch::start(c, 2);
+    let mut accepted = true;
+    for event in (1..=8).cycle().take(MANY_EVENTS) {
+        accepted &= watch.event(c, [1, event]) == done(0);
+    }
+    c.claim(accepted, || "a long watch ended".to_string());
+    c.say(&format!("  one of {MANY_EVENTS} events, all accepted"));
+}
+
+/// Watches a walk: each event shown is accepted, and after it the totals and the
+/// question's answer are those of a count over the table's nodes. Gives the
+/// number of events.
+fn watched_walk(c: &mut Comparison, r: &mut Random, threads: usize) -> usize {
+    let mut watch = Watch::start(c, threads);
+    let mut shown = 0;
+    walk(c, r, threads, |c, pair, table| {
+        shown += 1;
+        let verdict = watch.event(c, pair);
+        c.claim(verdict == done(0), || {
+            format!("{threads} threads showed {pair:?}, the watcher answered {verdict}")
+        });
+        c.compare(&Call::nodes(table.to_vec(), vec![0x5a; threads]));
+        let count = |node: u8| c.lent().iter().filter(|&&n| n == node).count() as u8;
+        let counts = NODES_INSIDE.map(count);
+        c.claim(watch.totals() == counts, || {
+            format!(
+                "{counts:?} threads are inside, record {}",
+                hex(&watch.record)
+            )
+        });
+        watch.inside(c, counts != [0, 0]);
+    });
+    shown
+}
+
+/// Watches random events, bad ones among them: each is judged as the check
+/// judges the events accepted so far with this one added, and the question is
+/// answered by each thread's last accepted event.
+fn watched_list(
+    c: &mut Comparison,
+    r: &mut Random,
+    threads: usize,
+    verdicts: &mut [usize; VERDICTS.len()],
+) {
+    let mut watch = Watch::start(c, threads);
+    let mut accepted = Vec::new();
+    let mut last = [0; 256];
+    for _ in 0..EVENTS {
+        // A history has bytes.
+        let pair = watchers::event(r, &watch.record).map(|number| number.min(255) as u8);
+        let verdict = watch.event(c, pair);
+        let history = [&accepted[..], &pair].concat();
+        let judged = c.compare(&Call::check(threads as u16, history.clone()));
+        let index = accepted.len() as u64 / 2;
+        let right = match number_of(judged) {
+            0 => judged == done(index + 1) && verdict == done(0),
+            number => {
+                let number = u64::from(number);
+                judged == refused(number, index) && verdict == refused(number, 0)
+            }
+        };
+        c.claim(right, || {
+            format!("{threads} threads: verdict {verdict}, check {judged} of {history:?}")
+        });
+        if number_of(verdict) == 0 {
+            accepted = history;
+            last[usize::from(pair[0])] = pair[1];
+        }
+        watch.inside(c, last.contains(&2) || last.contains(&6));
+        if let Some(i) = VERDICTS.iter().position(|&v| v == number_of(verdict)) {
+            verdicts[i] += 1;
+        }
+        if c.stopped() {
+            return;
+        }
+    }
 }

@@ -9,6 +9,12 @@ use crate::part::{done, refused, Call, Entry, ENTRIES};
 use crate::scripts::map_lines;
 use crate::tables::phases_mut;
 
+/// The entries that the vectors call. They were made before 02 §2: there are
+/// none of the watcher.
+pub fn entries() -> impl Iterator<Item = Entry> {
+    ENTRIES.into_iter().filter(|entry| !entry.is_of_watcher())
+}
+
 /// A call with its answer and the lent bytes after it.
 #[derive(Clone)]
 pub struct Vector {
@@ -31,7 +37,7 @@ fn bytes(word: &str) -> Option<Vec<u8>> {
 }
 
 fn call(words: &[&str]) -> Option<Call> {
-    let entry = ENTRIES.into_iter().find(|entry| entry.name() == words[0])?;
+    let entry = entries().find(|entry| entry.name() == words[0])?;
     let number = |word: &str| word.parse().ok();
     Some(match (entry, &words[1..]) {
         (Entry::Fresh, [n, out]) => Call::fresh(number(n)?, bytes(out)?),
@@ -143,7 +149,7 @@ pub fn before_hold(vector: &Vector) -> Option<Vector> {
         }
         Entry::Nodes | Entry::OpenMoves => replace_phase(&mut old.call.read),
         Entry::Run => old.call.read = map_lines(&old.call.read, replace_hold),
-        Entry::Fresh | Entry::Check | Entry::Plan => (),
+        _ => (),
     }
     (old.call != vector.call).then_some(old)
 }
@@ -165,7 +171,7 @@ fn replace_hold(line: &[u8]) -> Option<Vec<u8>> {
 /// All vectors. That there are none of a kind is an error.
 pub fn read(dir: &Path) -> Result<Vec<Vector>, String> {
     let mut vectors = calls(dir)?;
-    for entry in ENTRIES {
+    for entry in entries() {
         if !vectors.iter().any(|vector| vector.call.entry == entry) {
             return Err(format!("calls.txt has no call of {}", entry.name()));
         }

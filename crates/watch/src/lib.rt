@@ -1,0 +1,262 @@
+// The watcher of 02 §2. What is decided is decided by value: one pass over a record's places tests it, `history::judge` judges
+// the event from its thread's place and the two totals, as it does for the check, and `after_event` gives the totals after it.
+// The places are lent as a slice, so that a record is tested and changed where it is kept, whoever keeps it; nothing here knows
+// of a record as a whole.
+use definitions::Inside;
+use definitions::MOST_THREADS;
+use definitions::Refusal;
+use definitions::Watched;
+use definitions::count_fits;
+use history::Standing;
+use history::Verdict;
+use history::judge;
+ghost use Prim.Native.Nat.{_≤_};
+ghost use mathlib.Core.Path.{_≡_};
+ghost use lib.ListN.{length, replicate};
+ghost use Rattle.definitions.specs.Answers.{answered};
+ghost use Rattle.definitions.specs.Bounds.{mostThreads};
+ghost use Rattle.definitions.specs.PlainLock.{placesIn};
+ghost use Rattle.definitions.specs.declared.Watched.the-variants.{Good, Refused};
+ghost use Rattle.definitions.specs.Watch.{consistent, watchedReply, insideReply, startReply, startRecord, recordTests, eventReply, eventRecord, questionReply};
+ghost use Rattle.watch.specs.Pass.{Room, withPlace, foundIn, emptyUpTo, foundFits};
+ghost use Rattle.watch.specs.Records.{held, Small, standingAt, Tested, Bytes};
+
+// A record but for its places: N and the two totals.
+pub struct Head {
+    pub threads: u8,
+    pub shared: u8,
+    pub exclusive: u8,
+}
+
+// What is left of it, and what is answered.
+pub struct Update {
+    pub head: Head,
+    pub answer: Watched,
+}
+
+// A request that is turned down leaves the head as it was.
+fn turned_down(head: Head, refusal: Refusal) -> Update
+    ensures { λ r. ⌜ r ≡ record { head = head; answer = Refused refusal } ⌝ }
+{
+    let answer = Watched::Refused(refusal);
+    Update { head, answer }
+}
+
+fn carried_out(head: Head) -> Update
+    ensures { λ r. ⌜ r ≡ record { head = head; answer = Good } ⌝ }
+{
+    let answer = Watched::Good;
+    Update { head, answer }
+}
+
+// What a pass finds of the threads: how many are at 2 and at 6, and whether every place is one of a round.
+struct Found {
+    shared: u8,
+    exclusive: u8,
+    rounds: bool,
+}
+
+// With one more thread.
+fn with_place(found: Found, place: u8) -> Found
+    requires { ⌜ Room found ⌝ }
+    ensures { λ r. ⌜ r ≡ withPlace found place ⌝ }
+{
+    let reader = (place == 2) as u8;
+    let writer = (place == 6) as u8;
+    let shared = found.shared + reader;
+    let exclusive = found.exclusive + writer;
+    let rounds = found.rounds & ((place <= 7) & (place != 4));
+    Found {
+        shared,
+        exclusive,
+        rounds,
+    }
+}
+
+// The pass over the threads' entries.
+fn find(threads: u8, places: &[u8]) -> Found
+    requires { ⌜ Small threads (now places) ⌝ }
+    ensures { λ r. ⌜ r ≡ foundIn (now (places .entry)) threads ⌝ }
+{
+    let mut found = Found {
+        shared: 0,
+        exclusive: 0,
+        rounds: true,
+    };
+    let count = threads as usize;
+    let mut t: usize = 0;
+    while t < count {
+        let place = places[t];
+        found = with_place(found, place);
+        t += 1;
+    }
+    found
+}
+
+// It goes on over the entries from N upward: whether all are 0.
+fn rest_is_empty(threads: u8, places: &[u8]) -> bool
+    requires { ⌜ Small threads (now places) ⌝ }
+    ensures { λ r. ⌜ r ≡ emptyUpTo threads (now (places .entry)) mostThreads ⌝ }
+{
+    let mut empty = true;
+    let mut t = threads as usize;
+    while t < MOST_THREADS as usize {
+        let place = places[t];
+        empty = empty & (place == 0);
+        t += 1;
+    }
+    empty
+}
+
+// Whether a record's totals are what the pass found, and nobody is inside beside a thread in exclusive.
+fn found_fits(head: Head, found: Found, empty: bool) -> bool
+    ensures { λ r. ⌜ r ≡ foundFits head found empty ⌝ }
+{
+    let totals = (head.shared == found.shared) & (head.exclusive == found.exclusive);
+    let apart = (found.exclusive <= 1) & ((found.exclusive == 0) | (found.shared == 0));
+    totals & (empty & (found.rounds & apart))
+}
+
+// One pass over the 200 entries.
+fn is_consistent(head: Head, places: &[u8]) -> bool
+    requires { ⌜ Small (head .threads) (now places) ⌝ }
+    ensures { λ r. ⌜ r ≡ consistent (held head (now (places .entry))) ⌝ }
+{
+    let found = find(head.threads, places);
+    let empty = rest_is_empty(head.threads, places);
+    found_fits(head, found, empty)
+}
+
+// Refusals 1 and 13.
+fn test_record(head: Head, places: &[u8]) -> Watched
+    requires { ⌜ length (now places) ≡ mostThreads ⌝ }
+    ensures { λ r. ⌜ watchedReply r ≡ answered (recordTests (held head (now (places .entry)))) tt ⌝ }
+{
+    let count = head.threads as usize;
+    if !count_fits(count) {
+        return Watched::Refused(Refusal::BadSize);
+    }
+    if !is_consistent(head, places) {
+        return Watched::Refused(Refusal::Inconsistent);
+    }
+    Watched::Good
+}
+
+// A thread's place; 0 for one that no record has an entry for.
+fn place_of(places: &[u8], thread: u16) -> u8
+    requires { ⌜ length (now places) ≡ mostThreads ⌝ }
+    ensures { λ r. ⌜ r ≡ placesIn (now (places .entry)) thread ⌝ }
+{
+    let t = thread as usize;
+    if t < MOST_THREADS as usize {
+        return places[t];
+    }
+    0
+}
+
+// Where a thread stands, with the totals of a record.
+fn standing(head: Head, place: u8) -> Standing
+    ensures { λ r. ⌜ r ≡ standingAt head place ⌝ }
+{
+    let shared = head.shared as u16;
+    let exclusive = head.exclusive as u16;
+    Standing {
+        place,
+        shared,
+        exclusive,
+    }
+}
+
+// The head after an event that fits: its totals are bytes.
+fn after_event(head: Head, after: Standing) -> Head
+    requires { ⌜ Bytes after ⌝ }
+    ensures { λ r. ⌜ r ≡ record { threads = head .threads; shared = after .shared; exclusive = after .exclusive } ⌝ }
+{
+    let readers = after.shared as u8;
+    let writers = after.exclusive as u8;
+    Head {
+        threads: head.threads,
+        shared: readers,
+        exclusive: writers,
+    }
+}
+
+// Refusals 9, 10 and 11 of an event, put to a record that passed its tests.
+fn judged(head: Head, places: &mut [u8], thread: u16, event: u16) -> Update
+    requires { ⌜ Tested (held head (now places)) ⌝ }
+    ensures { λ r. ⌜ watchedReply (r .answer) ≡ eventReply (held head (now (places .entry))) (record { thread = thread; event = event }) ⌝ }
+    ensures { λ r. ⌜ held (r .head) (now (places .exit)) ≡ eventRecord (held head (now (places .entry))) (record { thread = thread; event = event }) ⌝ }
+{
+    let place = place_of(places, thread);
+    let before = standing(head, place);
+    let threads = head.threads as u16;
+    let verdict = judge(threads, thread, event, before);
+    match verdict {
+        Verdict::Fits(after) => {
+            let t = thread as usize;
+            places[t] = after.place;
+            let left = after_event(head, after);
+            carried_out(left)
+        }
+        Verdict::Bad(refusal) => turned_down(head, refusal),
+    }
+}
+
+// Every place 0.
+fn clear(places: &mut [u8])
+    requires { ⌜ length (now places) ≡ mostThreads ⌝ }
+    ensures { λ _. ⌜ now (places .exit) ≡ replicate mostThreads 0 ⌝ }
+{
+    for at in 0..MOST_THREADS as usize {
+        places[at] = 0;
+    }
+}
+
+// A watch starts: refusal 1.
+pub fn start(count: u16, head: Head, places: &mut [u8]) -> Update
+    requires { ⌜ length (now places) ≡ mostThreads ⌝ }
+    ensures { λ r. ⌜ watchedReply (r .answer) ≡ startReply count ⌝ }
+    ensures { λ r. ⌜ held (r .head) (now (places .exit)) ≡ startRecord count (held head (now (places .entry))) ⌝ }
+{
+    let wanted = count as usize;
+    if !count_fits(wanted) {
+        return turned_down(head, Refusal::BadSize);
+    }
+    let threads = count as u8;
+    clear(places);
+    carried_out(Head {
+        threads,
+        shared: 0,
+        exclusive: 0,
+    })
+}
+
+// One event: refusals 1 and 13 of the record, then 9, 10 and 11.
+pub fn watch_event(head: Head, places: &mut [u8], thread: u16, event: u16) -> Update
+    requires { ⌜ length (now places) ≡ mostThreads ⌝ }
+    ensures { λ r. ⌜ watchedReply (r .answer) ≡ eventReply (held head (now (places .entry))) (record { thread = thread; event = event }) ⌝ }
+    ensures { λ r. ⌜ held (r .head) (now (places .exit)) ≡ eventRecord (held head (now (places .entry))) (record { thread = thread; event = event }) ⌝ }
+{
+    let tested = test_record(head, places);
+    match tested {
+        Watched::Good => judged(head, places, thread, event),
+        Watched::Refused(refusal) => turned_down(head, refusal),
+    }
+}
+
+// "Is anybody inside?": refusals 1 and 13.
+pub fn anybody_inside(head: Head, places: &[u8]) -> Inside
+    requires { ⌜ length (now places) ≡ mostThreads ⌝ }
+    ensures { λ r. ⌜ insideReply r ≡ questionReply (held head (now (places .entry))) ⌝ }
+{
+    let tested = test_record(head, places);
+    match tested {
+        Watched::Good => {
+            if (head.shared != 0) | (head.exclusive != 0) {
+                return Inside::Somebody;
+            }
+            Inside::Nobody
+        }
+        Watched::Refused(refusal) => Inside::Refused(refusal),
+    }
+}

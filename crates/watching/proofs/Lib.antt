@@ -1,0 +1,6 @@
+-- Laws first; EveryEvent has the statements.
+pub mod ShownPlaces
+pub mod EventSteps
+pub mod Questions
+pub mod Reaching
+pub mod EveryEvent

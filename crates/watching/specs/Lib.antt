@@ -1,0 +1,2 @@
+-- What the theorems on the watcher speak of besides the definitions of 02 §2.
+pub mod Verdicts

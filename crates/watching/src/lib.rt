@@ -1,0 +1,1 @@
+// Theorems on the watcher alone: proofs/EveryEvent.antt has the statements.

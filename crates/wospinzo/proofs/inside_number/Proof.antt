@@ -1,0 +1,40 @@
+-- `wospinzo::inside_number` meets its contract: at each case the number computes.
+use native.Mathlib.Nat.{zero-add}
+use mathlib.Core.Path.{sym, ap, _∙_}
+use borrow.Author.Needs.{needs}
+use Rattle.definitions.specs.Watch.{insideReply}
+use Rattle.definitions.specs.declared.Inside.{Inside}
+use Rattle.wospinzo.specs.Encoding.{encoded, insideNumber}
+use Rattle.wospinzo.proofs.inside_number.Statement.{statement}
+use Rattle.wospinzo.proofs.inside_number.Tie as tie
+
+enum-told : tie.Need-enum-told
+enum-told c = search needs
+
+enum-told-2 : tie.Need-enum-told-2
+enum-told-2 c = search needs
+
+enum-known-answer : tie.Need-enum-known-answer
+enum-known-answer c = search needs
+
+number-requires : tie.Need-number-requires
+number-requires c κs = search needs
+
+cast-result : tie.Need-cast-result
+cast-result c = search needs
+
+returns : tie.Need-returns
+unfolding encoded
+returns c = search needs
+
+returns-2 : tie.Need-returns-2
+unfolding encoded
+returns-2 c = search needs
+
+returns-3 : tie.Need-returns-3
+unfolding encoded
+returns-3 c = c .number .ensures ∙ (sym (zero-add _) ∙ sym (ap (λ (a : Inside). insideNumber (insideReply a)) (c .before .before .answer .given .1)))
+
+pub inside-number-spec : {M : Type 1} → statement M
+inside-number-spec =
+    tie.close (tie.spec enum-told enum-told-2 enum-known-answer number-requires cast-result returns returns-2 returns-3)
