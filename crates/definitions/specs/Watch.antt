@@ -19,9 +19,8 @@ use Rattle.definitions.specs.declared.Watcher.{Watcher}
 
 -- ---- the record
 
--- "A watcher record holds N, each thread's place in its round (its last event's code, 0 before the first and after a 4 or 8), and how many are in shared and in exclusive.", "and entries
--- from N upward must stay 0":
--- the record of n threads at these places
+-- "A watcher record holds N, each thread's place in its round (its last event's code, 0 before the first and after a 4 or 8), and how many are in shared and in exclusive.",
+-- "and entries from N upward must stay 0": the record of n threads at these places
 abbrev pub recordOf : ℕ → Places → Watcher
 recordOf n places =
     record {

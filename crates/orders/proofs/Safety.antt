@@ -1,6 +1,5 @@
--- What a list of requests shows is permitted by the plain lock (`shown-permitted`) and leads to the places of the table that is left (`shown-places`): a table's phases give every thread's
--- place in its round;
--- a quiet move keeps the places, and a shown event is permitted at them and advances them.
+-- What a list of requests shows is permitted by the plain lock (`shown-permitted`) and leads to the places of the table that is left (`shown-places`): a table's phases give every
+-- thread's place in its round; a quiet move keeps the places, and a shown event is permitted at them and advances them.
 use Prim.Native.Nat.{ℕ, suc, _<_}
 use native.Mathlib.Omega.{arith}
 use mathlib.Core.Bool.{Bool, not, _&&_}

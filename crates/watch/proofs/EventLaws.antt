@@ -1,5 +1,5 @@
 -- An event put to a record that passed its tests: where its thread stands is what the record's places tell (`counted`), and the verdict of the plain counts is the watcher's answer and
--- record (`fits`, `bad`).
+-- record (`fits-reply`, `fits-record`, `bad-reply`, `bad-record`).
 use Prim.Native.Nat.{ℕ, _≤_, _<_}
 use native.Mathlib.Omega.{arith}
 use mathlib.Core.List.{List, [], _∷_}

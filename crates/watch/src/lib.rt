@@ -10,7 +10,6 @@ use definitions::count_fits;
 use history::Standing;
 use history::Verdict;
 use history::judge;
-ghost use Prim.Native.Nat.{_≤_};
 ghost use mathlib.Core.Path.{_≡_};
 ghost use lib.ListN.{length, replicate};
 ghost use Rattle.definitions.specs.Answers.{answered};

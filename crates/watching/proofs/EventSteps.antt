@@ -1,6 +1,5 @@
--- One event put to the record of the events accepted so far: the answer is the plain lock's verdict, and the record left is that of the events accepted with it (`answers`, `leaves-record`),
--- which are permitted again.
--- Then the events of a whole list.
+-- One event put to the record of the events accepted so far: the answer is the plain lock's verdict, and the record left is that of the events accepted with it (`answers`,
+-- `leaves-record`), which are permitted again. Then the events of a whole list.
 use Prim.Native.Nat.{ℕ, _≤_}
 use mathlib.Core.Bool.{Bool, true, not, _&&_, and-true}
 use mathlib.Core.List.{List, [], _∷_, _++_, append-assoc, append-nil}

@@ -1,11 +1,8 @@
--- What is shown of the watcher of 02 §2, for every N of 1 to 200 and lists of events of any length, with any numbers: the verdict on each event is the plain lock's on the events accepted so
--- far with it added, and
--- the record left is that of the accepted ones (`verdict`); they are permitted, and an event is accepted exactly if it is permitted behind them (`kept-permitted`, `accepted-exactly`,
--- `accepted-throughout`);
--- 13 is exact (`consistent-exactly`); "Is anybody inside?" (`inside-counted`, `inside-watched`); and the link to the lock (`lock-watched`, `lock-record`).
--- `eventReply`, `eventRecord`, `started`, `consistent` and `questionReply` are the definitions that the promises of the three entries cite; `verdictsOn`, `acceptedOf` and `someInside` stand
--- in specs/Verdicts.
--- Here are the statements, each with a short proof from the other files of this folder.
+-- What is shown of the watcher of 02 §2, for every N of 1 to 200 and lists of events of any length, with any numbers: the verdict on each event is the plain lock's on the events
+-- accepted so far with it added, and the record left is that of the accepted ones (`verdict`); they are permitted, and an event is accepted exactly if it is permitted behind them
+-- (`kept-permitted`, `accepted-exactly`, `accepted-throughout`); 13 is exact (`consistent-exactly`); "Is anybody inside?" (`inside-counted`, `inside-watched`); and the link to the lock
+-- (`lock-watched`, `lock-record`). `eventReply`, `eventRecord`, `started`, `consistent` and `questionReply` are the definitions that the promises of the three entries cite;
+-- `verdictsOn`, `acceptedOf` and `someInside` stand in specs/Verdicts. Here are the statements, each with a short proof from the other files of this folder.
 use Prim.Native.Nat.{ℕ, _≤_}
 use mathlib.Core.Bool.{Bool, not}
 use mathlib.Core.List.{List, [], _∷_, _++_}
@@ -46,8 +43,8 @@ module _ (n : ℕ) (least : 1 ≤ n) (most : n ≤ mostThreads) where
 
   -- ---- 1. The verdict
 
-  -- From the start record, whatever events come, bad ones among them: each is answered as the plain lock's rules answer it behind the events accepted so far, and the record left is that of
-  -- the accepted events.
+  -- From the start record, whatever events come, bad ones among them: each is answered as the plain lock's rules answer it behind the events accepted so far,
+  -- and the record left is that of the accepted events.
   pub verdict : (xs : List Pair)
       → (watchReplies (started n) xs ≡ verdictsOn n [] xs)
       × (watchRecord (started n) xs ≡ recordOf n (placesAfter atStart (acceptedOf n [] xs)))

@@ -1,5 +1,5 @@
--- Every places that the plain lock shows come of some permitted list of events (`reached`). First every thread that is outside goes to its place, alone inside on its way; then those that
--- are inside enter.
+-- Whatever places the plain lock shows come of some permitted list of events (`reached`). First every thread that is outside goes to its place, alone inside on its way; then
+-- those that are inside enter.
 use Prim.Native.Nat.{ℕ, zero, suc, _≤_, _<_}
 use native.Mathlib.Omega.{arith}
 use mathlib.Core.Bool.{true, cond, not, _||_}

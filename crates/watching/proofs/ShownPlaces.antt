@@ -1,5 +1,5 @@
--- The places that the plain lock shows (`Shown`): of threads below n alone, each in its round, one thread at most in exclusive and then nobody in shared. They are so at the start and after
--- every event that is permitted (`shown-after`); a record of such places is consistent and holds just them (`record-consistent`, `record-holds`).
+-- The places that the plain lock shows (`Shown`): of threads below n alone, each in its round, one thread at most in exclusive and then nobody in shared. They are so at the start and
+-- after every event that is permitted (`shown-after`); a record of such places is consistent and holds just them (`record-consistent`, `record-holds`).
 use Prim.Native.Nat.{ℕ, _+_, _≤_, _<_}
 use native.Mathlib.Omega.{arith}
 use mathlib.Core.Bool.{Bool, cond, not}

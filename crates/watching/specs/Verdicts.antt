@@ -1,5 +1,5 @@
--- A watch by the plain lock's rules alone: no record is kept, but the events accepted so far. "its verdict on each event is the one that the plain lock's rules give for the events accepted
--- so far with this one added"
+-- A watch by the plain lock's rules alone: no record is kept, but the events accepted so far. "its verdict on each event is the one that the plain lock's rules give for the events
+-- accepted so far with this one added"
 use Prim.Native.Nat.{ℕ}
 use mathlib.Core.Bool.{Bool}
 use mathlib.Core.List.{List, [], _∷_, _++_}

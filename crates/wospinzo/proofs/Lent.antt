@@ -1,5 +1,5 @@
--- What the walks of the functions over a lent `Watcher` share. A `Watcher` is plain data: all that one owns is facts, so a walk carries the facts alone and makes what is owned of them where
--- it is asked for.
+-- What the walks of the functions over a lent `Watcher` share. A `Watcher` is plain data: all that one owns is facts, so a walk carries the facts alone and makes what is owned of them
+-- where it is asked for.
 --     vals, Holds, long-of                 a record's machine value, the facts, and that its places are 200
 --     borrowed, restored                   a `&mut Watcher` is opened, at the record's machine value and with the facts in hand, and closed at another record
 --     lent, returned                       the same of a `&Watcher`, which is looked into and shut as it was
