@@ -1,13 +1,15 @@
--- The forms of a script's lines: the lines that spell a form, then what a line says, read off the line alone.
+-- The forms of a script's lines: the lines that spell a form, then what a line says, read off the line alone; last what a line says to N threads, which is one definition for the run and for reading (02 §3).
 -- `threadsLine` and `spelled` write the line of a form; `formOf` reads a line. That the one is the inverse of the other is shown in crates/forms, proofs/Spelling.
 use Prim.Native.Nat.{ℕ, suc, _+_, _-_}
-use mathlib.Core.Bool.{Bool, cond, _&&_}
+use mathlib.Core.Bool.{Bool, false, cond, _&&_}
 use mathlib.Core.List.{List, [], _∷_, _++_}
 use lib.Dec.{eqb}
 use lib.ListN.{length, getD, take, drop}
+use Rattle.definitions.specs.Answers.{Test, testAt}
 use Rattle.definitions.specs.Bounds.{lastMove, mostDepth}
 use Rattle.definitions.specs.Codes.{setMove, clearMove}
-use Rattle.definitions.specs.Moves.{ask, namesThread}
+use Rattle.definitions.specs.Moves.{ask, namesThread, numberTests}
+use Rattle.definitions.specs.Table.{countFits}
 use Rattle.definitions.specs.Texts.{bytes, same, starts, Line, NumberRead, numberRead, decimal}
 use Rattle.definitions.specs.Threads.{every, gather, between}
 use Rattle.definitions.specs.declared.Request.{Request}
@@ -105,3 +107,33 @@ formOf line =
 -- a line's form; one that lacks its line feed is bad
 abbrev pub lineForm : Line → Form
 lineForm l = cond (l .ended) (formOf (l .text)) bad
+
+-- ---- what a line says to N threads
+
+-- the refusals of the first line, for its form or its N: "First `(threads N)`"; "a bad form is 8, a bad N 1"
+abbrev pub firstTests : Form → List Test
+firstTests (threads n) = testAt 1 1 (countFits n) ∷ []
+firstTests (request r) = testAt 1 8 false ∷ []
+firstTests note = testAt 1 8 false ∷ []
+firstTests bad = testAt 1 8 false ∷ []
+
+-- the N of the first line, 0 where it gives none
+abbrev pub threadsFirst : Form → ℕ
+threadsFirst (threads n) = n
+threadsFirst (request r) = 0
+threadsFirst note = 0
+threadsFirst bad = 0
+
+-- the refusals of a line behind the first, for its form or its numbers, with its place; a second threads line is a bad form
+abbrev pub lineTests : ℕ → ℕ → Form → List Test
+lineTests place n (threads m) = testAt place 8 false ∷ []
+lineTests place n (request r) = numberTests place n r
+lineTests place n note = []
+lineTests place n bad = testAt place 8 false ∷ []
+
+-- the request that it states
+abbrev pub requestIn : Form → List Request
+requestIn (threads n) = []
+requestIn (request r) = r ∷ []
+requestIn note = []
+requestIn bad = []

@@ -16,3 +16,4 @@ pub mod Chains
 pub mod Texts
 pub mod Forms
 pub mod Run
+pub mod Scripts

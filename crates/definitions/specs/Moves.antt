@@ -3,10 +3,10 @@
 -- `moveReply` and `moveTable` are the same on the byte table, sized first, and are what the move entry's promise cites.
 use Prim.Native.Nat.{ℕ}
 use mathlib.Core.Bool.{Bool, cond, not, _&&_, _||_}
-use mathlib.Core.List.{List, [], _∷_}
+use mathlib.Core.List.{List, [], _∷_, _++_}
 use lib.Dec.{leb, ltb, eqb}
 use lib.ListN.{getD}
-use Rattle.definitions.specs.Answers.{Reply, Seen, shown, quiet, isAccepted, leaves, Test, test, answered}
+use Rattle.definitions.specs.Answers.{Reply, Seen, shown, quiet, isAccepted, leaves, Test, test, testAt, answered}
 use Rattle.definitions.specs.Bounds.{lastMove, noTarget}
 use Rattle.definitions.specs.Codes.{go, setMove, clearMove, hold}
 use Rattle.definitions.specs.Phases.{hasMove}
@@ -137,15 +137,24 @@ takesMutex phase mv = eqb mv go && eqb phase 9 || eqb mv hold && eqb phase 4
 abbrev pub mustWait : ℕ → ℕ → ℕ → Bool
 mustWait phase mutex mv = takesMutex phase mv && eqb mutex 1
 
--- the refusals 3 to 7 of a request, in their order
-abbrev pub requestTests : Table → Request → List Test
-requestTests s r =
-    test 3 (ltb (r .thread) (s .threads))
-    ∷ test 4 (leb (r .mv) lastMove)
-    ∷ test 5 (targetFits (s .threads) (r .mv) (r .target))
-    ∷ test 6 (hasMove (r .mv) (s .phase (r .thread)))
+-- the refusals 3, 4 and 5 of a request to N threads, which are those of its numbers, in their order
+abbrev pub numberTests : ℕ → ℕ → Request → List Test
+numberTests place n r =
+    testAt place 3 (ltb (r .thread) n)
+    ∷ testAt place 4 (leb (r .mv) lastMove)
+    ∷ testAt place 5 (targetFits n (r .mv) (r .target))
+    ∷ []
+
+-- 6 and 7, which are those of the table
+abbrev pub phaseTests : Table → Request → List Test
+phaseTests s r =
+    test 6 (hasMove (r .mv) (s .phase (r .thread)))
     ∷ test 7 (not (mustWait (s .phase (r .thread)) (s .mutex) (r .mv)))
     ∷ []
+
+-- the refusals 3 to 7 of a request
+abbrev pub requestTests : Table → Request → List Test
+requestTests s r = numberTests 0 (s .threads) r ++ phaseTests s r
 
 -- with refusal 2 before them
 abbrev pub moveTests : Table → Request → List Test

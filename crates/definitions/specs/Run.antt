@@ -5,12 +5,12 @@ use mathlib.Core.Bool.{cond}
 use mathlib.Core.List.{List, [], _∷_, _++_}
 use lib.Dec.{leb}
 use lib.ListN.{length, getD}
-use Rattle.definitions.specs.Answers.{Reply, accepted, refused, Seen, shown, quiet, test, Delivery, counted}
+use Rattle.definitions.specs.Answers.{Reply, accepted, refused, Seen, shown, quiet, test, answered, Delivery, counted}
 use Rattle.definitions.specs.Bounds.{mostScript}
-use Rattle.definitions.specs.Forms.{Form, threads, request, note, bad, lineForm}
+use Rattle.definitions.specs.Forms.{Form, lineForm, firstTests, threadsFirst, lineTests, requestIn}
 use Rattle.definitions.specs.Moves.{moveReply, moveTable}
 use Rattle.definitions.specs.PlainLock.{Pair}
-use Rattle.definitions.specs.Table.{countFits, fresh}
+use Rattle.definitions.specs.Table.{tableOf, fresh}
 use Rattle.definitions.specs.Texts.{bytes, Line, linesOf, decimal}
 use Rattle.definitions.specs.declared.Request.{Request}
 
@@ -62,12 +62,14 @@ abbrev pub turnFor : Request → Reply Seen → Turn
 turnFor r (accepted seen) = makes r seen
 turnFor r (refused number place) = stops number
 
--- a second threads line is a bad form
+-- what the line says: a refusal of its form or its numbers, no request, or one
+abbrev pub turnSaid : List ℕ → Reply (List Request) → Turn
+turnSaid table (refused number place) = stops number
+turnSaid table (accepted []) = passes
+turnSaid table (accepted (r ∷ rs)) = turnFor r (moveReply table r)
+
 abbrev pub turnOf : List ℕ → Form → Turn
-turnOf table (threads n) = stops 8
-turnOf table (request r) = turnFor r (moveReply table r)
-turnOf table note = passes
-turnOf table bad = stops 8
+turnOf table form = turnSaid table (answered (lineTests 0 (tableOf table .threads) form) (requestIn form))
 
 -- what is printed from a line on: `table` is the table before it, `line` its number, `steps` the moves made before it
 unfoldable pub printed : List ℕ → ℕ → ℕ → List Line → List ℕ
@@ -79,12 +81,13 @@ printed table line steps (l ∷ ls) =
       | makes r seen ↦ eventLine (r .thread) seen ++ printed (moveTable table r) (suc line) (suc steps) ls
     ]
 
--- "First `(threads N)`": the run starts fresh, at line 2; anything else is a bad form
+-- "The run starts fresh", at line 2, with the N of the first line, or it is turned down there
+abbrev pub printedFor : Reply ℕ → List Line → List ℕ
+printedFor (accepted n) ls = printed (fresh n) 2 0 ls
+printedFor (refused number line) ls = refusedLine number line
+
 unfoldable pub printedFirst : Form → List Line → List ℕ
-printedFirst (threads n) ls = cond (countFits n) (printed (fresh n) 2 0 ls) (refusedLine 1 1)
-printedFirst (request r) ls = refusedLine 8 1
-printedFirst note ls = refusedLine 8 1
-printedFirst bad ls = refusedLine 8 1
+printedFirst form ls = printedFor (answered (firstTests form) (threadsFirst form)) ls
 
 -- the whole output of a run; "an empty script's `(refused 8 1)`"
 unfoldable pub runText : List Line → List ℕ

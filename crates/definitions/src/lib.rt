@@ -192,3 +192,12 @@ pub enum Inside {
     Nobody,
     Refused(Refusal),
 }
+
+// What reading a script answers: N and the number of bytes written (02 §3).
+pub enum Reading {
+    Read {
+        threads: u8,
+        bytes: usize,
+    },
+    Refused(Refusal, usize),
+}

@@ -13,16 +13,17 @@ use lib.ListN.{length, take, drop}
 use Rattle.definitions.specs.Answers.{accepted, refused, filled, deliveryReply, deliveryOutput}
 use Rattle.definitions.specs.Bounds.{mostThreads}
 use Rattle.definitions.specs.Chains.{historyIn, history, requestsOf}
-use Rattle.definitions.specs.Forms.{Form, threads, request, note, bad, lineForm}
+use Rattle.definitions.specs.Forms.{Form, threads, request, note, bad, lineForm, threadsFirst}
 use Rattle.definitions.specs.Phases.{rows}
 use Rattle.definitions.specs.PlainLock.{Pair, pairsOf, atStart, permitted, checkReply}
 use Rattle.definitions.specs.Plan.{plan, bytesOf, planEntry}
 use Rattle.definitions.specs.Run.{eventLines, runOutputOf}
+use Rattle.definitions.specs.Scripts.{threadsOfLines, threadsOf}
 use Rattle.definitions.specs.Table.{freshTable, countFits, fresh}
 use Rattle.definitions.specs.Texts.{Line, linesOf}
 use Rattle.definitions.specs.Threads.{every}
 use Rattle.definitions.specs.declared.Request.{Request}
-use Rattle.runs.specs.Requests.{Closes, movesFrom, movesFirst, movesOfLines, movesOf, threadsFirst, threadsOfLines, threadsOf}
+use Rattle.runs.specs.Requests.{Closes, movesFrom, movesFirst, movesOfLines, movesOf}
 use Rattle.orders.specs.Histories.{mostEvents, historyBytes, AllBytes, Passes, FirstBad, Makes}
 use Rattle.orders.specs.Rounds.{placeOf}
 use Rattle.history.proofs.PlainLaws.{permitted-is}

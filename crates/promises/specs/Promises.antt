@@ -31,7 +31,7 @@ use Rattle.definitions.specs.declared.Watcher.{Watcher}
 use Rattle.forms.specs.Grammar.{numberBound, Spellable, Spells}
 use Rattle.orders.specs.Histories.{mostEvents, historyBytes, AllBytes, Passes, FirstBad, Makes}
 use Rattle.orders.specs.Rounds.{placesOf}
-use Rattle.runs.specs.Requests.{Closes, requestsIn, movesOf, threadsOf, moveLines}
+use Rattle.runs.specs.Requests.{Closes, movesOf}
 use Rattle.soundness.specs.Pass.{foundOf, passes}
 use Rattle.theory.specs.Outputs.{Delivered}
 use Rattle.theory.specs.Statements.{OutsideView, writesMutex, MayWrite, Disciplined, atMutex, localMove, Agree, Stands}

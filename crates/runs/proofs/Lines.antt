@@ -15,6 +15,7 @@ use Rattle.definitions.specs.Run.{Turn, stops, passes, makes, turnFor, turnOf}
 use Rattle.definitions.specs.Texts.{bytes, same, starts, lineFeed, Line, inFront, linesOf, decimalWithin, decimal, NumberRead, numberRead}
 use Rattle.definitions.specs.Threads.{every, implies}
 use Rattle.definitions.specs.declared.Request.{Request}
+use Rattle.theory.proofs.LineTurns.{numbers, request-either}
 use Rattle.theory.proofs.PlainMoves.{plain-e, plain-form}
 use Rattle.theory.proofs.Quantifiers.{every-at}
 use Rattle.theory.proofs.Tests.{T-true, and-l, and-r, implies-e, cond-either}
@@ -169,8 +170,10 @@ Does table size passes = Unit {0}
 Does table size (makes r seen) = (moveReply table r ≡ accepted seen) × LineFits size (r .thread) (r .mv)
 
 form-does : (table : List ℕ) (size : ℕ) (f : Form) → Long size f → Does table size (turnOf table f)
+unfolding answered
 form-does table size (threads n) w = omega arith
-form-does table size (request r) w = by (moveReply table r) refl
+form-does table size (request r) w =
+    request-either table r (Does table size) (λ number place e. refused-small (numbers table r) (r ∷ []) number place (omega arith, (omega arith, (omega arith, tt))) e) (by (moveReply table r) refl)
   where
     by : (x : Reply Seen) → moveReply table r ≡ x → Does table size (turnFor r x)
     by (accepted seen) e = (e, w)

@@ -10,16 +10,18 @@ use mathlib.Core.Logic.{_⊎_, inl, inr, ⊎-elim}
 use mathlib.Core.Path.{_≡_, refl, sym, subst, ap, _∙_}
 use lib.Dec.{T}
 use lib.ListN.{length, getD, take, drop}
-use Rattle.definitions.specs.Answers.{Reply, accepted, refused, isAccepted, Seen, shown, quiet}
+use Rattle.definitions.specs.Answers.{Reply, accepted, refused, isAccepted, Seen, shown, quiet, answered}
 use Rattle.definitions.specs.Chains.{pairFor, historyIn, afterIn, acceptsAllIn, history, tableAfter, acceptsAll}
-use Rattle.definitions.specs.Forms.{Form, threads, request, note, bad, lineForm}
+use Rattle.definitions.specs.Forms.{Form, threads, request, note, bad, lineForm, threadsFirst, requestIn}
 use Rattle.definitions.specs.Moves.{acceptsIn, moveReply, moveTable}
 use Rattle.definitions.specs.PlainLock.{Pair}
 use Rattle.definitions.specs.Run.{eventLine, eventLines, stepsLine, refusedLine, Turn, stops, passes, makes, turnFor, turnOf, printed, printedFirst, runText, runOutputOf}
+use Rattle.definitions.specs.Scripts.{requestsIn, threadsOfLines, threadsOf, moveLines}
 use Rattle.definitions.specs.Table.{countFits, byteTable, fresh}
 use Rattle.definitions.specs.Texts.{Line, linesOf}
 use Rattle.definitions.specs.declared.Request.{Request}
-use Rattle.runs.specs.Requests.{requestIn, requestsIn, movesFrom, movesFirst, movesOfLines, movesOf, threadsFirst, threadsOfLines, threadsOf, moveLines, Closes}
+use Rattle.runs.specs.Requests.{movesFrom, movesFirst, movesOfLines, movesOf, Closes}
+use Rattle.theory.proofs.LineTurns.{first-printed, request-either}
 use Rattle.theory.proofs.Tests.{true-T, and-i}
 use Rattle.runs.proofs.LastLine.{steps-once, steps-not-refused}
 
@@ -40,8 +42,9 @@ Says table f passes = requestIn f ≡ []
 Says table f (makes r seen) = (moveReply table r ≡ accepted seen) × (requestIn f ≡ r ∷ [])
 
 form-says : (table : List ℕ) (f : Form) → Says table f (turnOf table f)
+unfolding answered
 form-says table (threads n) = tt
-form-says table (request r) = by (moveReply table r) refl
+form-says table (request r) = request-either table r (Says table (request r)) (λ number place e. tt) (by (moveReply table r) refl)
   where
     by : (x : Reply Seen) → moveReply table r ≡ x → Says table (request r) (turnFor r x)
     by (accepted seen) e = (e, refl)
@@ -205,8 +208,8 @@ not-started n ls number which =
     by (inr e) = inr (ap (λ (k : ℕ). refusedLine k 1) e)
 
 first-run : (f : Form) (ls : List Line) → WholeRun (threadsFirst f) ls (movesFirst f ls) (printedFirst f ls)
-unfolding printedFirst
-first-run (threads n) ls = by (countFits n) refl
+unfolding printedFirst answered
+first-run (threads n) ls = subst (WholeRun n ls (movesFirst (threads n) ls)) (sym (first-printed n ls)) (by (countFits n) refl)
   where
     by : (b : Bool) → countFits n ≡ b → WholeRun n ls (cond b (movesFrom (fresh n) ls) []) (cond b (printed (fresh n) 2 0 ls) (refusedLine 1 1))
     by true e =

@@ -3,9 +3,10 @@
 use Prim.Native.Nat.{ℕ, suc, _+_, _*_, _≤_, _<_}
 use native.Mathlib.Omega.{arith}
 use mathlib.Core.List.{List, [], _∷_, _++_}
+use mathlib.Core.Path.{sym, subst}
 use lib.Dec.{le→leb}
 use lib.ListN.{length, length-append}
-use Rattle.definitions.specs.Answers.{accepted, filled}
+use Rattle.definitions.specs.Answers.{accepted, answered, filled}
 use Rattle.definitions.specs.Bounds.{mostScript, enoughOutput}
 use Rattle.definitions.specs.Forms.{lineForm, Form, threads, request, note, bad}
 use Rattle.definitions.specs.Moves.{moveTable}
@@ -14,6 +15,7 @@ use Rattle.definitions.specs.Table.{tableOf, countFits, fresh}
 use Rattle.definitions.specs.Texts.{bytes, Line, linesOf}
 use Rattle.theory.specs.Outputs.{Delivered}
 use Rattle.runs.specs.Length.{longestOutput}
+use Rattle.theory.proofs.LineTurns.{first-printed}
 use Rattle.theory.proofs.Numbers.{tens, decimal-short}
 use Rattle.theory.proofs.Outputs.{whole}
 use Rattle.theory.proofs.Replies.{pass, no-test}
@@ -63,11 +65,13 @@ bound table line steps (l ∷ ls) below few =
 -- ---- the whole output
 
 first-bound : (f : Form) (ls : List Line) → 2 + length ls < tens 5 → length (printedFirst f ls) ≤ 2 * sizeOf ls + 18
-unfolding printedFirst
+unfolding printedFirst answered
 first-bound (threads n) ls few =
-    cond-either (λ (xs : List ℕ). length xs ≤ 2 * sizeOf ls + 18) (countFits n) (printed (fresh n) 2 0 ls) (refusedLine 1 1)
+    let short : List ℕ → Type 0 = λ xs. length xs ≤ 2 * sizeOf ls + 18 in
+    subst short (sym (first-printed n ls))
+    (cond-either short (countFits n) (printed (fresh n) 2 0 ls) (refusedLine 1 1)
     (λ t. let rest = bound (fresh n) 2 0 ls (omega arith) few in let none = fresh-potential n in omega arith)
-    (λ t. let last = refused-short 1 1 (omega arith) (omega arith) in omega arith)
+    (λ t. let last = refused-short 1 1 (omega arith) (omega arith) in omega arith))
 first-bound (request r) ls few = let last = refused-short 8 1 (omega arith) (omega arith) in omega arith
 first-bound note ls few = let last = refused-short 8 1 (omega arith) (omega arith) in omega arith
 first-bound bad ls few = let last = refused-short 8 1 (omega arith) (omega arith) in omega arith

@@ -9,7 +9,7 @@ use borrow.Author.Tests.{le-leb, lt-leb}
 use lib.Dec.{T, leb, eqb, leb→le}
 use lib.ListN.{length, take, drop}
 use lib.Seq.{take-at}
-use Rattle.definitions.specs.Answers.{Reply, accepted, refused, isAccepted, numberOf, Test, test, filled, counted}
+use Rattle.definitions.specs.Answers.{Reply, accepted, refused, isAccepted, numberOf, Test, test, answered, filled, counted}
 use Rattle.definitions.specs.Bounds.{mostScript, mostThreads}
 use Rattle.definitions.specs.Forms as spec
 use Rattle.definitions.specs.Forms.{formOf}
@@ -40,6 +40,7 @@ use Rattle.lines.proofs.Next as next
 use Rattle.runs.proofs.Suffices.{suffices}
 use Rattle.theory.proofs.Bytes.{fresh-table}
 use Rattle.theory.proofs.Lengths.{fresh-length}
+use Rattle.theory.proofs.LineTurns.{first-printed}
 use Rattle.theory.proofs.Outputs.{turned-down, whole, with-tests}
 use Rattle.theory.proofs.Quantifiers.{howMany-none}
 use Rattle.theory.proofs.Replies.{failed, pass, no-test}
@@ -116,12 +117,10 @@ module _ (n : ℕ) {place place′ : List ℕ} (long : length place ≡ 603) {a 
 
 module _ (n : ℕ) (ls : List texts.Line) where
   pub from-bad : countFits n ≡ false → printedFirst (spec.threads n) ls ≡ refusedLine 1 1
-  unfolding printedFirst
-  from-bad e = rw e
+  from-bad e = first-printed n ls ∙ rw e
 
   pub from-fresh : countFits n ≡ true → printedFirst (spec.threads n) ls ≡ printed (fresh n) 2 0 ls
-  unfolding printedFirst
-  from-fresh e = rw e
+  from-fresh e = first-printed n ls ∙ rw e
 
 pub begins-fresh : {script : List ℕ} {start : ℕ} {history : List ℕ} (n : ℕ) → start ≤ length script → Roomy script history → (table : List ℕ) → countFits n ≡ true → table ≡ fresh n
     → Begun script start table history
@@ -132,7 +131,7 @@ begins-fresh n s r table e f = rw f (record { starts = s; room = r; tested = fre
 module _ (script : List ℕ) where
   -- it is missing, or lacks its line feed: the tags 1 and 2 of `Next`
   pub no-first-line : (x : Next) → NextAt script 0 x → OneOf (1 ∷ 2 ∷ []) (tagOf next.the-type x) → runOutputOf script ≡ refusedLine 8 1
-  unfolding runText printedFirst
+  unfolding runText printedFirst answered
   no-first-line (Line end) l k = absurd (⊎-elim (λ e. omega arith) (λ e. omega arith) k)
   no-first-line Unended u k = ap runText (u .lines)
   no-first-line Done d k = ap runText (d .lines)
@@ -147,7 +146,7 @@ module _ (script : List ℕ) where
 
     -- it says something else: the tags 1 to 3 of `Form`
     pub no-threads : OneOf (1 ∷ 2 ∷ 3 ∷ []) (tagOf form′.the-type f) → runOutputOf script ≡ refusedLine 8 1
-    unfolding printedFirst
+    unfolding printedFirst answered
     no-threads k = by f refl k
       where
         by : (g : Form) → f ≡ g → OneOf (1 ∷ 2 ∷ 3 ∷ []) (tagOf form′.the-type g) → runOutputOf script ≡ refusedLine 8 1

@@ -7,6 +7,7 @@ use mathlib.Core.List.{List, _++_}
 use mathlib.Core.Path.{_≡_, refl, sym, subst, ap, _∙_}
 use lib.Dec.{T}
 use lib.ListN.{take, drop}
+use Rattle.definitions.specs.Answers.{answered}
 use Rattle.definitions.specs.Forms.{formOf}
 use Rattle.definitions.specs.Moves.{moveTable}
 use Rattle.definitions.specs.PlainLock.{pairsOf}
@@ -30,7 +31,7 @@ module _ (script : List ℕ) (from : ℕ) (table : List ℕ) (line steps : ℕ) 
   at-done d = ap (printed table line steps) (d .lines)
 
   pub at-unended : UnendedAt script from → printedAt ≡ refusedLine 8 line
-  unfolding printed
+  unfolding printed answered
   at-unended u = ap (printed table line steps) (u .lines)
 
   module _ (end : ℕ) (l : LineAt script from end) where

@@ -24,6 +24,7 @@ pub mod MoveWrites
 -- the theorems
 pub mod Storages
 pub mod SoundKept
+pub mod LineTurns
 pub mod Figure1
 pub mod Discipline
 pub mod OpenMovesExact

@@ -2,7 +2,8 @@
 use Prim.Native.Nat.{ℕ}
 use mathlib.Core.Bool.{Bool, true, false, cond, not, _&&_}
 use mathlib.Core.List.{List, [], _∷_, _++_}
-use mathlib.Core.Path.{_≡_, refl, subst, ap, _∙_}
+use mathlib.Core.Logic.{_⊎_, inl, inr}
+use mathlib.Core.Path.{_≡_, refl, sym, subst, ap, _∙_}
 use lib.Dec.{T}
 use Rattle.definitions.specs.Answers.{Reply, accepted, refused, isAccepted, leaves, Test, answered, passesAll}
 use Rattle.theory.proofs.Tests.{and-l, and-r, and-i, cond-yes, cond-no}
@@ -65,6 +66,14 @@ module _ {A : Type 0} (a : A) where
           → cond p (answered (ts ++ us) a) (refused (t .number) (t .place)) ≡ refused number place
       by true d rec = rec d
       by false d rec = cc
+
+  -- either all are passed, or the first that isn't answers
+  pub passed-or-refused : (ts : List Test) → T (passesAll ts) ⊎ ((number : ℕ) × (place : ℕ) × (answered ts a ≡ refused number place))
+  passed-or-refused ts = by (answered ts a) refl (accepted-is ts)
+    where
+      by : (x : Reply A) → answered ts a ≡ x → isAccepted (answered ts a) ≡ passesAll ts → T (passesAll ts) ⊎ ((number : ℕ) × (place : ℕ) × (answered ts a ≡ refused number place))
+      by (accepted b) e d = inl (subst T (sym (ap isAccepted e) ∙ d) tt)
+      by (refused number place) e d = inr (number, place, e)
 
 -- ---- what is left
 

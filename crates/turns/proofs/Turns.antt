@@ -4,7 +4,7 @@ use native.Mathlib.Omega.{arith}
 use mathlib.Core.List.{List, [], _∷_}
 use mathlib.Core.Path.{_≡_, refl, sym, subst, ap, _∙_}
 use lib.Dec.{T}
-use Rattle.definitions.specs.Answers.{Reply, isAccepted, Seen, shown, quiet, codeOf, numberOf, outcomeReply}
+use Rattle.definitions.specs.Answers.{Reply, isAccepted, Seen, shown, quiet, codeOf, numberOf, outcomeReply, answered}
 use Rattle.definitions.specs.Forms.{formOf}
 use Rattle.definitions.specs.Moves.{moveReply}
 use Rattle.definitions.specs.Run.{Turn, makes, turnFor, turnOf}
@@ -20,9 +20,11 @@ use Rattle.forms.specs.Readings.{formFor}
 use Rattle.forms.specs.declared.Form.{Form}
 use Rattle.forms.specs.declared.Form.the-variants as form
 use Rattle.theory.specs.Outputs.{RoomAt, PutAt}
+use Rattle.theory.specs.Tables.{SoundBytes}
 use Rattle.turns.specs.Steps.{pairBytes, added, PassedOn, StoppedBy, Stepped}
 use Rattle.turns.specs.declared.Step.{Step}
 use Rattle.theory.proofs.Bytes.{sized-e}
+use Rattle.theory.proofs.LineTurns.{request-turn}
 use Rattle.theory.proofs.Outputs.{none}
 use Rattle.theory.proofs.Storages.{accepts-e}
 use Rattle.theory.proofs.Ways.{accepted-e}
@@ -73,20 +75,26 @@ module _ (line : List ℕ) (f : Form) (read : formFor f ≡ formOf line) (table 
   form-turn g e = ap (turnOf table) (sym read ∙ ap formFor e)
 
   pub threads-stops : (n : ℕ) (history : List ℕ) → f ≡ form.Threads n → StoppedBy (turnOf table (formOf line)) history history 8
+  unfolding answered
   threads-stops n history e = record { stopped = form-turn (form.Threads n) e; kept = refl }
 
   pub bad-stops : (history : List ℕ) → f ≡ form.Bad → StoppedBy (turnOf table (formOf line)) history history 8
+  unfolding answered
   bad-stops history e = record { stopped = form-turn form.Bad e; kept = refl }
 
   pub note-passes : (count : ℕ) (history : List ℕ) (at : ℕ) → TestedTable table count → f ≡ form.Note → PassedOn (turnOf table (formOf line)) table history at table history 0 count at
+  unfolding answered
   note-passes count history at h e =
       rw (form-turn form.Note e)
       (record { passed = refl; bytes = refl; put = none history at; made = refl; count = h .count })
 
-  module _ (r : Request) (history : List ℕ) (at : ℕ) (e : f ≡ form.Request r) where
+  module _ (tested : SoundBytes table) (r : Request) (history : List ℕ) (at : ℕ) (e : f ≡ form.Request r) where
+    moved : turnOf table (formOf line) ≡ turnFor r (moveReply table r)
+    moved = form-turn (form.Request r) e ∙ request-turn table r tested
+
     pub request-room : RoomAt history at (added (turnOf table (formOf line))) → RoomAt history at (added (turnFor r (moveReply table r)))
-    request-room h = subst (λ (t : Turn). RoomAt history at (added t)) (form-turn (form.Request r) e) h
+    request-room h = subst (λ (t : Turn). RoomAt history at (added t)) moved h
 
     pub request-steps : (table′ history′ : List ℕ) (s : Step) → Stepped (turnFor r (moveReply table r)) table history at table′ history′ s
         → Stepped (turnOf table (formOf line)) table history at table′ history′ s
-    request-steps table′ history′ s h = subst (λ (t : Turn). Stepped t table history at table′ history′ s) (sym (form-turn (form.Request r) e)) h
+    request-steps table′ history′ s h = subst (λ (t : Turn). Stepped t table history at table′ history′ s) (sym moved) h

@@ -21,7 +21,7 @@ make-requires : tie.Need-make-requires
 make-requires c κs =
     let f = c .before .before .before in
     let p = f .before .before in
-    (start p .pre .0, request-room _ _ (p .read-form .ensures) _ _ _ _ (f .form .given .1) (start p .pre .1))
+    (start p .pre .0, request-room _ _ (p .read-form .ensures) _ (start p .pre .0 .tested) _ _ _ (f .form .given .1) (start p .pre .1))
 
 enum-told-2 : tie.Need-enum-told-2
 enum-told-2 c = search needs
@@ -30,7 +30,7 @@ enum-told-3 : tie.Need-enum-told-3
 enum-told-3 c = search needs
 
 returns : tie.Need-returns
-returns c = let p = c .before .before in threads-stops _ _ (p .read-form .ensures) _ _ _ (c .enum-told .given .1)
+returns c = let p = c .before .before in threads-stops _ _ (p .read-form .ensures) (start p .args .table .now) _ _ (c .enum-told .given .1)
 
 same-length : tie.Need-same-length
 same-length c = search needs
@@ -45,13 +45,13 @@ returns-2 c =
     let p = f .before .before in
     let a = start p .args in
     let m = called .make in
-    request-steps _ _ (p .read-form .ensures) (a .table .now) _ (a .history .now) (a .at) (f .form .given .1) (m .last .0) (m .last .1 .1 .1 .0) (m .result) (m .ensures)
+    request-steps _ _ (p .read-form .ensures) (a .table .now) (start p .pre .0 .tested) _ (a .history .now) (a .at) (f .form .given .1) (m .last .0) (m .last .1 .1 .1 .0) (m .result) (m .ensures)
 
 returns-3 : tie.Need-returns-3
 returns-3 c = let p = c .before .before in note-passes _ _ (p .read-form .ensures) _ _ _ _ (start p .pre .0) (c .enum-told2 .given .1)
 
 returns-4 : tie.Need-returns-4
-returns-4 c = let p = c .before .before in bad-stops _ _ (p .read-form .ensures) _ _ (c .enum-told3 .given .1)
+returns-4 c = let p = c .before .before in bad-stops _ _ (p .read-form .ensures) (start p .args .table .now) _ (c .enum-told3 .given .1)
 
 pub take-line-spec : {M : Type 1} → statement M
 take-line-spec =
