@@ -1,0 +1,1 @@
+-- The theorems of 02 §3, a file each.

@@ -1,0 +1,58 @@
+-- The words of the theorems on scripts written out and read: lists that can be written, scripts that can be read, a script without its notes, and where a run stops whose refusals 6 and 7 are set aside.
+use Prim.Native.Nat.{ℕ, suc}
+use mathlib.Core.Bool.{Bool, true, false, cond, _||_}
+use mathlib.Core.List.{List, [], _∷_, _++_}
+use lib.Dec.{T, eqb}
+use Rattle.definitions.specs.Answers.{Reply, accepted, refused, passesAll, answered}
+use Rattle.definitions.specs.Forms.{Form, threads, request, note, bad, lineForm, firstTests, threadsFirst}
+use Rattle.definitions.specs.Moves.{moveTable}
+use Rattle.definitions.specs.Run.{stops, passes, makes, turnOf}
+use Rattle.definitions.specs.Scripts.{ended, writeTests, readEntry}
+use Rattle.definitions.specs.Table.{fresh}
+use Rattle.definitions.specs.Texts.{Line}
+
+-- writing turns the list down by 12 at most
+abbrev pub Writable : ℕ → List ℕ → Type 0
+Writable n triples = T (passesAll (writeTests n triples))
+
+-- and so does reading the script
+abbrev pub Readable : List ℕ → Type 0
+Readable script = T (passesAll (readEntry script .tests))
+
+-- ---- notes left out
+
+abbrev pub isNote : Form → Bool
+isNote (threads n) = false
+isNote (request r) = false
+isNote note = true
+isNote bad = false
+
+-- the lines of a script but for its notes, byte for byte
+unfoldable pub withoutNotes : List Line → List ℕ
+withoutNotes [] = []
+withoutNotes (l ∷ ls) = cond (isNote (lineForm l)) [] (ended (l .text)) ++ withoutNotes ls
+
+-- ---- the run with its refusals 6 and 7 set aside
+
+abbrev pub setAside : ℕ → Bool
+setAside number = eqb number 6 || eqb number 7
+
+-- where it stops, from the line of number k on: a line that is refused by 6 or 7 is passed, and the table stays
+unfoldable pub stopFrom : List ℕ → ℕ → List Line → Reply (Unit {0})
+stopFrom table k [] = accepted tt
+stopFrom table k (l ∷ ls) =
+    elim (turnOf table (lineForm l)) [
+      | stops number ↦ cond (setAside number) (stopFrom table (suc k) ls) (refused number k)
+      | passes ↦ stopFrom table (suc k) ls
+      | makes r seen ↦ stopFrom (moveTable table r) (suc k) ls
+    ]
+
+-- "The run starts fresh", with the N of the first line, unless that line is turned down
+abbrev pub stopFor : Reply ℕ → List Line → Reply (Unit {0})
+stopFor (accepted n) ls = stopFrom (fresh n) 2 ls
+stopFor (refused number line) ls = refused number line
+
+-- a whole script, "an empty script's `(refused 8 1)`" included
+unfoldable pub stopOf : List Line → Reply (Unit {0})
+stopOf [] = refused 8 1
+stopOf (l ∷ ls) = stopFor (answered (firstTests (lineForm l)) (threadsFirst (lineForm l))) ls

@@ -1,0 +1,2 @@
+-- What the theorems on scripts written out and read speak of besides the definitions.
+pub mod Exchange
