@@ -15,11 +15,7 @@ use Rattle.theory.proofs.Outputs.{whole}
 use Rattle.theory.proofs.Replies.{peel}
 use Rattle.theory.proofs.TestLists.{answered-e, passes-append}
 use Rattle.theory.proofs.Tests.{and-l, and-r}
-
-bytes-read : (rs : List Request) → requestsOf (bytesOf rs) ≡ rs
-unfolding bytesOf requestsOf
-bytes-read [] = refl
-bytes-read (r ∷ rs) = ap (λ (l : List Request). r ∷ l) (bytes-read rs)
+use Rattle.theory.proofs.Triples.{bytes-read}
 
 module _ (n : ℕ) (bytes out : List ℕ) where
   abbrev moves : List Request

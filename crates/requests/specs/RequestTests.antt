@@ -1,4 +1,4 @@
--- What the test of a request answers, and the tests 4 to 7 of a thread's request from the numbers that they speak of.
+-- What the tests of a request answer, and the tests 4 to 7 of a thread's request from the numbers that they speak of.
 use Prim.Native.Nat.{ℕ, zero, suc, _+_, _/_, _^_}
 use mathlib.Core.Bool.{Bool, cond, not}
 use mathlib.Core.List.{List, [], _∷_}
@@ -11,10 +11,14 @@ use Rattle.definitions.specs.Phases.{hasMove}
 use Rattle.requests.specs.declared.Tested.{Tested}
 use Rattle.requests.specs.declared.Tested.the-variants.{Passed, Refused}
 
--- the reply that each answer of a test stands for: nothing more is known of a request that passes
+-- the reply that each answer of a test stands for at a place: nothing more is known of a request that passes
+abbrev pub testedAt : ℕ → Tested → Reply (Unit {0})
+testedAt place Passed = accepted tt
+testedAt place (Refused x) = refused (numberOf x) place
+
+-- a move's own request has place 0
 abbrev pub testedReply : Tested → Reply (Unit {0})
-testedReply Passed = accepted tt
-testedReply (Refused x) = refused (numberOf x) 0
+testedReply = testedAt 0
 
 -- what `requestTests` asks behind the thread's number, of N, the thread's phase and the mutex
 abbrev pub laterTests : ℕ → ℕ → ℕ → ℕ → ℕ → List Test

@@ -1,18 +1,19 @@
-// Which moves a phase has, and the tests 4 to 7 of a request, by value and apart from any storage.
+// Which moves a phase has, the tests 3 to 5 of a request's numbers, and the tests 4 to 7 of a request by a thread, by value and apart from any storage.
 use definitions::CLEAR;
 use definitions::HOLD;
 use definitions::LAST_MOVE;
 use definitions::PHASE_COUNT;
 use definitions::Refusal;
+use definitions::Request;
 use definitions::SET;
-ghost use Prim.Native.Nat.{_≤_};
+ghost use Prim.Native.Nat.{ℕ, _≤_};
 ghost use mathlib.Core.Path.{_≡_};
 ghost use lib.Dec.{T};
 ghost use Rattle.definitions.specs.Answers.{answered};
 ghost use Rattle.definitions.specs.Bounds.{lastPhase, lastMove};
-ghost use Rattle.definitions.specs.Moves.{namesThread, targetFits, mustWait};
+ghost use Rattle.definitions.specs.Moves.{namesThread, targetFits, mustWait, numberTests};
 ghost use Rattle.definitions.specs.Phases.{hasMove};
-ghost use Rattle.requests.specs.RequestTests.{testedReply, laterTests, moveBits, hasBit, targetsOf};
+ghost use Rattle.requests.specs.RequestTests.{testedReply, testedAt, laterTests, moveBits, hasBit, targetsOf};
 
 // Which moves each phase has, one bit a move: go, call shared, call exclusive, set, clear, relent, hold from the lowest bit on.
 pub const MOVES: [u8; PHASE_COUNT] = [
@@ -82,6 +83,23 @@ fn target_fits(threads: usize, mv: u8, target: usize) -> bool
     ensures { λ r. ⌜ r ≡ targetFits threads mv target ⌝ }
 {
     target < targets_of(threads, mv)
+}
+
+// The tests 3 to 5 of a request to N threads, in their order; what is refused may stand at any place.
+pub fn test_numbers(threads: usize, request: Request) -> Tested
+    ensures { λ r. ⌜ ((place : ℕ) → testedAt place r ≡ answered (numberTests place threads request) tt) ⌝ }
+{
+    if threads <= request.thread as usize {
+        return Tested::Refused(Refusal::NoThread);
+    }
+    if (LAST_MOVE as u16) < request.mv {
+        return Tested::Refused(Refusal::NoMove);
+    }
+    let small = request.mv as u8;
+    if target_fits(threads, small, request.target as usize) {
+        return Tested::Passed;
+    }
+    Tested::Refused(Refusal::BadTarget)
 }
 
 // Refusal 6: "The thread's phase has no such move."

@@ -1,1 +1,7 @@
--- The theorems of 02 §3, a file each.
+-- Shared facts first, then the theorems of 02 §3, a file each.
+pub mod WrittenLines
+pub mod ReadWritten
+pub mod SameScript
+pub mod WrittenRead
+pub mod PlanWriteRun
+pub mod RefusedAlike

@@ -1,4 +1,4 @@
--- The last line of an output can be told from its bytes: one that ends in a steps line has one count, and does not end in a refused line.
+-- The last line of an output can be told from its bytes: one that ends in a steps line has one count, one that ends in a refused line has one refusal, and none ends in both.
 -- Read from the back: the bracket, the number's digits, a space, and a letter or a digit.
 use Prim.Native.Nat.{ℕ, _+_, _/_, _%_, _≤_, _<_}
 use native.Mathlib.Omega.{arith}
@@ -57,13 +57,18 @@ steps-back : (before : List ℕ) (k : ℕ) → drop 2 (reverse (before ++ stepsL
 unfolding stepsLine bytes
 steps-back before k = ap (drop 2) (from-back before (bytes "(steps ") (decimal k))
 
+-- the number that digits print is told by them
+decimal-once : (k m : ℕ) → reverse (decimal k) ≡ reverse (decimal m) → k ≡ m
+decimal-once k m e =
+    let printed : decimal k ≡ decimal m = sym (reverse-reverse (decimal k)) ∙ (ap reverse e ∙ reverse-reverse (decimal m)) in
+    sym (value-printed k) ∙ (ap (valueFrom 0) printed ∙ value-printed m)
+
 -- one count
 pub steps-once : (before other : List ℕ) (k m : ℕ) → before ++ stepsLine k ≡ other ++ stepsLine m → k ≡ m
 steps-once before other k m e =
     let b = sym (steps-back before k) ∙ (ap (λ (xs : List ℕ). drop 2 (reverse xs)) e ∙ steps-back other m) in
     let same = split-once (reverse (decimal k)) (reverse (decimal m)) _ _ (decimal-digits k) (decimal-digits m) b .0 in
-    let printed : decimal k ≡ decimal m = sym (reverse-reverse (decimal k)) ∙ (ap reverse same ∙ reverse-reverse (decimal m)) in
-    sym (value-printed k) ∙ (ap (valueFrom 0) printed ∙ value-printed m)
+    decimal-once k m same
 
 refused-back : (before : List ℕ) (number line : ℕ)
     → drop 2 (reverse (before ++ refusedLine number line)) ≡ reverse (decimal line) ++ (32 ∷ (reverse (decimal number) ++ reverse (before ++ bytes "(refused ")))
@@ -74,6 +79,19 @@ refused-back before number line =
     ap (λ (xs : List ℕ). drop 2 (reverse xs)) (sym (append-assoc before (bytes "(refused ") (decimal number ++ tail)) ∙ sym (append-assoc front (decimal number) tail))
     ∙ (ap (drop 2) (from-back (front ++ decimal number) (bytes " ") (decimal line))
     ∙ ap (λ (xs : List ℕ). reverse (decimal line) ++ (32 ∷ xs)) (reverse-append front (decimal number)))
+
+-- one refusal
+pub refused-once : (before other : List ℕ) (n m l k : ℕ) → before ++ refusedLine n l ≡ other ++ refusedLine m k → (before ≡ other) × (n ≡ m) × (l ≡ k)
+unfolding bytes
+refused-once before other n m l k e =
+    let b = sym (refused-back before n l) ∙ (ap (λ (xs : List ℕ). drop 2 (reverse xs)) e ∙ refused-back other m k) in
+    let last = split-once (reverse (decimal l)) (reverse (decimal k)) _ _ (decimal-digits l) (decimal-digits k) b in
+    let front : (number : ℕ) (xs : List ℕ)
+        → reverse (decimal number) ++ reverse (xs ++ bytes "(refused ") ≡ reverse (decimal number) ++ (32 ∷ (reverse (bytes "(refused") ++ reverse xs)) =
+    λ number xs. ap (λ (ys : List ℕ). reverse (decimal number) ++ ys) (reverse-append xs (bytes "(refused ")) in
+    let first = split-once (reverse (decimal n)) (reverse (decimal m)) _ _ (decimal-digits n) (decimal-digits m) (sym (front n before) ∙ (last .1 ∙ front m other)) in
+    let back : reverse before ≡ reverse other = append-cancel-left (reverse (bytes "(refused")) (reverse before) (reverse other) (first .1) in
+    (sym (reverse-reverse before) ∙ (ap reverse back ∙ reverse-reverse other), decimal-once n m (first .0), decimal-once l k (last .0))
 
 -- no refused line
 pub steps-not-refused : (before other : List ℕ) (k number line : ℕ) → before ++ stepsLine k ≡ other ++ refusedLine number line → ⊥

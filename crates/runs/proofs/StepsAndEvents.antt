@@ -28,7 +28,7 @@ use Rattle.runs.proofs.LastLine.{steps-once, steps-not-refused}
 -- ---- events
 
 -- the pair of an accepted move prints what is seen of it
-pair-line : (thread : ℕ) (seen : Seen) (rest : List Pair) → eventLines (pairFor thread (accepted seen) ++ rest) ≡ eventLine thread seen ++ eventLines rest
+pub pair-line : (thread : ℕ) (seen : Seen) (rest : List Pair) → eventLines (pairFor thread (accepted seen) ++ rest) ≡ eventLine thread seen ++ eventLines rest
 unfolding eventLines eventLine
 pair-line thread (shown event) rest = refl
 pair-line thread quiet rest = refl

@@ -44,7 +44,7 @@ use Rattle.theory.proofs.LineTurns.{first-printed}
 use Rattle.theory.proofs.Outputs.{turned-down, whole, with-tests}
 use Rattle.theory.proofs.Quantifiers.{howMany-none}
 use Rattle.theory.proofs.Replies.{failed, pass, no-test}
-use Rattle.theory.proofs.SoundKept.{fresh-table-sound}
+use Rattle.theory.proofs.SoundKept.{fresh-is-sound}
 use Rattle.theory.proofs.Tests.{and-l, and-r, true-T, either}
 
 -- ---- the entry
@@ -70,9 +70,8 @@ module _ (script out : List ℕ) where
 pub fresh-tested : (n : ℕ) → countFits n ≡ true → TestedTable (fresh n) 0
 unfolding forbiddenCount
 fresh-tested n e =
-    let t = true-T (countFits n) e in
     record {
-      tested = fresh-table-sound n (leb→le 1 n (and-l (leb 1 n) (leb n mostThreads) t)) (leb→le n mostThreads (and-r (leb 1 n) (leb n mostThreads) t));
+      tested = fresh-is-sound n (true-T (countFits n) e);
       count = sym (ap forbiddenCount (fresh-table n) ∙ howMany-none (λ j. eqb 0 1) n (λ i l. tt));
     }
 

@@ -6,6 +6,7 @@ pub mod Matches
 pub mod Lists
 pub mod Lengths
 pub mod Pairs
+pub mod Triples
 pub mod Texts
 pub mod PlainMoves
 pub mod Numbers

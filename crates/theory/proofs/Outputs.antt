@@ -7,12 +7,13 @@ use mathlib.Core.Bool.{Bool, true, false, cond}
 use mathlib.Core.List.{List, [], _∷_, _++_, append-assoc}
 use mathlib.Core.Path.{_≡_, sym, ap, _∙_}
 use borrow.Author.Tests.{le-leb, lt-leb}
-use lib.Dec.{T, leb}
+use lib.Dec.{T, leb, leb→le}
 use lib.ListN.{length, take, drop, set, length-append, length-take, length-drop, take-append-drop}
 use lib.Seq.{take-at, drop-drop, drop-append-add, set-split}
 use Rattle.definitions.specs.Answers.{Reply, accepted, refused, leaves, Test, passesAll, answered, filled, Delivery, counted, roomTest, deliveryReply, deliveryOutput}
 use Rattle.theory.specs.Outputs.{putAt, RoomAt, PutAt, Delivered}
-use Rattle.theory.proofs.Replies.{behind, in-front}
+use Rattle.theory.proofs.Replies.{peel, behind, in-front}
+use Rattle.theory.proofs.TestLists.{passes-split, answered-e}
 
 -- ---- what is left in the output
 
@@ -126,3 +127,31 @@ unfolding deliveryReply deliveryOutput
 with-tests tests {text} {out} tested p =
     let e = behind (length text) tests (roomTest text out ∷ []) tested in
     record { reply = p .reply ∙ sym e; output = p .output ∙ ap (λ (x : Reply ℕ). leaves x (filled out text) out) (sym e) }
+
+-- ---- what an accepted answer says
+
+module _ {A : Type 0} (d : Delivery A) (out : List ℕ) where
+  -- its tests are passed, there is room, and the answer is its own
+  pub record Answered (a : A) : Type 0 where
+    pub tested : T (passesAll (d .tests))
+    pub room : length (d .text) ≤ length out
+    pub answer : d .answer ≡ a
+
+  -- that holds of an entry that answers
+  pub answered-so : (a : A) → deliveryReply d out ≡ accepted a → Answered a
+  unfolding deliveryReply
+  answered-so a e =
+      let last = roomTest (d .text) out ∷ [] in
+      let r = answered-e _ (d .answer) a e in
+      let p = passes-split (d .tests) last (r .0) in
+      record {
+        tested = p .0;
+        room = leb→le (length (d .text)) (length out) (peel (roomTest (d .text) out) [] (p .1) .0);
+        answer = r .1;
+      }
+
+  -- and its text stands at the front of the output
+  pub text-first : (a : A) (size : ℕ) → deliveryReply d out ≡ accepted a → length (d .text) ≡ size → take size (deliveryOutput d out) ≡ d .text
+  text-first a size e long =
+      let s = answered-so a e in
+      ap (take size) (sym (whole d out (s .tested) (s .room) .output)) ∙ take-at (d .text) (drop (length (d .text)) out) size long

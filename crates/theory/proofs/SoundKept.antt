@@ -8,17 +8,21 @@ use lib.Dec.{T}
 use Rattle.definitions.specs.Bounds.{mostThreads}
 use Rattle.definitions.specs.Moves.{acceptsIn, moveTable}
 use Rattle.definitions.specs.Sound.{sound}
-use Rattle.definitions.specs.Table.{Table, tableOf, byteTable, fresh}
+use Rattle.definitions.specs.Table.{Table, countFits, tableOf, byteTable, fresh}
 use Rattle.definitions.specs.declared.Request.{Request}
 use Rattle.theory.specs.Tables.{SoundBytes}
 use Rattle.theory.proofs.Bytes.{byte-keeps, fresh-sized}
 use Rattle.theory.proofs.SoundSteps.{step-sound}
-use Rattle.theory.proofs.Stages.{fresh-sound}
+use Rattle.theory.proofs.Stages.{between-e, fresh-sound}
 use Rattle.theory.proofs.Storages.{accepts-e, refused-stays, table-step, fits-step}
 use Rattle.theory.proofs.Ways.{accepted-e}
 
 pub fresh-table-sound : (n : ℕ) → 1 ≤ n → n ≤ mostThreads → SoundBytes (fresh n)
 fresh-table-sound n least most = record { is-sized = fresh-sized n least most; is-sound = fresh-sound n }
+
+-- as the tests have it
+pub fresh-is-sound : (n : ℕ) → T (countFits n) → SoundBytes (fresh n)
+fresh-is-sound n t = let b = between-e 1 mostThreads n t in fresh-table-sound n (b .0) (b .1)
 
 -- every request, accepted or refused
 pub sound-kept : (bytes : List ℕ) (r : Request) → SoundBytes bytes → SoundBytes (moveTable bytes r)

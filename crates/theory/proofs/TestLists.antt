@@ -12,12 +12,19 @@ use Rattle.definitions.specs.Answers.{Reply, accepted, refused, isAccepted, Tes
 use Rattle.definitions.specs.Threads.{every, gather}
 use Rattle.theory.proofs.Quantifiers.{below-suc}
 use Rattle.theory.proofs.Replies.{accepted-is, all-passed, behind, in-front}
-use Rattle.theory.proofs.Tests.{and-i, decided, no-both}
+use Rattle.theory.proofs.Tests.{and-l, and-r, and-i, decided, no-both}
 
 pub passes-append : (ts us : List Test) → passesAll (ts ++ us) ≡ passesAll ts && passesAll us
 unfolding passesAll
 passes-append [] us = refl
 passes-append (t ∷ ts) us = ap (λ (b : Bool). t .passed && b) (passes-append ts us) ∙ sym (and-assoc (t .passed) (passesAll ts) (passesAll us))
+
+-- tests that are passed together are passed apart, and the other way
+pub passes-split : (ts us : List Test) → T (passesAll (ts ++ us)) → T (passesAll ts) × T (passesAll us)
+passes-split ts us t = let p = subst T (passes-append ts us) t in (and-l (passesAll ts) (passesAll us) p, and-r (passesAll ts) (passesAll us) p)
+
+pub passes-join : (ts us : List Test) → T (passesAll ts) → T (passesAll us) → T (passesAll (ts ++ us))
+passes-join ts us p q = subst T (sym (passes-append ts us)) (and-i (passesAll ts) (passesAll us) p q)
 
 -- what is in store is answered where all are passed
 pub answered-e : {A : Type 0} (ts : List Test) (a b : A) → answered ts a ≡ accepted b → T (passesAll ts) × (a ≡ b)

@@ -1,0 +1,2 @@
+-- What the functions that spell a line share.
+pub mod LineTexts

@@ -1,0 +1,35 @@
+-- `spelling::put_threads` meets its contract: the line by its parts (proofs/LineTexts).
+use mathlib.Core.Path.{sym}
+use borrow.Author.Needs.{needs}
+use Rattle.definitions.specs.Texts.{bytes}
+use Rattle.text.proofs.Parts.{room-as, put-as}
+use Rattle.spelling.proofs.LineTexts.{threads-text}
+use Rattle.spelling.proofs.put_threads.Statement.{statement}
+use Rattle.spelling.proofs.put_threads.Tie as tie
+
+slice-aggregate-put-around : tie.Need-slice-aggregate-put-around
+slice-aggregate-put-around c = search needs
+
+slice-aggregate-put-around-2 : tie.Need-slice-aggregate-put-around-2
+slice-aggregate-put-around-2 c = search needs
+
+put-around-requires : tie.Need-put-around-requires
+unfolding bytes
+put-around-requires c κs = let s = c .before .before .before .before in room-as (threads-text (s .args .threads)) (s .pre)
+
+same-length : tie.Need-same-length
+same-length c = search needs
+
+returns : tie.Need-returns
+unfolding bytes
+returns c = let p = c .before .before in put-as (sym (threads-text (p .before .before .before .before .before .args .threads))) (p .put-around .ensures)
+
+pub put-threads-spec : {M : Type 1} → statement M
+put-threads-spec =
+    tie.close
+    (tie.spec
+    slice-aggregate-put-around
+    slice-aggregate-put-around-2
+    put-around-requires
+    same-length
+    returns)

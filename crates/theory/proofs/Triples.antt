@@ -1,0 +1,67 @@
+-- The requests of a list of byte triples, from a triple on; and that requests and triples are inverse.
+use Prim.Native.Nat.{ℕ, suc, _+_, _*_, _/_, _%_, _≤_, _<_}
+use native.Mathlib.Omega.{arith}
+use mathlib.Core.List.{List, [], _∷_}
+use mathlib.Core.Path.{_≡_, refl, ap}
+use lib.ListN.{length, getD, drop, length-drop}
+use lib.Seq.{drop-cons}
+use Rattle.definitions.specs.Chains.{requestsOf}
+use Rattle.definitions.specs.Moves.{ask}
+use Rattle.definitions.specs.Plan.{bytesOf}
+use Rattle.definitions.specs.declared.Request.{Request}
+
+-- the triple of index k
+abbrev pub tripleAt : List ℕ → ℕ → Request
+tripleAt bytes k = ask (getD bytes (3 * k) 0) (getD bytes (3 * k + 1) 0) (getD bytes (3 * k + 2) 0)
+
+-- the requests from there on
+abbrev pub triplesFrom : List ℕ → ℕ → List Request
+triplesFrom bytes k = requestsOf (drop (3 * k) bytes)
+
+three-more : (k : ℕ) → 3 * (k + 1) ≡ suc (suc (suc (3 * k)))
+three-more k = omega arith
+
+one-more : (k : ℕ) → 3 * k + 1 ≡ suc (3 * k)
+one-more k = omega arith
+
+two-more : (k : ℕ) → 3 * k + 2 ≡ suc (suc (3 * k))
+two-more k = omega arith
+
+pub triples-next : (bytes : List ℕ) (k : ℕ) → k < length bytes / 3 → triplesFrom bytes k ≡ tripleAt bytes k ∷ triplesFrom bytes (k + 1)
+unfolding requestsOf
+triples-next bytes k l =
+    rw (three-more k, one-more k, two-more k, drop-cons bytes (3 * k) 0 (omega arith), drop-cons bytes (suc (3 * k)) 0 (omega arith), drop-cons bytes (suc (suc (3 * k))) 0 (omega arith))
+
+short-triples : (l : List ℕ) → length l < 3 → requestsOf l ≡ []
+unfolding requestsOf
+short-triples [] h = refl
+short-triples (a ∷ []) h = refl
+short-triples (a ∷ b ∷ []) h = refl
+short-triples (a ∷ b ∷ c ∷ rest) h = absurd (omega arith)
+
+pub triples-end : (bytes : List ℕ) (k : ℕ) → length bytes / 3 ≤ k → triplesFrom bytes k ≡ []
+triples-end bytes k l = short-triples (drop (3 * k) bytes) (omega (arith, length-drop (3 * k) bytes))
+
+-- how many there are
+pub triples-count : (l : List ℕ) → length (requestsOf l) ≡ length l / 3
+unfolding requestsOf
+triples-count [] = refl
+triples-count (a ∷ []) = refl
+triples-count (a ∷ b ∷ []) = refl
+triples-count (a ∷ b ∷ c ∷ rest) = let more = triples-count rest in omega arith
+
+-- ---- triples and requests
+
+-- requests come back from their bytes
+pub bytes-read : (rs : List Request) → requestsOf (bytesOf rs) ≡ rs
+unfolding bytesOf requestsOf
+bytes-read [] = refl
+bytes-read (r ∷ rs) = ap (λ (qs : List Request). r ∷ qs) (bytes-read rs)
+
+-- and so do bytes, if they are three times a whole number
+pub triples-written : (xs : List ℕ) → length xs % 3 ≡ 0 → bytesOf (requestsOf xs) ≡ xs
+unfolding bytesOf requestsOf
+triples-written [] e = refl
+triples-written (i ∷ []) e = absurd (omega arith)
+triples-written (i ∷ m ∷ []) e = absurd (omega arith)
+triples-written (i ∷ m ∷ t ∷ rest) e = ap (λ (ys : List ℕ). i ∷ m ∷ t ∷ ys) (triples-written rest (omega arith))
