@@ -1,11 +1,11 @@
 -- What writing answers and leaves, by the tests in their order: turned down, too long, no room, written.
 use Prim.Native.Nat.{ℕ, _*_, _/_, _%_, _≤_, _<_}
 use native.Mathlib.Omega.{arith}
-use mathlib.Core.Bool.{true, false, not}
+use mathlib.Core.Bool.{true, false}
 use mathlib.Core.List.{List, [], _∷_, _++_}
-use mathlib.Core.Path.{_≡_, refl, sym, subst, ap, _∙_}
+use mathlib.Core.Path.{_≡_, refl, sym, ap, _∙_}
 use borrow.Author.Tests.{lt-leb}
-use lib.Dec.{T, leb, eqb, le→leb}
+use lib.Dec.{T, leb, le→leb}
 use lib.ListN.{length}
 use Rattle.definitions.specs.Answers.{Reply, accepted, refused, numberOf, answerReply, Test, test, answered, passesAll, filled}
 use Rattle.definitions.specs.Bounds.{mostScript}
@@ -18,8 +18,8 @@ use Rattle.definitions.specs.declared.Refusal.{Refusal}
 use Rattle.theory.specs.Outputs.{RoomAt, PutAt, Delivered}
 use Rattle.theory.proofs.Outputs.{turned-down, no-room, whole, delivered-as, filled-up}
 use Rattle.theory.proofs.Replies.{passed, failed, pass, no-test, behind, in-front}
-use Rattle.theory.proofs.TestLists.{answered-e, passes-append}
-use Rattle.theory.proofs.Tests.{true-T, not-i, eq-T}
+use Rattle.theory.proofs.TestLists.{answered-e, passes-join}
+use Rattle.theory.proofs.Tests.{true-T, false-T, ne-T, eq-T}
 use Rattle.theory.proofs.Triples.{triples-count}
 use Rattle.writing.proofs.ScriptParts.{script-long}
 
@@ -36,14 +36,14 @@ module _ (n : ℕ) (triples out : List ℕ) where
 
   -- 1
   pub bad-count : countFits n ≡ false → Delivered (writeEntry n triples) out out (refused 1 0)
-  bad-count e = turned-down (writeEntry n triples) out moves 1 0 (failed _ _ _ (not-i _ (λ t. subst T e t)))
+  bad-count e = turned-down (writeEntry n triples) out moves 1 0 (failed _ _ _ (false-T (countFits n) e))
 
   module _ (count : countFits n ≡ true) where
     -- 8, for the length of the list
     pub bad-length : (length triples % 3 ≡ 0 → ⊥) → Delivered (writeEntry n triples) out out (refused 8 0)
     bad-length e =
         turned-down (writeEntry n triples) out moves 8 0
-        (passed _ _ _ (true-T _ count) ∙ failed _ _ _ (not-i _ (λ t. e (eqb-eq (length triples % 3) 0 t))))
+        (passed _ _ _ (true-T _ count) ∙ failed _ _ _ (ne-T (length triples % 3) 0 e))
 
     module _ (three : length triples % 3 ≡ 0) (a : Answer) (tried : answerReply a ≡ answered (triplesTests 0 n (requestsOf triples)) moves) where
       -- the tests behind the first two
@@ -66,7 +66,7 @@ module _ (n : ℕ) (triples out : List ℕ) where
         -- 8, for the length of the script
         pub too-long : mostScript < length text → Delivered (writeEntry n triples) out out (refused 8 0)
         too-long l =
-            let f = failed fitting [] moves (not-i _ (λ t. subst T (lt-leb (length text) mostScript l) t)) in
+            let f = failed fitting [] moves (false-T (leb (length text) mostScript) (lt-leb (length text) mostScript l)) in
             turned-down (writeEntry n triples) out moves 8 0 (front moves ∙ (behind moves _ _ (good .0) ∙ f))
 
         -- which more moves than the shortest lines leave room for make too long
@@ -78,7 +78,7 @@ module _ (n : ℕ) (triples out : List ℕ) where
           tested =
               pass _ _ (true-T _ count)
               (pass _ _ (eq-T (length triples % 3) 0 three)
-              (passes-append (triplesTests 0 n (requestsOf triples)) (fitting ∷ []) (good .0) (pass _ _ (le→leb (length text) mostScript short) no-test)))
+              (passes-join (triplesTests 0 n (requestsOf triples)) (fitting ∷ []) (good .0) (pass _ _ (le→leb (length text) mostScript short) no-test)))
 
           -- 12
           pub no-room-left : length out < length text → Delivered (writeEntry n triples) out out (refused 12 0)

@@ -1,15 +1,27 @@
+-- `writing::write` meets its contract, by the tests in their order (proofs/EntryLaws).
+use native.Mathlib.Omega.{arith}
+use mathlib.Core.Bool.{true}
+use mathlib.Core.Path.{_≡_, sym, subst, _∙_}
 use borrow.Author.Needs.{needs}
+use borrow.Author.Tests.{not-true, not-false}
+use lib.ListN.{length}
+use Rattle.definitions.specs.Table.{countFits}
+use Rattle.writing.proofs.EntryLaws.{bad-count, bad-length, bad-triple, same-count, too-long, too-many, no-room-left, written}
 use Rattle.writing.proofs.write.Statement.{statement}
 use Rattle.writing.proofs.write.Tie as tie
 
 count-fits-requires : tie.Need-count-fits-requires
 count-fits-requires c κs = search needs
 
+-- N fits where the list is looked at
+counts : (c : tie.Else1) → countFits (c .before .before .before .before .args .threads) ≡ true
+counts c = sym (c .before .count-fits .ensures) ∙ not-false _ (c .if1 .left)
+
 returns : tie.Need-returns
-returns c = ?
+returns c = bad-count _ _ _ (sym (c .before .count-fits .ensures) ∙ not-true _ (c .if1 .taken))
 
 returns-2 : tie.Need-returns-2
-returns-2 c = ?
+returns-2 c = bad-length _ _ _ (counts (c .before)) (c .if2 .taken)
 
 test-triples-requires : tie.Need-test-triples-requires
 test-triples-requires c κs = search needs
@@ -21,19 +33,41 @@ enum-told : tie.Need-enum-told
 enum-told c = search needs
 
 returns-3 : tie.Need-returns-3
-returns-3 c = ?
+returns-3 c =
+    let p = c .before .before in
+    let e = p .before in
+    bad-triple _ _ _ (counts (e .before)) (e .if2 .left) _ (p .test-triples .ensures) _ _ (c .enum-told .given .1)
 
 returns-4 : tie.Need-returns-4
-returns-4 c = ?
+returns-4 c =
+    let k = c .before in
+    let p = k .before .before .before in
+    let e = p .before in
+    too-many _ _ _ (counts (e .before)) (e .if2 .left) _ (p .test-triples .ensures) _ (k .before .tested .given .1) (c .if3 .taken)
 
 script-length-requires : tie.Need-script-length-requires
-script-length-requires c κs = ?
+script-length-requires c κs =
+    let k = c .before in
+    let p = k .before .before .before in
+    let e = p .before in
+    omega (arith, c .if3 .left, same-count _ _ (e .before .before .before .before .before .args .out .now) (counts (e .before)) (e .if2 .left) _ (p .test-triples .ensures) _ (k .before .tested .given .1))
 
 returns-5 : tie.Need-returns-5
-returns-5 c = ?
+returns-5 c =
+    let l = c .before in
+    let k = l .before .before in
+    let p = k .before .before .before in
+    let e = p .before in
+    too-long _ _ _ (counts (e .before)) (e .if2 .left) _ (p .test-triples .ensures) _ (k .before .tested .given .1) (omega (arith, c .if4 .taken, l .script-length .ensures))
 
 returns-6 : tie.Need-returns-6
-returns-6 c = ?
+returns-6 c =
+    let l = c .before .before in
+    let k = l .before .before in
+    let p = k .before .before .before in
+    let e = p .before in
+    no-room-left _ _ _ (counts (e .before)) (e .if2 .left) _ (p .test-triples .ensures) _ (k .before .tested .given .1)
+    (omega (arith, c .before .if4 .left, l .script-length .ensures)) (omega (arith, c .if5 .taken, l .script-length .ensures))
 
 put-script-requires : tie.Need-put-script-requires
 put-script-requires c κs = search needs
@@ -42,7 +76,15 @@ same-length : tie.Need-same-length
 same-length c = search needs
 
 returns-7 : tie.Need-returns-7
-returns-7 c = ?
+returns-7 c =
+    let w = c .before .before in
+    let x = w .before .before in
+    let l = x .before .before in
+    let k = l .before .before in
+    let p = k .before .before .before in
+    let e = p .before in
+    written _ _ _ (counts (e .before)) (e .if2 .left) _ (p .test-triples .ensures) _ (k .before .tested .given .1)
+    (omega (arith, x .before .if4 .left, l .script-length .ensures)) _ _ (omega (arith, x .if5 .left, l .script-length .ensures)) (w .put-script .ensures)
 
 pub write-spec : {M : Type 1} → statement M
 write-spec =
