@@ -1,42 +1,30 @@
 -- The fresh table that a run starts from, what the first line makes of the run, and what its printed output makes of the promise.
-use Prim.Native.Nat.{ℕ, _+_, _-_, _≤_, _<_}
+use Prim.Native.Nat.{ℕ, _≤_, _<_}
 use native.Mathlib.Omega.{arith}
 use mathlib.Core.Bool.{Bool, true, false, not}
 use mathlib.Core.List.{List, [], _∷_}
 use mathlib.Core.Logic.{⊎-elim}
-use mathlib.Core.Path.{_≡_, refl, sym, subst, ap, _∙_}
+use mathlib.Core.Path.{_≡_, sym, subst, ap, _∙_}
 use borrow.Author.Tests.{le-leb, lt-leb}
 use lib.Dec.{T, leb, eqb, leb→le}
 use lib.ListN.{length, take, drop}
 use lib.Seq.{take-at}
-use Rattle.definitions.specs.Answers.{Reply, accepted, refused, isAccepted, numberOf, Test, test, answered, filled, counted}
+use Rattle.definitions.specs.Answers.{Reply, accepted, refused, isAccepted, numberOf, Test, test, filled, counted}
 use Rattle.definitions.specs.Bounds.{mostScript, mostThreads}
 use Rattle.definitions.specs.Forms as spec
-use Rattle.definitions.specs.Forms.{formOf}
 use Rattle.definitions.specs.PlainLock.{pairsOf}
-use Rattle.definitions.specs.Run.{eventLines, printed, printedFirst, refusedLine, runText, runOutputOf, runEntry}
+use Rattle.definitions.specs.Run.{eventLines, printed, printedFirst, refusedLine, runOutputOf, runEntry}
 use Rattle.definitions.specs.Table.{countFits, fresh, freshEntry}
 use Rattle.definitions.specs.Texts as texts
-use Rattle.definitions.specs.Texts.{linesOf}
 use Rattle.definitions.specs.declared.Refusal.{Refusal}
-use Rattle.definitions.specs.declared.Request.{Request}
 use Rattle.apply.specs.MoveMade.{TestedTable}
-use Rattle.forms.specs.Readings.{formFor}
-use Rattle.forms.specs.declared.Form.{Form}
-use Rattle.forms.specs.declared.Form.the-variants as form
-use Rattle.lines.specs.Lines.{LineAt, NextAt}
-use Rattle.lines.specs.declared.Next.{Next}
-use Rattle.lines.specs.declared.Next.the-variants.{Line, Unended, Done}
+use Rattle.lines.specs.declared.Next.the-variants.{Line}
 use Rattle.printing.specs.Output.{outputOf, Measurable}
 use Rattle.printing.specs.declared.Ending.the-variants.{Refused}
 use Rattle.theory.specs.Outputs.{Delivered}
 use Rattle.theory.specs.Tables.{forbiddenCount}
-use denote.Enum.Declared.{tagOf}
-use types.Run.{OneOf}
 use Rattle.script.specs.Records.{Roomy, Begun, Recorded}
 use Rattle.script.specs.declared.Ran.{Ran}
-use Rattle.forms.proofs.Form as form′
-use Rattle.lines.proofs.Next as next
 use Rattle.runs.proofs.Suffices.{suffices}
 use Rattle.theory.proofs.Bytes.{fresh-table}
 use Rattle.theory.proofs.Lengths.{fresh-length}
@@ -45,7 +33,7 @@ use Rattle.theory.proofs.Outputs.{turned-down, whole, with-tests}
 use Rattle.theory.proofs.Quantifiers.{howMany-none}
 use Rattle.theory.proofs.Replies.{failed, pass, no-test}
 use Rattle.theory.proofs.SoundKept.{fresh-is-sound}
-use Rattle.theory.proofs.Tests.{and-l, and-r, true-T, either}
+use Rattle.theory.proofs.Tests.{and-r, true-T, either}
 
 -- ---- the entry
 
@@ -124,35 +112,6 @@ module _ (n : ℕ) (ls : List texts.Line) where
 pub begins-fresh : {script : List ℕ} {start : ℕ} {history : List ℕ} (n : ℕ) → start ≤ length script → Roomy script history → (table : List ℕ) → countFits n ≡ true → table ≡ fresh n
     → Begun script start table history
 begins-fresh n s r table e f = rw f (record { starts = s; room = r; tested = fresh-tested n e })
-
--- ---- the first line
-
-module _ (script : List ℕ) where
-  -- it is missing, or lacks its line feed: the tags 1 and 2 of `Next`
-  pub no-first-line : (x : Next) → NextAt script 0 x → OneOf (1 ∷ 2 ∷ []) (tagOf next.the-type x) → runOutputOf script ≡ refusedLine 8 1
-  unfolding runText printedFirst answered
-  no-first-line (Line end) l k = absurd (⊎-elim (λ e. omega arith) (λ e. omega arith) k)
-  no-first-line Unended u k = ap runText (u .lines)
-  no-first-line Done d k = ap runText (d .lines)
-
-  module _ (end : ℕ) (l : LineAt script 0 end) (f : Form) (read : formFor f ≡ formOf (take (end - 0) (drop 0 script))) where
-    by-form : (g : Form) → f ≡ g → runOutputOf script ≡ printedFirst (formFor g) (linesOf (drop (end + 1) script))
-    unfolding runText
-    by-form g e = ap runText (l .lines) ∙ ap (λ (x : spec.Form). printedFirst x (linesOf (drop (end + 1) script))) (sym read ∙ ap formFor e)
-
-    pub run-threads : (n : ℕ) → f ≡ form.Threads n → runOutputOf script ≡ printedFirst (spec.threads n) (linesOf (drop (end + 1) script))
-    run-threads n e = by-form (form.Threads n) e
-
-    -- it says something else: the tags 1 to 3 of `Form`
-    pub no-threads : OneOf (1 ∷ 2 ∷ 3 ∷ []) (tagOf form′.the-type f) → runOutputOf script ≡ refusedLine 8 1
-    unfolding printedFirst answered
-    no-threads k = by f refl k
-      where
-        by : (g : Form) → f ≡ g → OneOf (1 ∷ 2 ∷ 3 ∷ []) (tagOf form′.the-type g) → runOutputOf script ≡ refusedLine 8 1
-        by (form.Threads n) e k = absurd (⊎-elim (λ q. omega arith) (⊎-elim (λ q. omega arith) (λ q. omega arith)) k)
-        by (form.Request r) e k = by-form (form.Request r) e
-        by form.Note e k = by-form form.Note e
-        by form.Bad e k = by-form form.Bad e
 
 -- ---- what a run leaves
 

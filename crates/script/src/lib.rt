@@ -2,10 +2,10 @@
 use definitions::Answer;
 use definitions::MOST_SCRIPT;
 use definitions::Refusal;
-use forms::Form;
-use forms::read_form;
 use lines::Next;
 use lines::next_line;
+use opening::First;
+use opening::first_line;
 use printing::Ending;
 use printing::print;
 use table::MOST_SIZE;
@@ -108,16 +108,11 @@ fn run_script(script: &[u8], history: &mut [u8]) -> Ran
     requires { ⌜ Roomy (now script) (now history) ⌝ }
     ensures { λ r. ⌜ Recorded (runOutputOf (now (script .entry))) (now (history .exit)) r ⌝ }
 {
-    let first = next_line(script, 0);
-    let Next::Line(end) = first else {
+    let first = first_line(script);
+    let First::Threads { count, start } = first else {
         return stopped(0, Refusal::BadForm, 1);
     };
-    let form = read_form(&script[0..end]);
-    let Form::Threads(threads) = form else {
-        return stopped(0, Refusal::BadForm, 1);
-    };
-    let start = end + 1;
-    run_from(script, start, threads, history)
+    run_from(script, start, count, history)
 }
 
 // The entry. The moves are made once, and nothing is written before the output is known to have room.

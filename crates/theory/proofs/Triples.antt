@@ -1,7 +1,7 @@
 -- The requests of a list of byte triples, from a triple on; and that requests and triples are inverse.
 use Prim.Native.Nat.{ℕ, suc, _+_, _*_, _/_, _%_, _≤_, _<_}
 use native.Mathlib.Omega.{arith}
-use mathlib.Core.List.{List, [], _∷_}
+use mathlib.Core.List.{List, [], _∷_, _++_}
 use mathlib.Core.Path.{_≡_, refl, ap}
 use lib.ListN.{length, getD, drop, length-drop}
 use lib.Seq.{drop-cons}
@@ -65,3 +65,9 @@ triples-written [] e = refl
 triples-written (i ∷ []) e = absurd (omega arith)
 triples-written (i ∷ m ∷ []) e = absurd (omega arith)
 triples-written (i ∷ m ∷ t ∷ rest) e = ap (λ (ys : List ℕ). i ∷ m ∷ t ∷ ys) (triples-written rest (omega arith))
+
+-- the bytes of two lists of requests
+pub bytes-append : (xs ys : List Request) → bytesOf (xs ++ ys) ≡ bytesOf xs ++ bytesOf ys
+unfolding bytesOf
+bytes-append [] ys = refl
+bytes-append (r ∷ xs) ys = ap (λ (l : List ℕ). r .thread ∷ r .mv ∷ r .target ∷ l) (bytes-append xs ys)

@@ -14,14 +14,10 @@ use Rattle.definitions.specs.declared.Request.{Request}
 use Rattle.theory.specs.Outputs.{putAt, RoomAt, PutAt}
 use Rattle.theory.proofs.Lengths.{bytes-length}
 use Rattle.theory.proofs.Outputs.{none, same-size, room-first, room-second, both}
+use Rattle.theory.proofs.Triples.{bytes-append}
 use Rattle.theory.proofs.Quantifiers.{below-suc}
 
 -- ---- one list behind another
-
-bytes-append : (xs ys : List Request) → bytesOf (xs ++ ys) ≡ bytesOf xs ++ bytesOf ys
-unfolding bytesOf
-bytes-append [] ys = refl
-bytes-append (r ∷ xs) ys = ap (λ (l : List ℕ). r .thread ∷ r .mv ∷ r .target ∷ l) (bytes-append xs ys)
 
 module _ {a : List ℕ} {at : ℕ} (xs ys : List Request) (r : RoomAt a at (bytesOf (xs ++ ys))) where
   room-both : RoomAt a at (bytesOf xs ++ bytesOf ys)

@@ -14,7 +14,7 @@ ghost use Rattle.theory.specs.Outputs.{RoomAt, PutAt};
 ghost use Rattle.triples.specs.Requests.{goTimes, setEach, clearEach};
 
 // One triple.
-fn put_triple(out: &mut [u8], at: usize, thread: u8, mv: u8, target: u8) -> usize
+pub fn put_triple(out: &mut [u8], at: usize, thread: u8, mv: u8, target: u8) -> usize
     requires { ⌜ RoomAt (now out) at (bytesOf (ask thread mv target ∷ [])) ⌝ }
     ensures { λ r. ⌜ PutAt (now (out .entry)) at (bytesOf (ask thread mv target ∷ [])) (now (out .exit)) r ⌝ }
 {
