@@ -19,9 +19,10 @@ use Rattle.theory.specs.Outputs.{Delivered}
 use Rattle.round_trips.specs.Exchange.{Writable, Readable}
 use Rattle.theory.proofs.Outputs.{whole, delivered-as, answered-so, text-first}
 use Rattle.theory.proofs.Replies.{pass, no-test}
+use Rattle.theory.proofs.Stages.{count-most}
 use Rattle.theory.proofs.TestLists.{passes-join}
 use Rattle.theory.proofs.Triples.{triples-written}
-use Rattle.round_trips.proofs.WrittenLines.{lineOf, linesFor, script-lines, Numbered, other-place, writable-e, count-most, count-read, move-read}
+use Rattle.round_trips.proofs.WrittenLines.{lineOf, linesFor, script-lines, Numbered, other-place, writable-e, count-read, move-read}
 
 -- what the lines of a script are read as: they pass their tests, and state N and these requests
 record ReadAs (n : ℕ) (rs : List Request) (ls : List Line) : Type 0 where

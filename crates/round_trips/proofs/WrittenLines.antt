@@ -24,6 +24,7 @@ use Rattle.forms.proofs.Spelling.{threads-read, request-read}
 use Rattle.theory.proofs.Lengths.{bytes-length}
 use Rattle.theory.proofs.Numbers.{decimal-small, decimal-more, by-tens}
 use Rattle.theory.proofs.Replies.{peel, pass, no-test}
+use Rattle.theory.proofs.Stages.{count-most}
 use Rattle.theory.proofs.TestLists.{passes-split, passes-join}
 use Rattle.theory.proofs.Tests.{T-false, and-l, and-r, and-i, ne-T, eq-T}
 use Rattle.theory.proofs.Triples.{bytes-read}
@@ -173,10 +174,6 @@ bytes-writable n rs c f short =
     }
 
 -- ---- requests that can be spelled
-
--- N is up to 200
-pub count-most : (n : ℕ) → T (countFits n) → n ≤ mostThreads
-count-most n t = leb→le n mostThreads (and-r (leb 1 n) (leb n mostThreads) t)
 
 -- a target that fits n fits a larger number
 target-more : (n m mv t : ℕ) → n ≤ m → T (targetFits n mv t) → T (targetFits m mv t)

@@ -1,21 +1,23 @@
 -- Lines: their bytes add up to the script's, a line that states a request has the bytes of its form, and what a line does to the run.
-use Prim.Native.Nat.{ℕ, suc, _+_, _-_, _≤_}
+use Prim.Native.Nat.{ℕ, suc, _+_, _-_, _*_, _≤_}
 use native.Mathlib.Omega.{arith}
 use mathlib.Core.Bool.{Bool, true, false, cond, _&&_, _||_}
 use mathlib.Core.List.{List, [], _∷_}
 use mathlib.Core.Path.{_≡_, refl, ap, _∙_}
 use lib.Dec.{T, leb, eqb, leb→le}
-use lib.ListN.{length, getD, take, drop, length-drop}
+use lib.ListN.{length, getD, take, drop, length-append, length-drop}
 use Rattle.definitions.specs.Answers.{Reply, accepted, refused, Seen, Test, answered}
 use Rattle.definitions.specs.Bounds.{lastMove}
 use Rattle.definitions.specs.Codes.{callShared, callExclusive, setMove, clearMove}
-use Rattle.definitions.specs.Forms.{Form, threads, request, note, bad, actText, noteFits, noteForm, threadsForm, targetForm, aimedForm, plainMoves, actForm, moveForm, formOf, lineForm}
+use Rattle.definitions.specs.Forms.{Form, threads, request, note, bad, actText, noteFits, noteForm, threadsForm, targetForm, aimedForm, plainMoves, actForm, moveForm, formOf, lineForm, requestIn}
 use Rattle.definitions.specs.Moves.{ask, replyIn, moveReply}
 use Rattle.definitions.specs.Run.{Turn, stops, passes, makes, turnFor, turnOf}
+use Rattle.definitions.specs.Scripts.{requestsIn}
 use Rattle.definitions.specs.Texts.{bytes, same, starts, lineFeed, Line, inFront, linesOf, decimalWithin, decimal, NumberRead, numberRead}
 use Rattle.definitions.specs.Threads.{every, implies}
 use Rattle.definitions.specs.declared.Request.{Request}
 use Rattle.theory.proofs.LineTurns.{numbers, request-either}
+use Rattle.theory.proofs.Numbers.{decimal-some}
 use Rattle.theory.proofs.PlainMoves.{plain-e, plain-form}
 use Rattle.theory.proofs.Quantifiers.{every-at}
 use Rattle.theory.proofs.Tests.{T-true, and-l, and-r, implies-e, cond-either}
@@ -141,6 +143,21 @@ line-long l = by (l .ended) (l .text)
     by : (ended : Bool) (text : List ℕ) → Long (length text + cond ended 1 0) (cond ended (formOf text) bad)
     by true text = form-long text
     by false text = tt
+
+-- ---- the requests that lines state
+
+request-long : (size : ℕ) (f : Form) → Long size f → 9 * length (requestIn f) ≤ size
+request-long size (threads n) w = omega arith
+request-long size (request r) w = omega (arith, w .plain, decimal-some (r .thread))
+request-long size note w = omega arith
+request-long size bad w = omega arith
+
+-- a request takes nine bytes
+pub stated-few : (ls : List Line) → 9 * length (requestsIn ls) ≤ sizeOf ls
+unfolding requestsIn
+stated-few [] = omega arith
+stated-few (l ∷ ls) =
+    omega (arith, request-long (lineSize l) (lineForm l) (line-long l), stated-few ls, length-append (requestIn (lineForm l)) (requestsIn ls))
 
 -- ---- what a line does to the run
 

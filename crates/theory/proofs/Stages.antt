@@ -5,10 +5,10 @@ use mathlib.Core.Bool.{Bool, not}
 use mathlib.Core.Logic.{⊎-elim}
 use mathlib.Core.Path.{_≡_, refl, sym, subst, ap, _∙_}
 use lib.Dec.{T, leb, eqb, leb→le, le→leb, eqb→eq}
-use Rattle.definitions.specs.Bounds.{lastPhase, noTarget}
+use Rattle.definitions.specs.Bounds.{mostThreads, lastPhase, noTarget}
 use Rattle.definitions.specs.Phases.{rows, busyIn, holds}
 use Rattle.definitions.specs.Sound.{sound, opened}
-use Rattle.definitions.specs.Table.{Table, freshTable, tableOf, fresh}
+use Rattle.definitions.specs.Table.{Table, countFits, freshTable, tableOf, fresh}
 use Rattle.definitions.specs.Threads.{every, between, implies}
 use Rattle.theory.proofs.Bytes.{fresh-table}
 use Rattle.theory.proofs.Quantifiers.{every-at}
@@ -19,6 +19,10 @@ use Rattle.theory.proofs.Tests.{and-l, and-r, and-i, or-e, no-both, not
 
 pub between-e : (a b p : ℕ) → T (between a b p) → (a ≤ p) × (p ≤ b)
 between-e a b p t = (leb→le a p (and-l (leb a p) (leb p b) t), leb→le p b (and-r (leb a p) (leb p b) t))
+
+-- N is up to 200
+pub count-most : (n : ℕ) → T (countFits n) → n ≤ mostThreads
+count-most n t = between-e 1 mostThreads n t .1
 
 pub between-i : (a b p : ℕ) → a ≤ p → p ≤ b → T (between a b p)
 between-i a b p k l = and-i (leb a p) (leb p b) (le→leb a p k) (le→leb p b l)

@@ -1,0 +1,2 @@
+-- What the promises of reading's inner functions cite besides the definitions.
+pub mod Moves
