@@ -16,7 +16,7 @@ use Rattle.theory.proofs.OpenMovesExact as exact
 use Rattle.theory.proofs.SoundKept as kept
 use Rattle.theory.proofs.Storages as storages
 use Rattle.watching.proofs.EveryEvent as watching
-use Rattle.wospinzo.proofs.Apart as apart
+use Rattle.answer_numbers.proofs.Apart as apart
 use Rattle.wospinzo.proofs.wospinzo_check.Met as check
 use Rattle.wospinzo.proofs.wospinzo_fresh.Met as fresh
 use Rattle.wospinzo.proofs.wospinzo_move.Met as move

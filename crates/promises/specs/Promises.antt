@@ -37,7 +37,7 @@ use Rattle.theory.specs.Outputs.{Delivered}
 use Rattle.theory.specs.Statements.{OutsideView, writesMutex, MayWrite, Disciplined, atMutex, localMove, Agree, Stands}
 use Rattle.theory.specs.Tables.{SoundBytes, Keeps}
 use Rattle.watching.specs.Verdicts.{verdictOn, verdictsOn, acceptedOf, someInside}
-use Rattle.wospinzo.specs.Encoding.{moveNumber, countNumber, watchNumber, insideNumber}
+use Rattle.answer_numbers.specs.Encoding.{moveNumber, countNumber, watchNumber, insideNumber}
 use Rattle.printout.proofs.print_input.Statement as printing
 use Rattle.wospinzo.proofs.wospinzo_check.Statement as check
 use Rattle.wospinzo.proofs.wospinzo_fresh.Statement as fresh-table

@@ -11,11 +11,13 @@ use Rattle.definitions.specs.Bounds.{lastMove}
 use Rattle.definitions.specs.Codes.{callShared, callExclusive, setMove, clearMove}
 use Rattle.definitions.specs.Forms.{Form, threads, request, note, bad, actText, noteFits, noteForm, threadsForm, targetForm, aimedForm, plainMoves, actForm, moveForm, formOf, lineForm, requestIn}
 use Rattle.definitions.specs.Moves.{ask, replyIn, moveReply}
+use Rattle.definitions.specs.Plan.{bytesOf}
 use Rattle.definitions.specs.Run.{Turn, stops, passes, makes, turnFor, turnOf}
-use Rattle.definitions.specs.Scripts.{requestsIn}
+use Rattle.definitions.specs.Scripts.{requestsIn, moveLines, statedBy}
 use Rattle.definitions.specs.Texts.{bytes, same, starts, lineFeed, Line, inFront, linesOf, decimalWithin, decimal, NumberRead, numberRead}
 use Rattle.definitions.specs.Threads.{every, implies}
 use Rattle.definitions.specs.declared.Request.{Request}
+use Rattle.theory.proofs.Lengths.{bytes-length}
 use Rattle.theory.proofs.LineTurns.{numbers, request-either}
 use Rattle.theory.proofs.Numbers.{decimal-some}
 use Rattle.theory.proofs.PlainMoves.{plain-e, plain-form}
@@ -158,6 +160,14 @@ unfolding requestsIn
 stated-few [] = omega arith
 stated-few (l ∷ ls) =
     omega (arith, request-long (lineSize l) (lineForm l) (line-long l), stated-few ls, length-append (requestIn (lineForm l)) (requestsIn ls))
+
+-- so the triples that a script states take a third of its bytes at most
+pub read-few : (script : List ℕ) → 3 * length (bytesOf (statedBy script)) ≤ length script
+read-few script = omega (arith, bytes-length (statedBy script), stated-few (moveLines script), behind-size (linesOf script), lines-size script)
+  where
+    behind-size : (ls : List Line) → sizeOf (drop 1 ls) ≤ sizeOf ls
+    behind-size [] = omega arith
+    behind-size (l ∷ ls) = omega arith
 
 -- ---- what a line does to the run
 

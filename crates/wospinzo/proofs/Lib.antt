@@ -1,8 +1,2 @@
--- That answers are small and told apart; then what the walks of the functions over a lent record share. Each file says what it shows.
-pub mod Small
-pub mod Apart
-pub mod Lent
-pub mod Places
-pub mod LentPlaces
-pub mod MutPlaces
+-- What is left of a watcher's record whose head is stored back.
 pub mod RenewedLaws

@@ -23,8 +23,8 @@ use Rattle.wospinzo.specs.Records.{left}
 use Rattle.wospinzo.specs.declared.Renewed.{Renewed}
 use Rattle.wospinzo.proofs.Renewed as D
 use Rattle.wospinzo.proofs.Renewed.Laws as D′
-use Rattle.wospinzo.proofs.Lent.{vals, Holds}
-use Rattle.wospinzo.proofs.Places.{with-places}
+use Rattle.lent_record.proofs.Lent.{vals, Holds}
+use Rattle.lent_record.proofs.Places.{with-places}
 
 abbrev pub S : RattleType
 S = D.the-row

@@ -1,3 +1,3 @@
--- Answers as numbers, and a watcher's record of its parts.
-pub mod Encoding
+-- What the promises of the entries cite besides the definitions and the answers' numbers.
 pub mod Records
+pub mod Version

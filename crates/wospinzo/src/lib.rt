@@ -1,17 +1,17 @@
 // The part's entries for C and Rust: thin functions on numbers and byte slices, each with its promise. An answer is one
-// number (specs/Encoding.antt): its low byte is the refusal's number, 0 where the request is accepted, and the rest is the
-// refusal's place, the count, or the event's code.
-use definitions::Answer;
-use definitions::Inside;
-use definitions::Outcome;
+// number (crate answer_numbers).
+use answer_numbers::answer_number;
+use answer_numbers::hold_place;
+use answer_numbers::inside_number;
+use answer_numbers::outcome_number;
+use answer_numbers::reading_number;
+use answer_numbers::watch_number;
 use definitions::Request;
-use definitions::Watched;
 use definitions::Watcher;
 use watch::Head;
-ghost use Prim.Native.Nat.{_<_};
 ghost use mathlib.Core.Path.{_≡_};
 ghost use lib.ListN.{length};
-ghost use Rattle.definitions.specs.Answers.{outcomeReply, answerReply, deliveryReply, deliveryOutput};
+ghost use Rattle.definitions.specs.Answers.{deliveryReply, deliveryOutput};
 ghost use Rattle.definitions.specs.Bounds.{mostThreads};
 ghost use Rattle.definitions.specs.Moves.{ask, moveReply, moveTable};
 ghost use Rattle.definitions.specs.Nodes.{nodesEntry};
@@ -19,39 +19,19 @@ ghost use Rattle.definitions.specs.OpenMoves.{openEntry};
 ghost use Rattle.definitions.specs.PlainLock.{checkReply};
 ghost use Rattle.definitions.specs.Plan.{planEntry};
 ghost use Rattle.definitions.specs.Run.{runEntry};
+ghost use Rattle.definitions.specs.Scripts.{writeEntry, readEntry};
 ghost use Rattle.definitions.specs.Table.{freshEntry};
-ghost use Rattle.definitions.specs.Watch.{watchedReply, insideReply, startReply, startRecord, eventReply, eventRecord, questionReply};
-ghost use Rattle.wospinzo.specs.Encoding.{moveNumber, countNumber, watchNumber, insideNumber, valueIn, valueBound, version};
+ghost use Rattle.definitions.specs.Watch.{startReply, startRecord, eventReply, eventRecord, questionReply};
+ghost use Rattle.answer_numbers.specs.Encoding.{moveNumber, countNumber, watchNumber, insideNumber, readNumber, held};
 ghost use Rattle.wospinzo.specs.Records.{recordWith, left};
+ghost use Rattle.wospinzo.specs.Version.{version};
 
 // The part's version: major, minor and patch number. docs/CHANGELOG.md says what each of them promises.
 const MAJOR: u32 = 1;
 
-const MINOR: u32 = 2;
+const MINOR: u32 = 3;
 
 const PATCH: u32 = 0;
-
-// The number of an outcome of the move.
-fn outcome_number(outcome: Outcome) -> u64
-    ensures { λ r. ⌜ r ≡ moveNumber (outcomeReply outcome) ⌝ }
-{
-    match outcome {
-        Outcome::Shown(event) => 256 * (event.code() as u64),
-        Outcome::Quiet => 0,
-        Outcome::Refused(refusal) => refusal.number() as u64,
-    }
-}
-
-// The number of any other entry's answer, whose value is small.
-fn answer_number(answer: Answer) -> u64
-    requires { ⌜ valueIn (answerReply answer) < valueBound ⌝ }
-    ensures { λ r. ⌜ r ≡ countNumber (answerReply answer) ⌝ }
-{
-    match answer {
-        Answer::Done(count) => 256 * (count as u64),
-        Answer::Refused(refusal, place) => 256 * (place as u64) + (refusal.number() as u64),
-    }
-}
 
 // A fresh table for N threads.
 #[no_mangle]
@@ -122,25 +102,25 @@ pub extern "C" fn wospinzo_run(script: &[u8], out: &mut [u8]) -> u64
     answer_number(answer)
 }
 
-// The number of a watcher's answer to its start or to an event.
-fn watch_number(answer: Watched) -> u64
-    ensures { λ r. ⌜ r ≡ watchNumber (watchedReply answer) ⌝ }
+// A list of moves, byte triples, as a script.
+#[no_mangle]
+pub extern "C" fn wospinzo_write_script(threads: u16, triples: &[u8], out: &mut [u8]) -> u64
+    ensures { λ r. ⌜ r ≡ countNumber (held (deliveryReply (writeEntry threads (now (triples .entry))) (now (out .entry)))) ⌝ }
+    ensures { λ r. ⌜ now (out .exit) ≡ deliveryOutput (writeEntry threads (now (triples .entry))) (now (out .entry)) ⌝ }
 {
-    match answer {
-        Watched::Good => 0,
-        Watched::Refused(refusal) => refusal.number() as u64,
-    }
+    let answer = writing::write(threads, triples, out);
+    let fitting = hold_place(answer);
+    answer_number(fitting)
 }
 
-// The number of its answer to the question.
-fn inside_number(answer: Inside) -> u64
-    ensures { λ r. ⌜ r ≡ insideNumber (insideReply answer) ⌝ }
+// The moves of a script, as byte triples, and its N.
+#[no_mangle]
+pub extern "C" fn wospinzo_read_script(script: &[u8], out: &mut [u8]) -> u64
+    ensures { λ r. ⌜ r ≡ readNumber (deliveryReply (readEntry (now (script .entry))) (now (out .entry))) ⌝ }
+    ensures { λ r. ⌜ now (out .exit) ≡ deliveryOutput (readEntry (now (script .entry))) (now (out .entry)) ⌝ }
 {
-    match answer {
-        Inside::Somebody => 256,
-        Inside::Nobody => 0,
-        Inside::Refused(refusal) => refusal.number() as u64,
-    }
+    let answer = reading::read(script, out);
+    reading_number(answer)
 }
 
 // What is left of a watcher's record but for its places, and the number that is answered.

@@ -1,7 +1,7 @@
 -- `wospinzo::ask_record` meets its contract: the question's answer as a number.
 use mathlib.Core.Path.{ap, _∙_}
 use borrow.Author.Needs.{needs}
-use Rattle.wospinzo.specs.Encoding.{insideNumber}
+use Rattle.answer_numbers.specs.Encoding.{insideNumber}
 use Rattle.wospinzo.proofs.ask_record.Statement.{statement}
 use Rattle.wospinzo.proofs.ask_record.Tie as tie
 

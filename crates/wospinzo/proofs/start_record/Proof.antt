@@ -1,7 +1,7 @@
 -- `wospinzo::start_record` meets its contract: the start's answer as a number, and its record.
 use mathlib.Core.Path.{ap, _∙_}
 use borrow.Author.Needs.{needs}
-use Rattle.wospinzo.specs.Encoding.{watchNumber}
+use Rattle.answer_numbers.specs.Encoding.{watchNumber}
 use Rattle.wospinzo.proofs.start_record.Statement.{statement}
 use Rattle.wospinzo.proofs.start_record.Tie as tie
 

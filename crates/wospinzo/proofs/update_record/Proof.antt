@@ -1,7 +1,7 @@
 -- `wospinzo::update_record` meets its contract: the event's answer as a number, and its record.
 use mathlib.Core.Path.{ap, _∙_}
 use borrow.Author.Needs.{needs}
-use Rattle.wospinzo.specs.Encoding.{watchNumber}
+use Rattle.answer_numbers.specs.Encoding.{watchNumber}
 use Rattle.wospinzo.proofs.update_record.Statement.{statement}
 use Rattle.wospinzo.proofs.update_record.Tie as tie
 

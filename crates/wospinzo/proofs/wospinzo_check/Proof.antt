@@ -1,8 +1,8 @@
 -- `wospinzo::wospinzo_check` meets its contract: the check's answer, whose value is small, as a number.
 use mathlib.Core.Path.{ap, _∙_}
 use borrow.Author.Needs.{needs}
-use Rattle.wospinzo.specs.Encoding.{countNumber}
-use Rattle.wospinzo.proofs.Small.{check-small}
+use Rattle.answer_numbers.specs.Encoding.{countNumber}
+use Rattle.answer_numbers.proofs.Small.{check-small}
 use Rattle.wospinzo.proofs.wospinzo_check.Statement.{statement}
 use Rattle.wospinzo.proofs.wospinzo_check.Tie as tie
 

@@ -1,8 +1,8 @@
 -- `wospinzo::wospinzo_fresh` meets its contract: the fresh table's answer, whose value is small, as a number, and its output.
 use mathlib.Core.Path.{ap, _∙_}
 use borrow.Author.Needs.{needs}
-use Rattle.wospinzo.specs.Encoding.{countNumber}
-use Rattle.wospinzo.proofs.Small.{fresh-small}
+use Rattle.answer_numbers.specs.Encoding.{countNumber}
+use Rattle.answer_numbers.proofs.Small.{fresh-small}
 use Rattle.wospinzo.proofs.wospinzo_fresh.Statement.{statement}
 use Rattle.wospinzo.proofs.wospinzo_fresh.Tie as tie
 

@@ -1,7 +1,7 @@
 -- `wospinzo::wospinzo_move` meets its contract: the move's outcome as a number, and its table.
 use mathlib.Core.Path.{ap, _∙_}
 use borrow.Author.Needs.{needs}
-use Rattle.wospinzo.specs.Encoding.{moveNumber}
+use Rattle.answer_numbers.specs.Encoding.{moveNumber}
 use Rattle.wospinzo.proofs.wospinzo_move.Statement.{statement}
 use Rattle.wospinzo.proofs.wospinzo_move.Tie as tie
 

@@ -1,8 +1,8 @@
 -- `wospinzo::wospinzo_nodes` meets its contract: the nodes' answer, whose value is small, as a number, and its output.
 use mathlib.Core.Path.{ap, _∙_}
 use borrow.Author.Needs.{needs}
-use Rattle.wospinzo.specs.Encoding.{countNumber}
-use Rattle.wospinzo.proofs.Small.{nodes-small}
+use Rattle.answer_numbers.specs.Encoding.{countNumber}
+use Rattle.answer_numbers.proofs.Small.{nodes-small}
 use Rattle.wospinzo.proofs.wospinzo_nodes.Statement.{statement}
 use Rattle.wospinzo.proofs.wospinzo_nodes.Tie as tie
 

@@ -1,8 +1,8 @@
 -- `wospinzo::wospinzo_open_moves` meets its contract: the open moves' answer, whose value is small, as a number, and its output.
 use mathlib.Core.Path.{ap, _∙_}
 use borrow.Author.Needs.{needs}
-use Rattle.wospinzo.specs.Encoding.{countNumber}
-use Rattle.wospinzo.proofs.Small.{open-small}
+use Rattle.answer_numbers.specs.Encoding.{countNumber}
+use Rattle.answer_numbers.proofs.Small.{open-small}
 use Rattle.wospinzo.proofs.wospinzo_open_moves.Statement.{statement}
 use Rattle.wospinzo.proofs.wospinzo_open_moves.Tie as tie
 

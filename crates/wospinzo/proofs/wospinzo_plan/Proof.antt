@@ -1,8 +1,8 @@
 -- `wospinzo::wospinzo_plan` meets its contract: the plan's answer, whose value is small, as a number, and its output.
 use mathlib.Core.Path.{ap, _∙_}
 use borrow.Author.Needs.{needs}
-use Rattle.wospinzo.specs.Encoding.{countNumber}
-use Rattle.wospinzo.proofs.Small.{plan-small}
+use Rattle.answer_numbers.specs.Encoding.{countNumber}
+use Rattle.answer_numbers.proofs.Small.{plan-small}
 use Rattle.wospinzo.proofs.wospinzo_plan.Statement.{statement}
 use Rattle.wospinzo.proofs.wospinzo_plan.Tie as tie
 

@@ -41,9 +41,9 @@ use denote.Triple.Walked.{says, Stays, stay-none-ref, walkOf, goes-none-ref, Wal
 use denote.Exit.{yes}
 use Rattle.definitions.specs.declared.Watcher.{Watcher}
 use Rattle.definitions.specs.Watch.{questionReply}
-use Rattle.wospinzo.specs.Encoding.{insideNumber}
-use Rattle.wospinzo.proofs.Lent.{R, Holds, long-of, lent, returned}
-use Rattle.wospinzo.proofs.LentPlaces.{as-slice, slice-of, places-lent, places-returned, answered-lent, threads-fit, shared-fit, exclusive-fit, u8-owned}
+use Rattle.answer_numbers.specs.Encoding.{insideNumber}
+use Rattle.lent_record.proofs.Lent.{R, Holds, long-of, lent, returned}
+use Rattle.lent_record.proofs.LentPlaces.{as-slice, slice-of, places-lent, places-returned, answered-lent, threads-fit, shared-fit, exclusive-fit, u8-owned}
 use Rattle.wospinzo.proofs.ask_record as asked
 use Rattle.wospinzo.proofs.ask_record.Symbol as asked-def
 use Rattle.wospinzo.proofs.ask_record.Symbol.{name as #wospinzo·ask-record}

@@ -42,13 +42,13 @@ use denote.Triple.Walked.{says, Stays, stay-ref, stay-none, walkOf, goes-none, g
 use denote.Exit.{yes}
 use Rattle.definitions.specs.declared.Watcher.{Watcher}
 use Rattle.definitions.specs.Watch.{startReply, startRecord}
-use Rattle.wospinzo.specs.Encoding.{watchNumber}
+use Rattle.answer_numbers.specs.Encoding.{watchNumber}
 use Rattle.wospinzo.specs.Records.{left}
 use Rattle.wospinzo.specs.declared.Renewed.{Renewed}
 use Rattle.wospinzo.proofs.Renewed.Laws as D′
-use Rattle.wospinzo.proofs.Lent.{R, Holds, long-of, borrowed, restored, u16-owned, u64-owned, says-both}
-use Rattle.wospinzo.proofs.LentPlaces.{as-slice, slice-of, threads-fit, shared-fit, exclusive-fit, u8-owned}
-use Rattle.wospinzo.proofs.MutPlaces.{places-lent-mut, places-back, answered-mut}
+use Rattle.lent_record.proofs.Lent.{R, Holds, long-of, borrowed, restored, u16-owned, u64-owned, says-both}
+use Rattle.lent_record.proofs.LentPlaces.{as-slice, slice-of, threads-fit, shared-fit, exclusive-fit, u8-owned}
+use Rattle.lent_record.proofs.MutPlaces.{places-lent-mut, places-back, answered-mut}
 use Rattle.wospinzo.proofs.RenewedLaws.{S, is-renewed, threads-fits, shared-fits, exclusive-fits, number-fits, renewed-typed, left-holds}
 use Rattle.wospinzo.proofs.start_record as start-record
 use Rattle.wospinzo.proofs.start_record.Symbol as start-record-def

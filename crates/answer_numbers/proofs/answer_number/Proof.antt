@@ -1,14 +1,14 @@
--- `wospinzo::answer_number` meets its contract: the value is below the bound, so that 256 times it and a number of at most 12 fit.
+-- `answer_numbers::answer_number` meets its contract: the value is below the bound, so that 256 times it and a number of at most 12 fit.
 use Prim.Native.Nat.{ℕ, _+_, _*_, _<_}
 use native.Mathlib.Omega.{arith}
 use mathlib.Core.Path.{_≡_, sym, subst, ap, _∙_}
 use borrow.Author.Needs.{needs}
 use Rattle.definitions.specs.Answers.{answerReply}
 use Rattle.definitions.specs.declared.Answer.{Answer}
-use Rattle.wospinzo.specs.Encoding.{encoded, countNumber, valueIn, valueBound}
-use Rattle.wospinzo.proofs.Apart.{numbers}
-use Rattle.wospinzo.proofs.answer_number.Statement.{statement}
-use Rattle.wospinzo.proofs.answer_number.Tie as tie
+use Rattle.answer_numbers.specs.Encoding.{encoded, countNumber, valueIn, valueBound}
+use Rattle.answer_numbers.proofs.Apart.{numbers}
+use Rattle.answer_numbers.proofs.answer_number.Statement.{statement}
+use Rattle.answer_numbers.proofs.answer_number.Tie as tie
 
 -- what is required, at the case that the answer is
 small : (a b : Answer) → a ≡ b → valueIn (answerReply a) < valueBound → valueIn (answerReply b) < valueBound

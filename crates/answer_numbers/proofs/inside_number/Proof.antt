@@ -1,12 +1,12 @@
--- `wospinzo::inside_number` meets its contract: at each case the number computes.
+-- `answer_numbers::inside_number` meets its contract: at each case the number computes.
 use native.Mathlib.Nat.{zero-add}
 use mathlib.Core.Path.{sym, ap, _∙_}
 use borrow.Author.Needs.{needs}
 use Rattle.definitions.specs.Watch.{insideReply}
 use Rattle.definitions.specs.declared.Inside.{Inside}
-use Rattle.wospinzo.specs.Encoding.{encoded, insideNumber}
-use Rattle.wospinzo.proofs.inside_number.Statement.{statement}
-use Rattle.wospinzo.proofs.inside_number.Tie as tie
+use Rattle.answer_numbers.specs.Encoding.{encoded, insideNumber}
+use Rattle.answer_numbers.proofs.inside_number.Statement.{statement}
+use Rattle.answer_numbers.proofs.inside_number.Tie as tie
 
 enum-told : tie.Need-enum-told
 enum-told c = search needs

@@ -1,8 +1,10 @@
 -- An answer as one number, for C: the low byte is the refusal's number, 0 where the request is accepted; the rest is the value of what is answered, or the refusal's place.
 -- Of the answers that one entry can give no two have the same number (proofs/Apart).
-use Prim.Native.Nat.{ℕ, _+_, _*_}
+use Prim.Native.Nat.{ℕ, _+_, _-_, _*_}
 use mathlib.Core.Bool.{Bool, cond}
+use lib.Dec.{leb}
 use Rattle.definitions.specs.Answers.{Reply, accepted, refused, Seen, shown, quiet}
+use Rattle.definitions.specs.Scripts.{Listed}
 
 -- one rule for every entry, given the value of what it answers
 unfoldable pub encoded : {A : Type 0} → (A → ℕ) → Reply A → ℕ
@@ -25,6 +27,10 @@ watchValue u = 0
 abbrev pub insideValue : Bool → ℕ
 insideValue inside = cond inside 1 0
 
+-- of reading, N in the lowest byte, and the number of bytes above it
+abbrev pub listedValue : Listed → ℕ
+listedValue l = l .threads + 256 * l .bytes
+
 -- what the move entry answers for its reply, the watcher's for theirs, and every other entry for its own
 abbrev pub moveNumber : Reply Seen → ℕ
 moveNumber = encoded seenValue
@@ -35,18 +41,31 @@ watchNumber = encoded watchValue
 abbrev pub insideNumber : Reply Bool → ℕ
 insideNumber = encoded insideValue
 
+abbrev pub readNumber : Reply Listed → ℕ
+readNumber = encoded listedValue
+
 abbrev pub countNumber : Reply ℕ → ℕ
 countNumber = encoded countValue
 
--- an answer's value: the count, or the place
+-- an answer's value: that of what is answered, or the place
+abbrev pub valueOf : {A : Type 0} → (A → ℕ) → Reply A → ℕ
+valueOf value (accepted a) = value a
+valueOf value (refused number place) = place
+
 abbrev pub valueIn : Reply ℕ → ℕ
-valueIn (accepted count) = count
-valueIn (refused number place) = place
+valueIn = valueOf countValue
+
+abbrev pub listedIn : Reply Listed → ℕ
+listedIn = valueOf listedValue
 
 -- values stay below this, so that an answer fits 64 bits
 abbrev pub valueBound : ℕ
 valueBound = 36_028_797_018_963_968
 
--- the version, as the header has it: 65,536 times the major number, 256 times the minor one, and the patch number
-abbrev pub version : ℕ
-version = 65_536 * 1 + 256 * 2 + 0
+-- a place that stands beside the refusal's number: writing's is the index of a triple in a list of any length, and a larger one than this is answered as this
+abbrev pub heldPlace : ℕ → ℕ
+heldPlace place = cond (leb place (valueBound - 1)) place (valueBound - 1)
+
+abbrev pub held : Reply ℕ → Reply ℕ
+held (accepted count) = accepted count
+held (refused number place) = refused number (heldPlace place)

@@ -28,9 +28,9 @@ use denote.Lend.{Held, lends-slice, slice-back}
 use denote.Index.{row, whole-in, whole-out}
 use denote.Steps.{facts, heard}
 use Rattle.definitions.specs.declared.Watcher.{Watcher}
-use Rattle.wospinzo.proofs.Lent.{R, vals, Holds, long-of}
-use Rattle.wospinzo.proofs.LentPlaces.{as-slice, slice-of, room}
-use Rattle.wospinzo.proofs.Places.{Rest, with-places, places-out, places-in}
+use Rattle.lent_record.proofs.Lent.{R, vals, Holds, long-of}
+use Rattle.lent_record.proofs.LentPlaces.{as-slice, slice-of, room}
+use Rattle.lent_record.proofs.Places.{Rest, with-places, places-out, places-in}
 
 -- what is lent for the call
 abbrev pub LentMut : Watcher → ℕ → ℕ → ℕ → GName → Fml

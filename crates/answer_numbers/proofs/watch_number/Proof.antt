@@ -1,12 +1,12 @@
--- `wospinzo::watch_number` meets its contract: at each case the number computes.
+-- `answer_numbers::watch_number` meets its contract: at each case the number computes.
 use native.Mathlib.Nat.{zero-add}
 use mathlib.Core.Path.{sym, ap, _∙_}
 use borrow.Author.Needs.{needs}
 use Rattle.definitions.specs.Watch.{watchedReply}
 use Rattle.definitions.specs.declared.Watched.{Watched}
-use Rattle.wospinzo.specs.Encoding.{encoded, watchNumber}
-use Rattle.wospinzo.proofs.watch_number.Statement.{statement}
-use Rattle.wospinzo.proofs.watch_number.Tie as tie
+use Rattle.answer_numbers.specs.Encoding.{encoded, watchNumber}
+use Rattle.answer_numbers.proofs.watch_number.Statement.{statement}
+use Rattle.answer_numbers.proofs.watch_number.Tie as tie
 
 enum-told : tie.Need-enum-told
 enum-told c = search needs

@@ -1,8 +1,9 @@
 -- No two answers of an entry have the same number: the number tells the reply. One law for every encoding whose values tell what is answered, then those that there are.
-use Prim.Native.Nat.{ℕ, _≤_, _<_}
+use Prim.Native.Nat.{ℕ, _+_, _*_, _≤_, _<_}
 use native.Mathlib.Omega.{arith}
 use mathlib.Core.Bool.{Bool, true, false}
-use mathlib.Core.Path.{_≡_, refl, ap, ap₂}
+use mathlib.Core.Logic.{⊎-elim}
+use mathlib.Core.Path.{_≡_, refl, sym, ap, ap₂}
 use lib.Dec.{lit≤}
 use Rattle.definitions.specs.Answers.{Reply, accepted, refused, shown, codeOf, numberOf, outcomeReply, answerReply}
 use Rattle.definitions.specs.declared.Answer.{Answer}
@@ -14,12 +15,16 @@ use Rattle.definitions.specs.declared.Inside.{Inside}
 use Rattle.definitions.specs.declared.Inside.the-variants as inside
 use Rattle.definitions.specs.declared.Outcome.{Outcome}
 use Rattle.definitions.specs.declared.Outcome.the-variants as outcome
+use Rattle.definitions.specs.declared.Reading.{Reading}
+use Rattle.definitions.specs.declared.Reading.the-variants as reading
 use Rattle.definitions.specs.declared.Refusal.{Refusal}
 use Rattle.definitions.specs.declared.Refusal.the-variants.{BadSize, Unsound, NoThread, NoMove, BadTarget, NotInPhase, MutexHeld, BadForm, UnknownPair, NotNext, Occupied, NoRoom, Inconsistent}
 use Rattle.definitions.specs.declared.Watched.{Watched}
 use Rattle.definitions.specs.declared.Watched.the-variants as watched
+use Rattle.definitions.specs.Scripts.{Listed, readingReply}
 use Rattle.definitions.specs.Watch.{watchedReply, insideReply}
-use Rattle.wospinzo.specs.Encoding.{encoded, countValue, watchValue, insideValue, moveNumber, countNumber, watchNumber, insideNumber}
+use Rattle.theory.proofs.Tests.{below?}
+use Rattle.answer_numbers.specs.Encoding.{encoded, countValue, watchValue, insideValue, moveNumber, countNumber, watchNumber, insideNumber, readNumber}
 
 -- a refusal's number is from 1 to 255
 abbrev Numbered : {A : Type 0} → Reply A → Type 0
@@ -103,3 +108,25 @@ outcomes-apart outcome.Quiet (outcome.Refused s) h = absurd (omega (arith, numbe
 outcomes-apart (outcome.Refused r) (outcome.Shown e) h = absurd (omega (arith, numbers r))
 outcomes-apart (outcome.Refused r) outcome.Quiet h = absurd (omega (arith, numbers r))
 outcomes-apart (outcome.Refused r) (outcome.Refused s) h = ap (λ (k : ℕ). refused k 0) (omega arith)
+
+-- ---- reading's answers, whose N fits a byte
+
+-- N is below 256 where there is one
+abbrev pub ByteCount : Reply Listed → Type 0
+ByteCount (accepted l) = l .threads < 256
+ByteCount (refused number place) = Unit {0}
+
+-- the digits above N's are in order
+digits-most : (n m k l : ℕ) → m < 256 → n + 256 * k ≡ m + 256 * l → k ≤ l
+digits-most n m k l h e = ⊎-elim (λ below. absurd (omega arith)) (λ le. le) (below? k l)
+
+pub readings-apart : (a b : Reading) → ByteCount (readingReply a) → ByteCount (readingReply b) → readNumber (readingReply a) ≡ readNumber (readingReply b) → readingReply a ≡ readingReply b
+unfolding encoded
+readings-apart (reading.Read n k) (reading.Read m l) h g e =
+    let values : n + 256 * k ≡ m + 256 * l = omega arith in
+    let same-bytes : k ≡ l = omega (arith, digits-most n m k l g values, digits-most m n l k h (sym values)) in
+    let same-count : n ≡ m = omega arith in
+    ap accepted (λ i. record { threads = same-count i; bytes = same-bytes i })
+readings-apart (reading.Read n k) (reading.Refused s q) h g e = absurd (omega (arith, numbers s))
+readings-apart (reading.Refused r p) (reading.Read m l) h g e = absurd (omega (arith, numbers r))
+readings-apart (reading.Refused r p) (reading.Refused s q) h g e = ap₂ refused (omega (arith, numbers r, numbers s)) (omega (arith, numbers r, numbers s))

@@ -29,7 +29,7 @@ use denote.Struct.Laws as LL
 use Rattle.definitions.specs.declared.Watcher.{Watcher}
 use Rattle.definitions.proofs.Watcher as T
 use Rattle.definitions.proofs.Watcher.Laws as T′
-use Rattle.wospinzo.proofs.Lent.{R, vals, Holds}
+use Rattle.lent_record.proofs.Lent.{R, vals, Holds}
 
 abbrev pub with-places : Watcher → List ℕ → Watcher
 with-places h zs = record { threads = h .threads; shared = h .shared; exclusive = h .exclusive; places = zs }

@@ -35,8 +35,8 @@ use denote.Struct.Laws as LL
 use Rattle.definitions.specs.declared.Watcher.{Watcher}
 use Rattle.definitions.proofs.Watcher as T
 use Rattle.definitions.proofs.Watcher.Laws as T′
-use Rattle.wospinzo.proofs.Lent.{R, vals, Holds, long-of}
-use Rattle.wospinzo.proofs.Places.{Rest, places-out, places-in}
+use Rattle.lent_record.proofs.Lent.{R, vals, Holds, long-of}
+use Rattle.lent_record.proofs.Places.{Rest, places-out, places-in}
 
 abbrev pub as-slice : Watcher → ℕ → ℕ → GName → RefT (List ℕ)
 as-slice h b o δ = record { ptr = (b, o + 3); name = δ; now = h .places }

@@ -1,0 +1,3 @@
+-- That answers are small, and told apart by their numbers.
+pub mod Apart
+pub mod Small

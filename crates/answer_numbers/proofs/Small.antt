@@ -1,0 +1,287 @@
+-- The values of every entry's answer are small, so that the answer fits 64 bits with its refusal's number beside it.
+-- An answer's value is the place of one of the entry's tests, or what is answered where all are passed.
+use Prim.Native.Nat.{ℕ, zero, suc, _+_, _-_, _*_, _%_, _≤_, _<_}
+use native.Mathlib.Omega.{arith}
+use mathlib.Core.Bool.{Bool, true, false, cond, _&&_}
+use mathlib.Core.List.{List, [], _∷_, _++_}
+use mathlib.Core.Path.{_≡_, refl, sym, subst, ap}
+use lib.Dec.{T, leb, eqb, leb→le, le→leb}
+use lib.ListN.{length, getD, length-append}
+use Rattle.definitions.specs.Answers.{Test, test, Reply, accepted, refused, answered, passesAll, Delivery, roomTest, deliveryReply}
+use Rattle.definitions.specs.Bounds.{mostThreads, mostHistory, mostScript}
+use Rattle.definitions.specs.Chains.{requestsOf}
+use Rattle.definitions.specs.Codes.{go, setMove, clearMove}
+use Rattle.definitions.specs.Forms.{Form, threads, request, note, bad, lineForm, firstTests, threadsFirst, lineTests}
+use Rattle.definitions.specs.Moves.{ask}
+use Rattle.definitions.specs.Nodes.{nodesOf, nodesEntry}
+use Rattle.definitions.specs.OpenMoves.{openEntry}
+use Rattle.definitions.specs.Phases.{nodeOf}
+use Rattle.definitions.specs.PlainLock.{Pair, pairsOf, testsOf, checkTests, checkReply}
+use Rattle.definitions.specs.Plan.{planRows, planOf, plan, planEntry}
+use Rattle.definitions.specs.Run.{runEntry}
+use Rattle.definitions.specs.Scripts.{scriptOf, triplesTests, writeTests, writeEntry, linesTests, scriptTests, threadsOfLines, readEntry}
+use Rattle.definitions.specs.Table.{sized, freshEntry, tableOf}
+use Rattle.definitions.specs.Texts.{Line, linesOf}
+use Rattle.definitions.specs.Threads.{gather}
+use Rattle.definitions.specs.declared.Request.{Request}
+use Rattle.answer_numbers.specs.Encoding.{countValue, listedValue, valueOf, valueIn, valueBound, heldPlace, held}
+use Rattle.history.proofs.CheckLaws.{tests-e}
+use Rattle.runs.proofs.Lines.{lines-count, read-few}
+use Rattle.runs.proofs.Suffices.{suffices}
+use Rattle.theory.proofs.Bytes.{sized-e}
+use Rattle.theory.proofs.Lengths.{gather-length, pairs-length, fresh-length}
+use Rattle.theory.proofs.Lists.{length-listOf}
+use Rattle.theory.proofs.OpenMovesExact.{open-short}
+use Rattle.theory.proofs.Outputs.{answered-so}
+use Rattle.theory.proofs.Replies.{peel, pass}
+use Rattle.theory.proofs.Stages.{count-most}
+use Rattle.theory.proofs.TestLists.{passes-append, passes-split}
+use Rattle.theory.proofs.Tests.{and-l, and-r, cond-yes, cond-either}
+use Rattle.theory.proofs.Triples.{triples-count}
+
+-- ---- by an entry's tests
+
+-- the place of every test that is come to is below a bound
+abbrev PlacesBelow : ℕ → List Test → Type 0
+PlacesBelow bound [] = Unit {0}
+PlacesBelow bound (t ∷ ts) = (t .place < bound) × (T (t .passed) → PlacesBelow bound ts)
+
+places-append : (bound : ℕ) (ts us : List Test) → PlacesBelow bound ts → PlacesBelow bound us → PlacesBelow bound (ts ++ us)
+places-append bound [] us h k = k
+places-append bound (t ∷ ts) us h k = (h .0, λ p. places-append bound ts us (h .1 p) k)
+
+places-gather : (bound : ℕ) (f : ℕ → List Test) (n : ℕ) → ((k : ℕ) → k < n → PlacesBelow bound (f k)) → PlacesBelow bound (gather n f)
+unfolding gather
+places-gather bound f zero h = tt
+places-gather bound f (suc n) h = places-append bound (gather n f) (f n) (places-gather bound f n (λ k l. h k (omega arith))) (h n (omega arith))
+
+-- the value of what is answered
+small-answer : {A : Type 0} (value : A → ℕ) (ts : List Test) (a : A) (bound : ℕ) → PlacesBelow bound ts → (T (passesAll ts) → value a < bound) → valueOf value (answered ts a) < bound
+unfolding answered passesAll
+small-answer value [] a bound h k = k tt
+small-answer {A} value (t ∷ ts) a bound h k = by (t .passed) refl (λ p. small-answer value ts a bound (h .1 p) (λ q. k (pass t ts p q)))
+  where
+    by : (b : Bool) → t .passed ≡ b → (T (t .passed) → valueOf value (answered ts a) < bound) → valueOf value (cond b (answered ts a) (refused (t .number) (t .place))) < bound
+    by true e rest = rest (subst T (sym e) tt)
+    by false e rest = h .0
+
+-- a reply to what is delivered has a small value
+abbrev pub SmallValue : {A : Type 0} → (A → ℕ) → Delivery A → Type 0
+SmallValue {A} value d = (out : List ℕ) (r : Reply A) → r ≡ deliveryReply d out → valueOf value r < valueBound
+
+abbrev pub SmallReply : Delivery ℕ → Type 0
+SmallReply = SmallValue countValue
+
+small-value : {A : Type 0} (value : A → ℕ) (d : Delivery A) → PlacesBelow valueBound (d .tests) → (T (passesAll (d .tests)) → value (d .answer) < valueBound) → SmallValue value d
+unfolding deliveryReply
+small-value value d h k out r e =
+    let room = roomTest (d .text) out ∷ [] in
+    rw e (small-answer value (d .tests ++ room) (d .answer) valueBound (places-append valueBound (d .tests) room h (omega arith, λ p. tt))
+    (λ p. k (and-l (passesAll (d .tests)) (passesAll room) (subst T (passes-append (d .tests) room) p))))
+
+small-delivery : (d : Delivery ℕ) → PlacesBelow valueBound (d .tests) → (T (passesAll (d .tests)) → d .answer < valueBound) → SmallReply d
+small-delivery = small-value countValue
+
+-- ---- tables
+
+pub fresh-small : (n : ℕ) → SmallReply (freshEntry n)
+fresh-small n =
+    small-delivery (freshEntry n) (omega arith, λ p. tt)
+    (λ p. omega (arith, fresh-length n, leb→le n mostThreads (and-r (leb 1 n) (leb n mostThreads) (peel _ [] p .0))))
+
+-- a table that passed test 1 has at most 200 threads
+few : (bytes : List ℕ) (ts : List Test) → T (passesAll (test 1 (sized bytes) ∷ ts)) → tableOf bytes .threads ≤ mostThreads
+few bytes ts p = sized-e bytes (peel _ ts p .0) .most
+
+pub nodes-small : (bytes : List ℕ) → SmallReply (nodesEntry bytes)
+unfolding nodesOf
+nodes-small bytes =
+    small-delivery (nodesEntry bytes) (omega arith, λ p. (omega arith, λ q. tt))
+    (λ p. omega (arith, few bytes _ p, length-listOf (tableOf bytes .threads) (λ i. nodeOf (tableOf bytes .phase i))))
+
+pub open-small : (bytes : List ℕ) (thread : ℕ) → SmallReply (openEntry bytes thread)
+open-small bytes thread =
+    small-delivery (openEntry bytes thread) (omega arith, λ p. (omega arith, λ q. (omega arith, λ r. tt)))
+    (λ p. omega (arith, few bytes _ p, open-short (tableOf bytes) thread))
+
+-- ---- check and plan
+
+-- a history that passed test 8 has at most 60,000 bytes, so that its pairs' places are small
+check-places : (n : ℕ) (bytes : List ℕ) → PlacesBelow valueBound (checkTests n bytes)
+unfolding testsOf
+check-places n bytes = (omega arith, λ p. (omega arith, λ q. places-gather valueBound (testsOf n (pairsOf bytes)) (length (pairsOf bytes)) (pair q)))
+  where
+    pair : T (eqb (length bytes % 2) 0 && leb (length bytes) mostHistory) → (k : ℕ) → k < length (pairsOf bytes) → PlacesBelow valueBound (testsOf n (pairsOf bytes) k)
+    pair q k l =
+        let short = leb→le (length bytes) mostHistory (and-r (eqb (length bytes % 2) 0) (leb (length bytes) mostHistory) q) in
+        let below : k < valueBound = omega (arith, pairs-length bytes) in
+        (below, λ u. (below, λ v. (below, λ w. tt)))
+
+-- what the check shows of a history
+checked : (n : ℕ) (bytes : List ℕ) → T (passesAll (checkTests n bytes)) → (n ≤ mostThreads) × (length (pairsOf bytes) ≤ 30_000)
+checked n bytes p = let f = tests-e n bytes p .0 in (f .most, omega (arith, f .short, pairs-length bytes))
+
+pub check-small : (n : ℕ) (bytes : List ℕ) (r : Reply ℕ) → r ≡ checkReply n bytes → valueIn r < valueBound
+unfolding checkReply
+check-small n bytes r e =
+    rw e (small-answer countValue (checkTests n bytes) (length (pairsOf bytes)) valueBound (check-places n bytes) (λ p. omega (arith, checked n bytes p .1)))
+
+-- all lists of a table of lists are short
+abbrev AllShort : {A : Type 0} → ℕ → List (List A) → Type 0
+AllShort bound [] = Unit {0}
+AllShort bound (xs ∷ xss) = (length xs ≤ bound) × AllShort bound xss
+
+short-at : {A : Type 0} (bound : ℕ) (xss : List (List A)) (k : ℕ) → AllShort bound xss → length (getD xss k []) ≤ bound
+short-at bound [] k h = omega arith
+short-at bound (xs ∷ xss) zero h = h .0
+short-at bound (xs ∷ xss) (suc k) h = short-at bound xss k (h .1)
+
+-- an event takes at most 402 moves, event 6 for 200 threads
+event-moves : (n : ℕ) (x : Pair) → n ≤ mostThreads → length (planOf n x) ≤ 402
+unfolding planOf
+event-moves n x l = short-at 402 (planRows n i) (x .event) rows
+  where
+    i : ℕ
+    i = x .thread
+
+    last : List Request
+    last = ask i go 0 ∷ []
+
+    sets : ℕ → List Request
+    sets t = ask i setMove t ∷ ask i go 0 ∷ []
+
+    clears : ℕ → List Request
+    clears t = ask i clearMove t ∷ []
+
+    rows : AllShort 402 (planRows n i)
+    rows = (
+      omega arith,
+      (
+        omega arith,
+        (
+          omega arith,
+          (
+            omega arith,
+            (
+              omega arith,
+              (
+                omega arith,
+                (
+                  omega (arith, length-append (gather n sets) last, gather-length sets 2 n (λ t. refl)),
+                  (omega (arith, length-append (gather n clears) last, gather-length clears 1 n (λ t. refl)), (omega arith, tt)),
+                ),
+              ),
+            ),
+          ),
+        ),
+      ),
+    )
+
+plan-moves : (n : ℕ) (h : List Pair) → n ≤ mostThreads → length (plan n h) ≤ 402 * length h
+unfolding plan
+plan-moves n [] l = omega arith
+plan-moves n (x ∷ xs) l = omega (arith, length-append (planOf n x) (plan n xs), event-moves n x l, plan-moves n xs l)
+
+pub plan-small : (n : ℕ) (bytes : List ℕ) → SmallReply (planEntry n bytes)
+plan-small n bytes =
+    small-delivery (planEntry n bytes) (check-places n bytes)
+    (λ p. let c = checked n bytes p in omega (arith, plan-moves n (pairsOf bytes) (c .0), c .1))
+
+-- ---- the run
+
+pub run-small : (script : List ℕ) → SmallReply (runEntry script)
+run-small script =
+    small-delivery (runEntry script) (omega arith, λ p. tt)
+    (λ p. omega (arith, suffices script (leb→le (length script) mostScript (peel _ [] p .0))))
+
+-- ---- scripts written and read
+
+-- a place that is held is small, whatever it was
+place-held : (place : ℕ) → heldPlace place < valueBound
+place-held place = cond-either (λ (k : ℕ). k < valueBound) (leb place (valueBound - 1)) place (valueBound - 1) (λ t. let l = leb→le place (valueBound - 1) t in omega arith) (λ t. omega arith)
+
+pub write-small : (n : ℕ) (triples out : List ℕ) (r : Reply ℕ) → r ≡ held (deliveryReply (writeEntry n triples) out) → valueIn r < valueBound
+write-small n triples out r e = rw e (by (deliveryReply (writeEntry n triples) out) refl)
+  where
+    size : ℕ
+    size = length (scriptOf n (requestsOf triples))
+
+    by : (x : Reply ℕ) → deliveryReply (writeEntry n triples) out ≡ x → valueIn (held x) < valueBound
+    by (accepted count) d =
+        let s = answered-so (writeEntry n triples) out count d in
+        let p = passes-split (triplesTests 0 n (requestsOf triples)) _ (peel _ _ (peel _ _ (s .tested) .1) .1) .1 in
+        omega (arith, s .answer, leb→le size mostScript (peel _ _ p .0))
+    by (refused number place) d = place-held place
+
+-- the places of a list's triples are their indices
+triple-places : (n k : ℕ) (rs : List Request) → k + length rs ≤ valueBound → PlacesBelow valueBound (triplesTests k n rs)
+unfolding triplesTests
+triple-places n k [] h = tt
+triple-places n k (r ∷ rs) h = (omega arith, λ p. (omega arith, λ q. (omega arith, λ u. triple-places n (suc k) rs (omega arith))))
+
+-- so what is held is the place itself, but for a list of more triples than the bound
+pub write-held : (n : ℕ) (triples out : List ℕ) → length triples ≤ 3 * valueBound → held (deliveryReply (writeEntry n triples) out) ≡ deliveryReply (writeEntry n triples) out
+unfolding deliveryReply
+write-held n triples out l =
+    let reply = deliveryReply (writeEntry n triples) out in
+    same reply (small-delivery (writeEntry n triples) places short out reply refl)
+  where
+    same : (x : Reply ℕ) → valueIn x < valueBound → held x ≡ x
+    same (accepted count) h = refl
+    same (refused number place) h = ap (refused number) (cond-yes (leb place (valueBound - 1)) place (valueBound - 1) (le→leb place (valueBound - 1) (omega arith)))
+
+    places : PlacesBelow valueBound (writeTests n triples)
+    places = (
+      omega arith,
+      λ p. (
+        omega arith,
+        λ q. places-append valueBound (triplesTests 0 n (requestsOf triples)) _ (triple-places n 0 (requestsOf triples) (omega (arith, triples-count triples))) (omega arith, λ u. tt),
+      ),
+    )
+
+    short : T (passesAll (writeTests n triples)) → length (scriptOf n (requestsOf triples)) < valueBound
+    short t =
+        let p = passes-split (triplesTests 0 n (requestsOf triples)) _ (peel _ _ (peel _ _ t .1) .1) .1 in
+        omega (arith, leb→le (length (scriptOf n (requestsOf triples))) mostScript (peel _ _ p .0))
+
+-- the places of a script's lines are their numbers
+line-places : (bound k n : ℕ) (f : Form) → k < bound → PlacesBelow bound (lineTests k n f)
+line-places bound k n (threads m) h = (h, λ p. tt)
+line-places bound k n (request r) h = (h, λ p. (h, λ q. (h, λ u. tt)))
+line-places bound k n note h = tt
+line-places bound k n bad h = (h, λ p. tt)
+
+lines-places : (bound k n : ℕ) (ls : List Line) → k + length ls ≤ bound → PlacesBelow bound (linesTests k n ls)
+unfolding linesTests
+lines-places bound k n [] h = tt
+lines-places bound k n (l ∷ ls) h = places-append bound (lineTests k n (lineForm l)) _ (line-places bound k n (lineForm l) (omega arith)) (lines-places bound (suc k) n ls (omega arith))
+
+first-places : (bound : ℕ) (f : Form) → 1 < bound → PlacesBelow bound (firstTests f)
+first-places bound (threads m) h = (h, λ p. tt)
+first-places bound (request r) h = (h, λ p. tt)
+first-places bound note h = (h, λ p. tt)
+first-places bound bad h = (h, λ p. tt)
+
+script-places : (bound : ℕ) (ls : List Line) → 1 < bound → 2 + length ls ≤ bound → PlacesBelow bound (scriptTests ls)
+unfolding scriptTests
+script-places bound [] h k = (h, λ p. tt)
+script-places bound (l ∷ ls) h k =
+    places-append bound (firstTests (lineForm l)) _ (first-places bound (lineForm l) h) (lines-places bound 2 (threadsFirst (lineForm l)) ls (omega arith))
+
+-- a script that can be read has an N up to 200
+script-count : (ls : List Line) → T (passesAll (scriptTests ls)) → threadsOfLines ls ≤ mostThreads
+unfolding scriptTests
+script-count [] t = omega arith
+script-count (l ∷ ls) t = by (lineForm l) (passes-split (firstTests (lineForm l)) _ t .0)
+  where
+    by : (f : Form) → T (passesAll (firstTests f)) → threadsFirst f ≤ mostThreads
+    by (threads n) p = count-most n (peel _ [] p .0)
+    by (request r) p = omega arith
+    by note p = omega arith
+    by bad p = omega arith
+
+pub read-small : (script : List ℕ) → SmallValue listedValue (readEntry script)
+read-small script =
+    small-value listedValue (readEntry script)
+    (omega arith, λ p. script-places valueBound (linesOf script) (omega arith) (omega (arith, lines-count script, leb→le (length script) mostScript p)))
+    (λ t. let a = peel _ _ t in omega (arith, script-count (linesOf script) (a .1), read-few script, leb→le (length script) mostScript (a .0)))

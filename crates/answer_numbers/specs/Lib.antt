@@ -1,0 +1,2 @@
+-- What the promises of this crate cite besides the definitions of the scope paper.
+pub mod Encoding

@@ -1,0 +1,5 @@
+-- What the walks of the functions over a lent record share. Each file says what it shows.
+pub mod Lent
+pub mod Places
+pub mod LentPlaces
+pub mod MutPlaces
