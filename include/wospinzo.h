@@ -33,10 +33,15 @@
  * Answers: every function but wospinzo_version answers a number of 64 bits,
  * which the functions below take apart. Its low byte is 0 where the request
  * was accepted, else the number of the refusal, the first that fits in the
- * order of their numbers, but for 13, which is tested after 1 and before 9.
- * The rest is the value: of an accepted request what the function says it
- * answers; of a refusal its place, which for refusals 9, 10 and 11 of a
- * history is the index of the first bad pair, else 0.
+ * order of their numbers, but for 13, which is tested after 1 and before 9, and
+ * for wospinzo_write_script and wospinzo_read_script, which have an order of
+ * their own. The rest is the value: of an accepted request what the function
+ * says it answers; of a refusal its place, which is
+ *   of a history        the index of the first bad pair, for 9, 10 and 11
+ *   of a list of moves  the index of the first bad triple, for 3, 4 and 5
+ *   of a script read    the first bad line, from 1, for 1, 3, 5 and 8, but 0
+ *                       for the 8 of a script that is too long
+ * and 0 for every other refusal.
  *
  * A refused request leaves every lent byte as it was. An accepted one fills
  * exactly its output from the front and leaves the bytes after it.
@@ -54,7 +59,7 @@ extern "C" {
 /* The version of this header; wospinzo_version answers that of the archive.
  * docs/CHANGELOG.md says what a version promises. */
 #define WOSPINZO_VERSION_MAJOR 1
-#define WOSPINZO_VERSION_MINOR 2
+#define WOSPINZO_VERSION_MINOR 3
 #define WOSPINZO_VERSION_PATCH 0
 #define WOSPINZO_VERSION \
     (65536 * WOSPINZO_VERSION_MAJOR + 256 * WOSPINZO_VERSION_MINOR + WOSPINZO_VERSION_PATCH)
@@ -84,11 +89,16 @@ extern "C" {
 #define WOSPINZO_MAX_SCRIPT 30000
 /* Bytes in which the output of every run fits. */
 #define WOSPINZO_RUN_ROOM 65536
+/* Bytes in which the moves of every script fit: behind the 12 bytes of its
+ * threads line, a move takes a line of 9 bytes at least. */
+#define WOSPINZO_READ_ROOM 9996
 
-/* Bytes of stack that suffice for a call of any function but wospinzo_run, and
- * for wospinzo_run (x86-64; tests/stack measures them). */
+/* Bytes of stack that suffice for a call of any function but wospinzo_run and
+ * wospinzo_read_script, for wospinzo_run, and for wospinzo_read_script (x86-64;
+ * tests/stack measures them). */
 #define WOSPINZO_STACK 1024
 #define WOSPINZO_RUN_STACK 8192
+#define WOSPINZO_READ_STACK 12288
 
 /* The moves. Set and clear take a thread as target; the others take 0. */
 enum wospinzo_move_code {
@@ -153,7 +163,8 @@ enum wospinzo_node {
 };
 
 /* The refusals. A request is tested for them in the order of their numbers, but
- * for 13, which is tested after 1 and before 9. */
+ * for 13, which is tested after 1 and before 9, and for the two functions that
+ * write and read a script, which say their order. */
 enum wospinzo_refusal_number {
     WOSPINZO_ACCEPTED = 0,
     WOSPINZO_BAD_SIZE = 1,     /* N is 0 or above 200, or the table isn't 3 + 3N bytes */
@@ -163,7 +174,9 @@ enum wospinzo_refusal_number {
     WOSPINZO_BAD_TARGET = 5,   /* set or clear: not below N; another move: not 0 */
     WOSPINZO_NOT_IN_PHASE = 6, /* the thread's phase has no such move */
     WOSPINZO_MUTEX_HELD = 7,   /* go in phase 9, or hold in 4, while the mutex is 1: try again later */
-    WOSPINZO_BAD_FORM = 8,     /* a history of odd length or too long; a script too long */
+    WOSPINZO_BAD_FORM = 8,     /* a history of odd length or too long; a script too long; the form of a
+                                * line that is read; a list that isn't whole triples, or whose script
+                                * would be too long */
     WOSPINZO_UNKNOWN_PAIR = 9, /* the event isn't 1 to 8, or its thread isn't below N */
     WOSPINZO_NOT_NEXT = 10,    /* the event isn't its thread's next */
     WOSPINZO_OCCUPIED = 11,    /* the section that must be empty isn't */
@@ -217,6 +230,18 @@ static inline int wospinzo_nobody_inside(uint64_t answer)
     return answer == 0;
 }
 
+/* Of an accepted answer of wospinzo_read_script: the script's N, and the number
+ * of bytes written. Of a refusal they tell nothing. */
+static inline unsigned wospinzo_read_threads(uint64_t answer)
+{
+    return (unsigned)((answer >> 8) & 255u);
+}
+
+static inline uint64_t wospinzo_read_bytes(uint64_t answer)
+{
+    return answer >> 16;
+}
+
 /*
  * What stands in a table, of which nothing is tested: `table` is one that
  * wospinzo_fresh made, and `thread` is below its N.
@@ -252,8 +277,9 @@ static inline unsigned wospinzo_forbidden(const uint8_t *table, uint16_t thread)
     return table[5u + 3u * thread];
 }
 
-/* Of this header: the largest table, that an answer's parts fit, and the
- * layout of a watcher's record. Its size is odd, so that its alignment is 1. */
+/* Of this header: the largest table, that an answer's parts fit, the room for a
+ * script's moves, and the layout of a watcher's record. Its size is odd, so that
+ * its alignment is 1. */
 #if defined(__cplusplus)
 #define WOSPINZO_ASSERT(name, condition) static_assert(condition, "wospinzo.h: " #name)
 #elif defined(__STDC_VERSION__) && __STDC_VERSION__ >= 201112L
@@ -263,6 +289,7 @@ static inline unsigned wospinzo_forbidden(const uint8_t *table, uint16_t thread)
 #endif
 WOSPINZO_ASSERT(table, WOSPINZO_TABLE_SIZE(WOSPINZO_MAX_THREADS) == WOSPINZO_MAX_TABLE_SIZE);
 WOSPINZO_ASSERT(byte, WOSPINZO_MAX_THREADS < WOSPINZO_NO_TARGET && WOSPINZO_NO_TARGET <= UINT8_MAX);
+WOSPINZO_ASSERT(room, WOSPINZO_READ_ROOM == (WOSPINZO_MAX_SCRIPT - 12) / 9 * 3);
 WOSPINZO_ASSERT(watcher, sizeof(wospinzo_watcher) == WOSPINZO_WATCHER_SIZE);
 WOSPINZO_ASSERT(places, offsetof(wospinzo_watcher, places) == 3);
 #undef WOSPINZO_ASSERT
@@ -359,6 +386,37 @@ uint64_t wospinzo_plan(uint16_t threads, const uint8_t *history, size_t history_
  */
 WOSPINZO_USE_ANSWER
 uint64_t wospinzo_run(const uint8_t *script, size_t script_len, uint8_t *out, size_t out_len);
+
+/*
+ * Writes a list of moves as a script: the line `(threads N)`, then one line a
+ * move, without notes. The list is byte triples, thread, move and target, as
+ * wospinzo_plan writes them; a move that a run would turn down by 6 or 7 is
+ * written too. What was written reads back as the same N and list, and two
+ * lists give the same script only if they are equal.
+ * Answers the number of bytes written; WOSPINZO_MAX_SCRIPT always suffices.
+ * Refusals, in this order: 1; 8 for a length that isn't three times a whole
+ * number; triple by triple 3, 4 and 5 with the triple's index as place; 8 for a
+ * script that would exceed WOSPINZO_MAX_SCRIPT bytes; 12.
+ */
+WOSPINZO_USE_ANSWER
+uint64_t wospinzo_write_script(uint16_t threads, const uint8_t *triples, size_t triples_len,
+                               uint8_t *out, size_t out_len);
+
+/*
+ * Reads a script: writes its moves as byte triples, thread, move and target, and
+ * passes over its notes. It turns down exactly what a run would for form and
+ * numbers; a move that a run would turn down by 6 or 7 is read too. Written
+ * again, the script differs only by the notes left out.
+ * Answers N and the number of bytes written, which wospinzo_read_threads and
+ * wospinzo_read_bytes take apart; wospinzo_value is N + 256 times the bytes.
+ * WOSPINZO_READ_ROOM always suffices.
+ * Refusals, in this order: 8 with place 0 for a script above WOSPINZO_MAX_SCRIPT
+ * bytes; of the first bad line, from 1, with it as place: 8 for its form, 1 for
+ * a bad N, 3 for a thread and 5 for a target that isn't below N; 12 with place 0.
+ */
+WOSPINZO_USE_ANSWER
+uint64_t wospinzo_read_script(const uint8_t *script, size_t script_len,
+                              uint8_t *out, size_t out_len);
 
 /*
  * Starts a watch of `threads` threads: fills the whole lent record, whatever it

@@ -11,7 +11,7 @@ use compare::archive::Archive;
 use compare::histories;
 use compare::model::{self, Record, EXCLUSIVE_TOTAL, PLACES, RECORD_SIZE, SHARED_TOTAL};
 use compare::model::{MAX_HISTORY, MAX_SCRIPT, RUN_ROOM};
-use compare::part::{number_of, value_of, Model, Part};
+use compare::part::{done, done_reading, number_of, value_of, Model, Part};
 use compare::random::Random;
 use compare::scripts;
 use compare::tables;
@@ -312,14 +312,16 @@ fn history_rows() {
     });
 }
 
-fn script_rows() {
+/// The head of rows that have one cell.
+fn single_head(title: &str) {
     println!(
-        "\n{:<34}{:>10} {:>10} {:>5}",
-        format!("scripts of {MAX_SCRIPT} bytes"),
-        "archive",
-        "model",
-        "ratio"
+        "\n{title:<34}{:>10} {:>10} {:>5}",
+        "archive", "model", "ratio"
     );
+}
+
+fn script_rows() {
+    single_head(&format!("scripts of {MAX_SCRIPT} bytes"));
     let mut r = Random::new(17);
     let moves = scripts::script_of_size(&mut r, MAX_SCRIPT);
     let mut note = b"(threads 200)\n(note ".to_vec();
@@ -333,6 +335,51 @@ fn script_rows() {
         assert_eq!(Archive.run(&script, &mut out), Model.run(&script, &mut out));
         let t = times(|part| part.run(black_box(&script), &mut out));
         println!("{name:<34}{}", cell(t));
+    }
+}
+
+/// The longest start of a plan of rounds whose script isn't too long.
+fn long_plan(threads: usize) -> Vec<u8> {
+    let history = histories::history(&mut Random::new(13), threads, 2000, false);
+    let mut plan = vec![0; 3 * histories::plan_moves(threads, &history)];
+    Model.plan(threads as u16, &history, &mut plan);
+    let mut size = scripts::spelled(threads, &[]).len();
+    let fits = |triple: &&[u8]| {
+        size += scripts::line(triple).len();
+        size <= MAX_SCRIPT
+    };
+    plan.chunks(3).take_while(fits).flatten().copied().collect()
+}
+
+/// Times writing a list of moves and reading its script.
+fn writing_row(name: &str, threads: usize, list: &[u8]) {
+    let n = threads as u16;
+    let script = scripts::spelled(threads, list);
+    let name = format!("{name}, {} bytes", script.len());
+    let mut out = vec![0; script.len()];
+    assert_eq!(
+        Archive.write_script(n, list, &mut out),
+        done(out.len() as u64)
+    );
+    assert_eq!(out, script);
+    let t = times(|part| part.write_script(n, black_box(list), &mut out));
+    println!("{:<34}{}", format!("write {name}"), cell(t));
+    let mut out = vec![0; list.len()];
+    let answer = done_reading(threads as u64, list.len() as u64);
+    assert_eq!(Archive.read_script(&script, &mut out), answer);
+    assert_eq!(out, list);
+    let t = times(|part| part.read_script(black_box(&script), &mut out));
+    println!("{:<34}{}", format!("read {name}"), cell(t));
+}
+
+fn writing_rows() {
+    single_head("scripts written and read");
+    // the whole case of the scope paper
+    let short = [0, 1, 0, 0, 0, 0, 0, 0, 0, 0, 0, 0];
+    writing_row("4 moves, N = 1", 1, &short);
+    for threads in [8, 200] {
+        let plan = long_plan(threads);
+        writing_row(&format!("a plan, N = {threads}"), threads, &plan);
     }
 }
 
@@ -406,6 +453,9 @@ fn main() {
     }
     if cfg!(feature = "script") {
         script_rows();
+    }
+    if cfg!(feature = "writing") {
+        writing_rows();
     }
     if cfg!(feature = "watch") {
         watch_rows();

@@ -22,6 +22,28 @@ static bool watches()
     return good;
 }
 
+// A plan written as a script, and read back: each part of the answer, and a refusal's place.
+static bool scripts()
+{
+    const uint8_t history[] = {0, 5, 0, 6};
+    uint8_t triples[15], script[100], again[WOSPINZO_READ_ROOM];
+
+    uint64_t written = wospinzo_value(wospinzo_plan(1, history, sizeof history, triples, sizeof triples));
+    bool good = written == 5;
+    written = wospinzo_value(wospinzo_write_script(1, triples, sizeof triples, script, sizeof script));
+    good = good && written == 72;
+    const uint64_t answer = wospinzo_read_script(script, written, again, sizeof again);
+    good = good && wospinzo_accepted(answer) && wospinzo_value(answer) == 1 + 256 * sizeof triples;
+    good = good && wospinzo_read_threads(answer) == 1 && wospinzo_read_bytes(answer) == sizeof triples;
+    for (size_t i = 0; i < sizeof triples; i++)
+        good = good && again[i] == triples[i];
+    const uint64_t bad_line = wospinzo_read_script(script, written - 1, again, sizeof again);
+    good = good && wospinzo_refusal(bad_line) == WOSPINZO_BAD_FORM && wospinzo_value(bad_line) == 6;
+    triples[6] = 1;
+    const uint64_t bad_triple = wospinzo_write_script(1, triples, sizeof triples, script, sizeof script);
+    return good && wospinzo_refusal(bad_triple) == WOSPINZO_NO_THREAD && wospinzo_value(bad_triple) == 2;
+}
+
 int main()
 {
     uint8_t table[WOSPINZO_TABLE_SIZE(2)], out[64];
@@ -41,5 +63,5 @@ int main()
     good = good && wospinzo_value(wospinzo_plan(2, history, sizeof history, out, sizeof out)) == 4;
     good = good && wospinzo_value(wospinzo_run(script, sizeof script, out, sizeof out)) == 10;
     good = good && wospinzo_refusal(wospinzo_check(201, history, sizeof history)) == WOSPINZO_BAD_SIZE;
-    return good && watches() ? 0 : 1;
+    return good && watches() && scripts() ? 0 : 1;
 }

@@ -19,6 +19,9 @@ static uint8_t table[WOSPINZO_MAX_TABLE_SIZE];
 static wospinzo_watcher watcher;
 static uint8_t history[WOSPINZO_MAX_HISTORY];
 static uint8_t script[WOSPINZO_MAX_SCRIPT];
+static uint8_t triples[WOSPINZO_READ_ROOM];
+static size_t triples_len;
+static uint8_t spelled[WOSPINZO_MAX_SCRIPT];
 /* The plan of the longest history fits: a round of a writer, four events, takes 3N + 6 moves. */
 static uint8_t out[3 * (WOSPINZO_MAX_HISTORY / 8 + 1) * (3 * WOSPINZO_MAX_THREADS + 6)];
 static uint64_t answer;
@@ -32,6 +35,8 @@ static void open_moves(void) { answer = wospinzo_open_moves(table, sizeof table,
 static void check(void) { answer = wospinzo_check(WOSPINZO_MAX_THREADS, history, sizeof history); }
 static void plan(void) { answer = wospinzo_plan(WOSPINZO_MAX_THREADS, history, sizeof history, out, sizeof out); }
 static void run(void) { answer = wospinzo_run(script, sizeof script, out, WOSPINZO_RUN_ROOM); }
+static void write_script(void) { answer = wospinzo_write_script(WOSPINZO_MAX_THREADS, triples, triples_len, out, WOSPINZO_MAX_SCRIPT); }
+static void read_script(void) { answer = wospinzo_read_script(spelled, sizeof spelled, out, WOSPINZO_READ_ROOM); }
 static void watch_start(void) { answer = wospinzo_watch_start(WOSPINZO_MAX_THREADS, &watcher); }
 static void watch_event(void) { answer = wospinzo_watch_event(&watcher, 199, WOSPINZO_ENTER_EXCLUSIVE_CALL); }
 static void watch_inside(void) { answer = wospinzo_watch_inside(&watcher); }
@@ -81,6 +86,40 @@ static void fill_script(void)
     script[sizeof script - 1] = '\n';
 }
 
+static void add_move(uint8_t move)
+{
+    int takes_target = move == WOSPINZO_SET || move == WOSPINZO_CLEAR;
+
+    triples[triples_len] = 199;
+    triples[triples_len + 1] = move;
+    triples[triples_len + 2] = takes_target ? 199 : 0;
+    triples_len += 3;
+}
+
+/*
+ * A list of every move again and again, then three more, whose script has
+ * WOSPINZO_MAX_SCRIPT bytes; and that script with a note in place of the last
+ * three lines. Answers whether the script has so many bytes.
+ */
+static int fill_list(void)
+{
+    static const char note[] = "(note (((((((((((((((( ............... )))))))))))))))) )\n";
+    /* The bytes of `(threads 200)`, and of the lines of every move. */
+    enum { HEAD = 14, MOVES = 116 };
+    size_t at, length;
+    uint8_t move;
+
+    for (at = HEAD; at + MOVES <= sizeof spelled; at += MOVES)
+        for (move = WOSPINZO_GO; move <= WOSPINZO_HOLD; move++) add_move(move);
+    add_move(WOSPINZO_CALL_SHARED);
+    add_move(WOSPINZO_CALL_EXCLUSIVE);
+    add_move(WOSPINZO_RELENT);
+    answer = wospinzo_write_script(WOSPINZO_MAX_THREADS, triples, triples_len, spelled, sizeof spelled);
+    length = sizeof note - 1;
+    memcpy(spelled + sizeof spelled - length, note, length);
+    return wospinzo_value(answer) == sizeof spelled && spelled[sizeof spelled - length - 1] == '\n';
+}
+
 int main(void)
 {
     static const struct {
@@ -96,12 +135,14 @@ int main(void)
         {"wospinzo_check", check, WOSPINZO_STACK},
         {"wospinzo_plan", plan, WOSPINZO_STACK},
         {"wospinzo_run", run, WOSPINZO_RUN_STACK},
+        {"wospinzo_write_script", write_script, WOSPINZO_STACK},
+        {"wospinzo_read_script", read_script, WOSPINZO_READ_STACK},
         {"wospinzo_watch_start", watch_start, WOSPINZO_STACK},
         {"wospinzo_watch_event", watch_event, WOSPINZO_STACK},
         {"wospinzo_watch_inside", watch_inside, WOSPINZO_STACK},
     };
-    int refused = 0;
     size_t i, frame = used(nothing);
+    int refused = !fill_list();
 
     fill_history();
     fill_script();

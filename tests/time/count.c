@@ -10,10 +10,10 @@
 
 #include "wospinzo.h"
 
-enum { MOST_PLAN = 13725300, PAST_LAST_MOVE = WOSPINZO_HOLD + 1 };
+enum { MOST_PLAN = 13725300, PAST_LAST_MOVE = WOSPINZO_HOLD + 1, LONG_LIST = 100000 };
 
 static uint8_t table[WOSPINZO_MAX_TABLE_SIZE], kept[WOSPINZO_MAX_TABLE_SIZE];
-static uint8_t history[WOSPINZO_MAX_HISTORY], script[WOSPINZO_MAX_SCRIPT], out[MOST_PLAN];
+static uint8_t history[WOSPINZO_MAX_HISTORY], script[WOSPINZO_MAX_SCRIPT], triples[WOSPINZO_READ_ROOM], out[MOST_PLAN];
 static wospinzo_watcher watcher;
 static uint64_t answer;
 static uint32_t version;
@@ -204,8 +204,8 @@ static void histories(uint16_t n, size_t events)
     COUNT(WOSPINZO_ACCEPTED, wospinzo_plan(n, history, 2 * events, out, sizeof out), "plan %u %zu %zu exclusive", n, events, events / 4 * (3u * n + 6u));
 }
 
-/* A script that repeats a text behind its first lines, as often as it fits. */
-static void scripts(const char *first, const char *text, size_t most, const char *what)
+/* A script that repeats a text behind its first lines, as often as it fits. Answers its length. */
+static size_t repeated(const char *first, const char *text, size_t most)
 {
     size_t head = strlen(first), size = strlen(text), length = head;
 
@@ -214,10 +214,119 @@ static void scripts(const char *first, const char *text, size_t most, const char
         memcpy(script + length, text, size);
         length += size;
     }
+    return length;
+}
+
+/* A script of one note that fills it. Answers its length. */
+static size_t one_note(size_t length)
+{
+    static const char first[] = "(threads 1)\n(note ";
+
+    memset(script, 'a', length);
+    memcpy(script, first, sizeof first - 1);
+    memcpy(script + length - 2, ")\n", 2);
+    return length;
+}
+
+static void runs(size_t length, const char *what)
+{
+    uint8_t was = script[length - 1];
+
     COUNT(WOSPINZO_ACCEPTED, wospinzo_run(script, length, out, WOSPINZO_RUN_ROOM), "run %zu %s", length, what);
     COUNT(WOSPINZO_NO_ROOM, wospinzo_run(script, length, out, 1), "run %zu %s, refused by 12", length, what);
     script[length - 1] = ' ';
     COUNT(WOSPINZO_ACCEPTED, wospinzo_run(script, length, out, WOSPINZO_RUN_ROOM), "run %zu %s, the last line refused", length, what);
+    script[length - 1] = was;
+}
+
+/* A list whose last triple is bad; what was there is put back. */
+static void bad_triple(unsigned expected, uint16_t n, uint8_t *list, size_t moves, const uint8_t *bad)
+{
+    uint8_t *last = list + 3 * (moves - 1), was[3];
+
+    memcpy(was, last, 3);
+    memcpy(last, bad, 3);
+    COUNT(expected, wospinzo_write_script(n, list, 3 * moves, script, sizeof script),
+          "write_script %zu 0 the last triple is refused by %u", moves, expected);
+    memcpy(last, was, 3);
+}
+
+static void bad_triples(uint16_t n, uint8_t *list, size_t moves)
+{
+    const uint8_t thread[] = {(uint8_t)n, WOSPINZO_GO, 0}, move[] = {0, PAST_LAST_MOVE, 0}, target[] = {0, WOSPINZO_SET, (uint8_t)n};
+
+    bad_triple(WOSPINZO_NO_THREAD, n, list, moves, thread);
+    bad_triple(WOSPINZO_NO_MOVE, n, list, moves, move);
+    bad_triple(WOSPINZO_BAD_TARGET, n, list, moves, target);
+}
+
+/* The list in `triples` is written as a script, into `out`. B is 0 where nothing is written. */
+static void writes(uint16_t n, size_t moves, const char *what)
+{
+    size_t size = (size_t)wospinzo_value(wospinzo_write_script(n, triples, 3 * moves, out, WOSPINZO_MAX_SCRIPT));
+
+    COUNT(WOSPINZO_ACCEPTED, wospinzo_write_script(n, triples, 3 * moves, out, WOSPINZO_MAX_SCRIPT), "write_script %zu %zu %s", moves, size, what);
+    COUNT(WOSPINZO_NO_ROOM, wospinzo_write_script(n, triples, 3 * moves, out, size - 1), "write_script %zu 0 %s, refused by 12", moves, what);
+    COUNT(WOSPINZO_BAD_SIZE, wospinzo_write_script(0, triples, 3 * moves, out, size), "write_script %zu 0 refused by 1", moves);
+    if (moves == 0) return;
+    COUNT(WOSPINZO_BAD_FORM, wospinzo_write_script(n, triples, 3 * moves - 1, out, size), "write_script %zu 0 refused by 8", moves);
+    bad_triples(n, triples, moves);
+}
+
+/* A list whose script would be too long is looked at to its end. */
+static void long_list(void)
+{
+    memset(out, 0, 3 * LONG_LIST);
+    COUNT(WOSPINZO_BAD_FORM, wospinzo_write_script(1, out, 3 * LONG_LIST, script, sizeof script), "write_script %u 0 too long", LONG_LIST);
+    bad_triples(1, out, LONG_LIST);
+}
+
+/* A byte so far from the end makes the last line bad; what was there is put back. */
+static void bad_line(unsigned expected, size_t length, size_t moves, size_t back, uint8_t byte, const char *what)
+{
+    uint8_t *at = script + length - back, was = *at;
+
+    *at = byte;
+    COUNT(expected, wospinzo_read_script(script, length, out, WOSPINZO_READ_ROOM),
+          "read_script %zu %zu %s, the last line refused by %u", length, moves, what, expected);
+    *at = was;
+}
+
+/* The script is read, and the list that it gives is written. */
+static void reads(size_t length, const char *what)
+{
+    uint64_t read = wospinzo_read_script(script, length, triples, sizeof triples);
+    size_t bytes = (size_t)wospinzo_read_bytes(read), moves = bytes / 3;
+
+    COUNT(WOSPINZO_ACCEPTED, wospinzo_read_script(script, length, out, WOSPINZO_READ_ROOM), "read_script %zu %zu %s", length, moves, what);
+    if (moves > 0)
+        COUNT(WOSPINZO_NO_ROOM, wospinzo_read_script(script, length, out, bytes - 1),
+              "read_script %zu %zu %s, refused by 12", length, moves, what);
+    bad_line(WOSPINZO_BAD_FORM, length, moves, 1, ' ', what);
+    writes((uint16_t)wospinzo_read_threads(read), moves, what);
+}
+
+/* A script that is run, and read. */
+static void scripts(size_t length, const char *what)
+{
+    runs(length, what);
+    reads(length, what);
+}
+
+/* Scripts that are read alone: one move again and again, with short numbers and with long ones. */
+static void spelled(size_t most)
+{
+    size_t length = repeated("(threads 1)\n", "(0 (go))\n", most);
+
+    reads(length, "shortest lines");
+    bad_line(WOSPINZO_NO_THREAD, length, (length - 12) / 9, 8, '9', "shortest lines");
+    length = repeated("(threads 1)\n", "(0 (set 0))\n", most);
+    reads(length, "shortest sets");
+    bad_line(WOSPINZO_BAD_TARGET, length, (length - 12) / 12, 4, '9', "shortest sets");
+    reads(repeated("(threads 200)\n", "(199 (set 199))\n", most), "sets of 200");
+    reads(repeated("(threads 200)\n", "(199 (clear 199))\n", most), "clears of 200");
+    reads(repeated("(threads 200)\n", "(199 (call exclusive))\n", most), "calls of 200");
+    reads(repeated("(threads 200)\n", "(199 (relent))\n(199 (hold))\n", most), "relents and holds of 200");
 }
 
 /* Starts a watch, which is counted. */
@@ -352,12 +461,18 @@ int main(void)
         histories(200, lengths[i]);
     }
     for (i = 0; i < sizeof sizes / sizeof *sizes; i++) {
-        scripts("(threads 1)\n", round, sizes[i], "shared rounds");
-        scripts("(threads 200)\n", round, sizes[i], "shared rounds of 200");
-        if (sizes[i] > sizeof away) scripts(away, "(0 (go))\n", sizes[i], "go alone");
-        scripts("(threads 1)\n", "(note )\n", sizes[i], "shortest notes");
-        scripts("(threads 1)\n", brackets, sizes[i], "notes of brackets");
-        scripts("(threads 1)\n", "(note abcdefghijklmnopqrstuvwxyz)\n", sizes[i], "notes of letters");
+        scripts(repeated("(threads 1)\n", round, sizes[i]), "shared rounds");
+        scripts(repeated("(threads 200)\n", round, sizes[i]), "shared rounds of 200");
+        if (sizes[i] > sizeof away) scripts(repeated(away, "(0 (go))\n", sizes[i]), "go alone");
+        scripts(repeated("(threads 1)\n", "(note )\n", sizes[i]), "shortest notes");
+        scripts(repeated("(threads 1)\n", brackets, sizes[i]), "notes of brackets");
+        scripts(repeated("(threads 1)\n", "(note abcdefghijklmnopqrstuvwxyz)\n", sizes[i]), "notes of letters");
+        scripts(one_note(sizes[i]), "one note");
+        spelled(sizes[i]);
     }
+    COUNT(WOSPINZO_BAD_FORM, wospinzo_read_script(out, WOSPINZO_MAX_SCRIPT + 1, triples, sizeof triples),
+          "read_script %u 0 too long", WOSPINZO_MAX_SCRIPT + 1);
+    COUNT(WOSPINZO_BAD_SIZE, wospinzo_read_script((const uint8_t *)"(threads 0)\n", 12, triples, sizeof triples), "read_script 12 0 refused by 1");
+    long_list();
     return failures != 0;
 }

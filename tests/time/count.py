@@ -4,7 +4,8 @@
   tests/time/count.py            the test: no count is above its formula, and no formula is far above the largest count
   tests/time/count.py --table    the counts, the largest of each entry and size
 
-A formula stands in the manual's table as code, `a + b*N`: N tasks, E events, M moves of the plan, B bytes of the script.
+A formula stands in the manual's table as code, `a + b*N`: N tasks, E events, M moves that are planned, written or read, B
+bytes of the script.
 What the host's memset takes is not counted.
 """
 import re
@@ -18,7 +19,7 @@ sys.path.insert(0, str(TOP / "tests" / "archive"))
 import archive  # noqa: E402
 
 NAMES = {"version": "", "fresh": "N", "move": "N", "nodes": "N", "open_moves": "N", "check": "NE", "plan": "NEM", "run": "B",
-         "watch_start": "N", "watch_event": "N", "watch_inside": "N"}
+         "write_script": "MB", "read_script": "BM", "watch_start": "N", "watch_event": "N", "watch_inside": "N"}
 # A formula may be above the largest count by this share, or by this many instructions.
 SHARE, LOOSE = 0.12, 40
 

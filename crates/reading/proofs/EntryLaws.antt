@@ -1,6 +1,6 @@
 -- What reading answers and leaves, by the tests in their order: too long, a bad first line, a bad N, a bad line, no room, read.
-use Prim.Native.Nat.{ℕ, _*_, _≤_, _<_}
-use native.Mathlib.Nat.{zero-add}
+use Prim.Native.Nat.{ℕ, _%_, _≤_, _<_}
+use native.Mathlib.Nat.{zero-add, mul-mod-right}
 use native.Mathlib.Omega.{arith}
 use mathlib.Core.Bool.{true, false}
 use mathlib.Core.List.{List, [], _∷_}
@@ -96,6 +96,9 @@ module _ (script out : List ℕ) where
             module _ (room : size ≤ length out) where
               pub triples-room : RoomAt out 0 (take size moves)
               triples-room = rw triples (record { ends = omega (arith, size-is) })
+
+              pub triples-whole : length (take size moves) % 3 ≡ 0
+              triples-whole = ap (λ (xs : List ℕ). length xs % 3) triples ∙ (ap (λ (k : ℕ). k % 3) (bytes-length (statedBy script)) ∙ mul-mod-right 3 (length (statedBy script)))
 
               -- read
               pub all-read : (left : List ℕ) (next : ℕ) → PutAt out 0 (take size moves) left next → Delivered (readEntry script) out left (accepted (record { threads = n; bytes = size }))

@@ -13,10 +13,10 @@ use opening::First;
 use opening::first_line;
 use requests::Tested;
 use requests::test_numbers;
-use text::put_text;
 use triples::put_triple;
-ghost use Prim.Native.Nat.{_≤_};
+ghost use Prim.Native.Nat.{_%_, _≤_};
 ghost use mathlib.Core.List.{[], _∷_};
+ghost use mathlib.Core.Path.{_≡_};
 ghost use lib.ListN.{length, drop};
 ghost use Rattle.definitions.specs.Bounds.{mostScript};
 ghost use Rattle.definitions.specs.Forms.{formOf, lineTests, requestIn};
@@ -24,7 +24,7 @@ ghost use Rattle.definitions.specs.Moves.{numberTests};
 ghost use Rattle.definitions.specs.Plan.{bytesOf};
 ghost use Rattle.definitions.specs.Scripts.{linesTests, requestsIn, readingReply, readEntry};
 ghost use Rattle.definitions.specs.Texts.{linesOf};
-ghost use Rattle.theory.specs.Outputs.{RoomAt, Delivered};
+ghost use Rattle.theory.specs.Outputs.{RoomAt, PutAt, Delivered};
 ghost use Rattle.reading.specs.Moves.{Taken, Roomy};
 
 // The triples of a script are three bytes for every nine of it at most.
@@ -91,6 +91,19 @@ fn take_lines(script: &[u8], start: usize, threads: u8, moves: &mut [u8]) -> Ans
     }
 }
 
+// Triples put at the front of the output. Byte by byte the loop would be compiled to a call of memcpy, which the archive
+// doesn't import.
+fn put_triples(out: &mut [u8], moves: &[u8]) -> usize
+    requires { ⌜ RoomAt (now out) 0 (now moves) × (length (now moves) % 3 ≡ 0) ⌝ }
+    ensures { λ r. ⌜ PutAt (now (out .entry)) 0 (now (moves .entry)) (now (out .exit)) r ⌝ }
+{
+    let mut at: usize = 0;
+    while at < moves.len() {
+        at = put_triple(out, at, moves[at], moves[at + 1], moves[at + 2]);
+    }
+    at
+}
+
 // The entry. Nothing is written before every line has passed.
 pub fn read(script: &[u8], out: &mut [u8]) -> Reading
     ensures { λ r. ⌜ Delivered (readEntry (now (script .entry))) (now (out .entry)) (now (out .exit)) (readingReply r) ⌝ }
@@ -114,7 +127,7 @@ pub fn read(script: &[u8], out: &mut [u8]) -> Reading
             if out.len() < bytes {
                 return Reading::Refused(Refusal::NoRoom, 0);
             }
-            put_text(out, 0, &moves[..bytes]);
+            put_triples(out, &moves[..bytes]);
             Reading::Read { threads, bytes }
         }
     }

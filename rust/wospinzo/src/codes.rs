@@ -247,10 +247,11 @@ impl Phase {
     }
 }
 
-/// Why a request was turned down. Its number is `refusal as u8`; a request is
+/// Why a request was turned down. Its number is `refusal as u8`. A request is
 /// tested in the order of the numbers, but for [`Refusal::Inconsistent`], which
-/// is tested after [`Refusal::BadSize`] and before [`Refusal::UnknownPair`]. A
-/// minor version may add a refusal.
+/// is tested after [`Refusal::BadSize`] and before [`Refusal::UnknownPair`], and
+/// for a list of moves or a script that is written or read, whose order
+/// `write_script` and `read_script` give. A minor version may add a refusal.
 #[derive(Clone, Copy, Debug, PartialEq, Eq, Hash, PartialOrd, Ord)]
 #[repr(u8)]
 #[non_exhaustive]
@@ -262,7 +263,8 @@ pub enum Refusal {
     Unsound = 2,
     /// The thread number isn't below the number of threads.
     NoThread = 3,
-    /// There is no such move. [`Move`] has only moves that there are.
+    /// There is no such move. [`Move`] has only moves that there are; a list of
+    /// triples may have others.
     NoMove = 4,
     /// The target isn't a thread.
     BadTarget = 5,
@@ -270,7 +272,9 @@ pub enum Refusal {
     NotInPhase = 6,
     /// The thread would take the mutex, and another holds it: try again later.
     MutexHeld = 7,
-    /// The history has an odd length or is too long, or the script is too long.
+    /// The history has an odd length or is too long; the script is too long, or
+    /// a line that is read has a bad form; the list of moves isn't whole triples,
+    /// or spells a script that is too long.
     BadForm = 8,
     /// A pair's event isn't 1 to 8, or its thread isn't below the number of
     /// threads.
@@ -335,19 +339,23 @@ impl fmt::Display for Refusal {
 
 impl Error for Refusal {}
 
-/// A refused history: why, and at which pair.
+/// A refused history, list of moves or script: why, and where.
 #[derive(Clone, Copy, Debug, PartialEq, Eq, Hash)]
 pub struct Rejected {
     /// Why it was turned down.
     pub refusal: Refusal,
-    /// The index of the first bad pair for [`Refusal::UnknownPair`],
-    /// [`Refusal::NotNext`] and [`Refusal::Occupied`], else 0.
+    /// Of a history, the index of the first bad pair for
+    /// [`Refusal::UnknownPair`], [`Refusal::NotNext`] and [`Refusal::Occupied`].
+    /// Of a list of moves, the index of the first bad triple for
+    /// [`Refusal::NoThread`], [`Refusal::NoMove`] and [`Refusal::BadTarget`]. Of
+    /// a script, the first bad line, from 1, unless it is too long or the output
+    /// too short. Else 0.
     pub place: usize,
 }
 
 impl fmt::Display for Rejected {
     fn fmt(&self, f: &mut fmt::Formatter) -> fmt::Result {
-        write!(f, "{}, at pair {}", self.refusal, self.place)
+        write!(f, "{}, at place {}", self.refusal, self.place)
     }
 }
 

@@ -111,6 +111,8 @@
 //! | [`check`] | judges a history of events | 1, 8 to 11 |
 //! | [`plan`] | moves that show a given history | 1, 8 to 12 |
 //! | [`run`] | runs a script | 8, 12 |
+//! | [`write_script`] | writes moves as a script | 1, 3 to 5, 8, 12 |
+//! | [`read_script`] | reads a script's moves | 1, 3, 5, 8, 12 |
 //! | [`Watcher::new`] | starts a watch | 1 |
 //! | [`Watcher::event`], [`Watcher::event_code`] | judges one event | 1, 13, 9 to 11 |
 //! | [`Watcher::anybody_inside`] | whether a section has somebody in it | 1, 13 |
@@ -132,7 +134,8 @@
 //! The functions are in the archive `libwospinzo.a`. The build looks for it in
 //! the folder that the environment variable `WOSPINZO_LIB_DIR` names, else in
 //! `target/staticlib` of the repository. The features `history` ([`check`],
-//! [`plan`]) and `script` ([`run`]) are on by default.
+//! [`plan`]) and `script` ([`run`], [`write_script`], [`read_script`]) are on by
+//! default.
 //!
 //! No function panics, as long as the archive is the one described here.
 
@@ -141,14 +144,18 @@
 
 mod codes;
 pub mod raw;
+#[cfg(feature = "script")]
+mod script;
 mod watcher;
 
 pub use codes::{Event, Move, Node, Outcome, Phase, Refusal, Rejected};
+#[cfg(feature = "script")]
+pub use script::{read_script, run, write_script, ScriptRead};
 pub use watcher::Watcher;
 
 /// The version of this crate and of the header: 65,536 times the major, 256
 /// times the minor, and the patch number. [`version`] is that of the archive.
-pub const VERSION: u32 = 65_536 + 2 * 256;
+pub const VERSION: u32 = 65_536 + 3 * 256;
 /// The largest number of threads.
 pub const MAX_THREADS: u16 = 200;
 /// The bytes of the largest table.
@@ -163,11 +170,16 @@ pub const MAX_HISTORY: usize = 60_000;
 pub const MAX_SCRIPT: usize = 30_000;
 /// Bytes in which the output of every run fits.
 pub const RUN_ROOM: usize = 65_536;
-/// Bytes of stack in which the entry behind any function but [`run`] fits, measured
-/// on x86-64.
+/// Bytes in which the moves of every script fit.
+pub const READ_ROOM: usize = 9_996;
+/// Bytes of stack in which the entry behind any function but [`run`] and
+/// [`read_script`] fits, measured on x86-64.
 pub const STACK: usize = 1024;
 /// Bytes of stack in which the entry behind [`run`] fits, measured on x86-64.
 pub const RUN_STACK: usize = 8192;
+/// Bytes of stack in which the entry behind [`read_script`] fits, measured on
+/// x86-64.
+pub const READ_STACK: usize = 12_288;
 
 /// The bytes of a table for so many threads.
 pub const fn table_size(threads: u16) -> usize {
@@ -414,30 +426,5 @@ pub fn plan(threads: u16, history: &[u8], out: &mut [u8]) -> Result<usize, Rejec
             out.as_mut_ptr(),
             out.len(),
         )
-    })
-}
-
-/// Runs a script on a fresh table of its own and writes what it prints: a line
-/// for each event, then `(steps K)`, or `(refused R L)` at the first line L
-/// that is turned down. Answers the number of bytes written; [`RUN_ROOM`]
-/// always suffices.
-///
-/// # Errors
-///
-/// [`Refusal::BadForm`] for a script longer than [`MAX_SCRIPT`],
-/// [`Refusal::NoRoom`].
-///
-/// ```
-/// let script = b"(threads 1)\n(note an example)\n(0 (call shared))\n(0 (go))\n";
-/// let mut out = [0; 100];
-/// let size = wospinzo::run(script, &mut out)?;
-/// assert_eq!(&out[..size], b"(event 0 (enter shared call))\n(steps 2)\n");
-/// # Ok::<(), wospinzo::Refusal>(())
-/// ```
-#[cfg(feature = "script")]
-pub fn run(script: &[u8], out: &mut [u8]) -> Result<usize, Refusal> {
-    // SAFETY: as in `nodes`.
-    placeless(unsafe {
-        raw::wospinzo_run(script.as_ptr(), script.len(), out.as_mut_ptr(), out.len())
     })
 }

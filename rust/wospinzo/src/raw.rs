@@ -46,6 +46,24 @@ extern "C" {
     /// See [`run`](crate::run).
     #[cfg(feature = "script")]
     pub fn wospinzo_run(script: *const u8, script_len: usize, out: *mut u8, out_len: usize) -> u64;
+    /// See [`write_script`](crate::write_script).
+    #[cfg(feature = "script")]
+    pub fn wospinzo_write_script(
+        threads: u16,
+        triples: *const u8,
+        triples_len: usize,
+        out: *mut u8,
+        out_len: usize,
+    ) -> u64;
+    /// See [`read_script`](crate::read_script). The value answered is the
+    /// number of threads, and 256 times the number of bytes written.
+    #[cfg(feature = "script")]
+    pub fn wospinzo_read_script(
+        script: *const u8,
+        script_len: usize,
+        out: *mut u8,
+        out_len: usize,
+    ) -> u64;
     /// See [`Watcher::new`]. The value answered is 0.
     pub fn wospinzo_watch_start(threads: u16, watcher: *mut Watcher) -> u64;
     /// See [`Watcher::event_code`]. The value answered is 0.

@@ -81,8 +81,10 @@ fn codes_are_those_of_the_header() {
     same("MAX_HISTORY".into(), wospinzo::MAX_HISTORY as u32);
     same("MAX_SCRIPT".into(), wospinzo::MAX_SCRIPT as u32);
     same("RUN_ROOM".into(), wospinzo::RUN_ROOM as u32);
+    same("READ_ROOM".into(), wospinzo::READ_ROOM as u32);
     same("STACK".into(), wospinzo::STACK as u32);
     same("RUN_STACK".into(), wospinzo::RUN_STACK as u32);
+    same("READ_STACK".into(), wospinzo::READ_STACK as u32);
     same("QUIET".into(), 0);
     same("ACCEPTED".into(), 0);
     assert_eq!(named, header.len(), "the header has other constants");

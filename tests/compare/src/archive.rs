@@ -34,6 +34,21 @@ extern "C" {
     fn wospinzo_watch_event(watcher: *mut Record, thread: u16, event: u16) -> u64;
     #[cfg(feature = "watch")]
     fn wospinzo_watch_inside(watcher: *const Record) -> u64;
+    #[cfg(feature = "writing")]
+    fn wospinzo_write_script(
+        threads: u16,
+        triples: *const u8,
+        triples_len: usize,
+        out: *mut u8,
+        out_len: usize,
+    ) -> u64;
+    #[cfg(feature = "writing")]
+    fn wospinzo_read_script(
+        script: *const u8,
+        script_len: usize,
+        out: *mut u8,
+        out_len: usize,
+    ) -> u64;
 }
 
 pub struct Archive;
@@ -90,5 +105,21 @@ impl Part for Archive {
     #[cfg(feature = "watch")]
     fn watch_inside(&self, record: &Record) -> u64 {
         unsafe { wospinzo_watch_inside(record) }
+    }
+    #[cfg(feature = "writing")]
+    fn write_script(&self, threads: u16, triples: &[u8], out: &mut [u8]) -> u64 {
+        unsafe {
+            wospinzo_write_script(
+                threads,
+                triples.as_ptr(),
+                triples.len(),
+                out.as_mut_ptr(),
+                out.len(),
+            )
+        }
+    }
+    #[cfg(feature = "writing")]
+    fn read_script(&self, script: &[u8], out: &mut [u8]) -> u64 {
+        unsafe { wospinzo_read_script(script.as_ptr(), script.len(), out.as_mut_ptr(), out.len()) }
     }
 }

@@ -2,10 +2,12 @@
 //! short, just long enough and longer.
 
 use crate::histories;
-use crate::model::{self, Answer, MAX_HISTORY, MAX_SCRIPT, RUN_ROOM};
+use crate::lists;
+use crate::model::{self, Answer, LAST_MOVE, MAX_HISTORY, MAX_SCRIPT, RUN_ROOM};
 use crate::part::{Call, Entry};
 use crate::random::Random;
 use crate::scripts;
+use crate::spelling::{self, LIST_ROOM};
 use crate::tables;
 use crate::watchers;
 
@@ -109,13 +111,17 @@ fn history(r: &mut Random) -> (u16, Vec<u8>) {
     if r.chance(1, 3) {
         history = histories::damaged(r, threads, &history);
     }
-    let stated = match r.below(16) {
+    (stated(r, threads), history)
+}
+
+/// The number of threads that a call states, as a rule the right one.
+fn stated(r: &mut Random, threads: usize) -> u16 {
+    match r.below(16) {
         0 => r.pick(&[0, 201, 255, 256, 257, 65535]),
         1 => threads as u16 + 256 * (1 + r.below(255) as u16),
         2 => (threads as u16).saturating_sub(1),
         _ => threads as u16,
-    };
-    (stated, history)
+    }
 }
 
 fn check(r: &mut Random) -> Call {
@@ -129,7 +135,8 @@ fn plan(r: &mut Random) -> Call {
     Call::plan(threads, history, output(r, needed.min(14_000_000)))
 }
 
-fn run(r: &mut Random) -> Call {
+/// A script, in order two times of three.
+fn script(r: &mut Random) -> Vec<u8> {
     let mut script = match r.below(400) {
         0 => scripts::script_of_size(r, MAX_SCRIPT),
         1 => scripts::script_of_size(r, MAX_SCRIPT + 1),
@@ -146,6 +153,11 @@ fn run(r: &mut Random) -> Call {
     if !script.is_empty() && r.chance(1, 3) {
         script = scripts::damaged(r, &script);
     }
+    script
+}
+
+fn run(r: &mut Random) -> Call {
+    let script = script(r);
     let mut room = vec![0; RUN_ROOM];
     let needed = match model::run(&script, &mut room) {
         Answer::Done(size) => size,
@@ -172,6 +184,58 @@ fn watch_inside(r: &mut Random) -> Call {
     Call::watch_inside(&watchers::any(r))
 }
 
+/// A list of moves for so many threads, in order two times of three.
+fn list(r: &mut Random, threads: usize) -> Vec<u8> {
+    let list = match r.below(400) {
+        0 => lists::of_size(r, threads, MAX_SCRIPT),
+        1 => lists::of_size(r, threads, MAX_SCRIPT + 1),
+        2 => {
+            let moves = r.below(MAX_SCRIPT / 9);
+            lists::list(r, threads, moves)
+        }
+        _ => {
+            let moves = r.below(60);
+            lists::list(r, threads, moves)
+        }
+    };
+    if r.chance(1, 3) {
+        lists::damaged(r, threads, &list)
+    } else {
+        list
+    }
+}
+
+fn write_script(r: &mut Random) -> Call {
+    let threads = tables::threads(r);
+    let list = list(r, threads);
+    let mut room = [0; MAX_SCRIPT];
+    let needed = match spelling::write_script(threads as u16, &list, &mut room) {
+        Answer::Done(size) => size,
+        Answer::Refused(..) => 40,
+    };
+    Call::write_script(stated(r, threads), list, output(r, needed))
+}
+
+fn read_script(r: &mut Random) -> Call {
+    let threads = tables::threads(r);
+    let script = match r.below(4) {
+        0 => {
+            let list = list(r, threads);
+            let moves = list
+                .chunks_exact(3)
+                .filter(|triple| triple[1] <= LAST_MOVE as u8);
+            scripts::with_notes(r, threads, &moves.flatten().copied().collect::<Vec<_>>())
+        }
+        _ => script(r),
+    };
+    let mut room = [0; LIST_ROOM];
+    let needed = match spelling::read_script(&script, &mut room) {
+        Ok(reading) => reading.bytes,
+        Err(_) => 30,
+    };
+    Call::read_script(script, output(r, needed))
+}
+
 /// A random call of an entry.
 pub fn any(r: &mut Random, entry: Entry) -> Call {
     match entry {
@@ -185,5 +249,7 @@ pub fn any(r: &mut Random, entry: Entry) -> Call {
         Entry::WatchStart => watch_start(r),
         Entry::WatchEvent => watch_event(r),
         Entry::WatchInside => watch_inside(r),
+        Entry::WriteScript => write_script(r),
+        Entry::ReadScript => read_script(r),
     }
 }

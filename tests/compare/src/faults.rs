@@ -6,6 +6,7 @@ use crate::model::{
     Record, EXCLUSIVE_TOTAL, GO, HOLD, MAX_THREADS, PLACES, READER_HOLDS, SET, SHARED_TOTAL,
 };
 use crate::part::{done, number_of, refused, value_of, Model, Part};
+use crate::script_faults;
 use crate::scripts;
 use crate::tables::phases_mut;
 use crate::watchers::count_again;
@@ -101,9 +102,81 @@ pub enum Fault {
     UnknownFirst,
     /// Refusal 13 is tested before 1.
     InconsistentFirst,
+    /// Writing cuts N to 8 bits.
+    WriteThreadsCut,
+    /// The last triple isn't written.
+    WriteSkipsTriple,
+    /// A thread is written with a zero before it.
+    WriteLeadingZero,
+    /// A note is written.
+    WriteNote,
+    /// Two moves have the same words.
+    WriteHoldAsRelent,
+    /// A move that a run would refuse by 6 or 7 isn't written.
+    WriteRefusesMoves,
+    /// A triple's move is tested before its thread.
+    WriteMoveFirst,
+    /// A triple's target is tested before its move.
+    WriteTargetFirst,
+    /// The place of a bad triple is that of the next.
+    WriteNextPlace,
+    /// The place of a bad triple is cut to 16 bits.
+    WritePlaceCut,
+    /// A list's length is tested after its triples.
+    WriteLengthLast,
+    /// A script too long is refused before a bad triple.
+    WriteTooLongFirst,
+    /// The longest script that is written has 29,999 bytes.
+    WriteBoundLess,
+    /// The longest script that is written has 30,001 bytes.
+    WriteBoundMore,
+    /// Writing answers moves and not bytes.
+    WriteCountsMoves,
+    /// The bytes after the script are cleared.
+    WriteClearsTail,
+    /// A refused output is written.
+    WriteWritesRefused,
+    /// Reading stops after the first line.
+    ReadFirstLine,
+    /// A move that a run would refuse by 6 or 7 isn't read.
+    ReadRefusesMoves,
+    /// A line that can not be read is skipped.
+    ReadSkipsLines,
+    /// Lines are counted from 0.
+    ReadLineFromZero,
+    /// Notes aren't counted as lines.
+    ReadNotesUncounted,
+    /// The N read isn't the script's.
+    ReadOtherThreads,
+    /// Refusals 3 and 5 are exchanged.
+    ReadThreeAndFive,
+    /// A line's target is tested before its thread.
+    ReadTargetFirst,
+    /// Reading answers moves and not bytes.
+    ReadCountsMoves,
+    /// A note is read as the move go.
+    ReadNotesAsGo,
+    /// The last line needs no line feed.
+    ReadNoLineFeed,
+    /// A second threads line passes.
+    ReadThreadsAgain,
+    /// The longest script that is read has 29,999 bytes.
+    ReadBoundLess,
+    /// The longest script that is read has 30,001 bytes.
+    ReadBoundMore,
+    /// The place of an empty script is 0.
+    ReadEmptyAtZero,
+    /// The place of a script too long is 1.
+    ReadLongAtOne,
+    /// A short output is refused before a bad line.
+    ReadRoomFirst,
+    /// The bytes after the triples are cleared.
+    ReadClearsTail,
+    /// A refused output is written by reading.
+    ReadWritesRefused,
 }
 
-pub const FAULTS: [Fault; 49] = [
+pub const FAULTS: [Fault; 85] = [
     Fault::ThreadsCut,
     Fault::ThreadCut,
     Fault::MoveCut,
@@ -153,6 +226,42 @@ pub const FAULTS: [Fault; 49] = [
     Fault::InsideOfExclusive,
     Fault::UnknownFirst,
     Fault::InconsistentFirst,
+    Fault::WriteThreadsCut,
+    Fault::WriteSkipsTriple,
+    Fault::WriteLeadingZero,
+    Fault::WriteNote,
+    Fault::WriteHoldAsRelent,
+    Fault::WriteRefusesMoves,
+    Fault::WriteMoveFirst,
+    Fault::WriteTargetFirst,
+    Fault::WriteNextPlace,
+    Fault::WritePlaceCut,
+    Fault::WriteLengthLast,
+    Fault::WriteTooLongFirst,
+    Fault::WriteBoundLess,
+    Fault::WriteBoundMore,
+    Fault::WriteCountsMoves,
+    Fault::WriteClearsTail,
+    Fault::WriteWritesRefused,
+    Fault::ReadFirstLine,
+    Fault::ReadRefusesMoves,
+    Fault::ReadSkipsLines,
+    Fault::ReadLineFromZero,
+    Fault::ReadNotesUncounted,
+    Fault::ReadOtherThreads,
+    Fault::ReadThreeAndFive,
+    Fault::ReadTargetFirst,
+    Fault::ReadCountsMoves,
+    Fault::ReadNotesAsGo,
+    Fault::ReadNoLineFeed,
+    Fault::ReadThreadsAgain,
+    Fault::ReadBoundLess,
+    Fault::ReadBoundMore,
+    Fault::ReadEmptyAtZero,
+    Fault::ReadLongAtOne,
+    Fault::ReadRoomFirst,
+    Fault::ReadClearsTail,
+    Fault::ReadWritesRefused,
 ];
 
 /// A line `(T (hold K))` without its target.
@@ -418,5 +527,14 @@ impl Part for Faulty {
             (_, 1) if self.inconsistent_first(record) => refused(13, 0),
             _ => answer,
         }
+    }
+
+    fn write_script(&self, threads: u16, triples: &[u8], out: &mut [u8]) -> u64 {
+        let threads = self.cut(Fault::WriteThreadsCut, threads);
+        script_faults::write(self.fault, threads, triples, out)
+    }
+
+    fn read_script(&self, script: &[u8], out: &mut [u8]) -> u64 {
+        script_faults::read(self.fault, script, out)
     }
 }

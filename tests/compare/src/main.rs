@@ -15,7 +15,7 @@ use std::process::ExitCode;
 
 use compare::comparison::Comparison;
 use compare::part::{Entry, Model, Part, ENTRIES};
-use compare::{examples, faults, sections, vectors};
+use compare::{examples, faults, sections, vectors, written};
 
 const SEED: u64 = 0x5eed_0f10_c4ed_2026;
 
@@ -31,6 +31,9 @@ fn archive_entries() -> Vec<Entry> {
     if !cfg!(feature = "watch") {
         entries.retain(|entry| !entry.is_of_watcher());
     }
+    if !cfg!(feature = "writing") {
+        entries.retain(|entry| !entry.is_of_writing());
+    }
     entries
 }
 
@@ -41,7 +44,7 @@ struct Section {
     run: fn(&mut Comparison, &[vectors::Vector]),
 }
 
-const SECTIONS: [Section; 15] = [
+const SECTIONS: [Section; 22] = [
     Section {
         name: "vectors",
         needs: None,
@@ -66,6 +69,31 @@ const SECTIONS: [Section; 15] = [
         name: "examples of the watcher",
         needs: Some(Entry::WatchEvent),
         run: |c, _| examples::watcher(c),
+    },
+    Section {
+        name: "examples of writing and reading a script",
+        needs: Some(Entry::WriteScript),
+        run: |c, _| written::examples(c),
+    },
+    Section {
+        name: "the vectors' scripts read and written again",
+        needs: Some(Entry::WriteScript),
+        run: |c, vectors| written::vectors_again(c, vectors),
+    },
+    Section {
+        name: "lists of moves written and read back",
+        needs: Some(Entry::WriteScript),
+        run: |c, _| written::lists_again(c, SEED),
+    },
+    Section {
+        name: "lists with a bad triple, scripts with a bad line",
+        needs: Some(Entry::WriteScript),
+        run: |c, _| written::bad_places(c, SEED),
+    },
+    Section {
+        name: "the longest lists and scripts, written and read",
+        needs: Some(Entry::WriteScript),
+        run: |c, _| written::longest(c, SEED),
     },
     Section {
         name: "tables that the part's own moves reach, counted",
@@ -111,6 +139,16 @@ const SECTIONS: [Section; 15] = [
         name: "plans made by the move",
         needs: None,
         run: |c, _| sections::plans(c, SEED),
+    },
+    Section {
+        name: "plans written as scripts and run",
+        needs: Some(Entry::WriteScript),
+        run: |c, _| written::plans_run(c, SEED),
+    },
+    Section {
+        name: "random scripts run and read",
+        needs: Some(Entry::ReadScript),
+        run: |c, _| written::against_run(c, SEED),
     },
     Section {
         name: "random cases",

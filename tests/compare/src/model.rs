@@ -1,5 +1,6 @@
 //! Every entry of the part in plain Rust over slices: the table and its moves,
-//! the nodes, the open moves, histories, plans, scripts and the watcher.
+//! the nodes, the open moves, histories, plans, scripts and the watcher. The
+//! entries that write and read a script stand in `spelling.rs`.
 //!
 //! It shares no code with the part. It makes the same tests in the same order,
 //! and judges a table or a watcher's record in one pass over its threads. Its
@@ -54,7 +55,7 @@ pub const fn takes_target(mov: u16) -> bool {
 }
 
 /// The refusals, by their numbers, in checking order; but 13 is tested after 1
-/// and before 9.
+/// and before 9, and a list's length (8) before its triples (3, 4, 5).
 #[derive(Clone, Copy, PartialEq, Eq, Debug)]
 pub enum Refusal {
     BadSize = 1,
@@ -250,7 +251,7 @@ pub fn make_move(table: &mut [u8], thread: u16, mov: u16, target: u16) -> Outcom
 }
 
 /// The number of targets that a move can have, from 0 upward.
-fn targets(mov: u16, threads: usize) -> usize {
+pub(crate) fn targets(mov: u16, threads: usize) -> usize {
     if takes_target(mov) {
         threads
     } else {
@@ -518,13 +519,17 @@ fn plan_event(thread: u8, event: u8, out: &mut [u8]) {
 
 // ---------------------------------------------------------------- the script
 
+/// A move of a script.
+#[derive(Clone, Copy)]
+pub(crate) struct Move {
+    pub thread: usize,
+    pub mov: u16,
+    pub target: usize,
+}
+
 /// The form of a line after the first.
 enum Form {
-    Move {
-        thread: usize,
-        mov: u16,
-        target: usize,
-    },
+    Move(Move),
     Note,
 }
 
@@ -562,11 +567,11 @@ fn form(line: &[u8]) -> Option<Form> {
         b"hold" => (HOLD, 0),
         _ => with_target(words)?,
     };
-    Some(Form::Move {
+    Some(Form::Move(Move {
         thread,
         mov,
         target,
-    })
+    }))
 }
 
 /// Reads `set K` or `clear K`.
@@ -682,60 +687,88 @@ fn split_line(script: &[u8]) -> Option<(&[u8], &[u8])> {
     Some((&script[..end], &script[end + 1..]))
 }
 
-fn run_lines(script: &[u8], printer: &mut Printer) {
-    let first = split_line(script).and_then(|(line, rest)| Some((threads_line(line)?, rest)));
-    let Some((threads, mut rest)) = first else {
-        return printer.refused(Refusal::BadForm, 1);
-    };
-    if threads == 0 || threads > MAX_THREADS {
-        return printer.refused(Refusal::BadSize, 1);
+/// The lines of a script after the first, read one by one.
+pub(crate) struct Lines<'a> {
+    pub threads: usize,
+    /// The line read last, from 1.
+    pub place: usize,
+    rest: &'a [u8],
+}
+
+impl<'a> Lines<'a> {
+    /// Reads the first line.
+    pub fn start(script: &'a [u8]) -> Result<Lines<'a>, Refusal> {
+        let first = split_line(script).and_then(|(line, rest)| Some((threads_line(line)?, rest)));
+        let Some((threads, rest)) = first else {
+            return Err(Refusal::BadForm);
+        };
+        if threads == 0 || threads > MAX_THREADS {
+            return Err(Refusal::BadSize);
+        }
+        Ok(Lines {
+            threads,
+            place: 1,
+            rest,
+        })
     }
+
+    fn read(&self, line: &[u8]) -> Result<Option<Move>, Refusal> {
+        match form(line) {
+            None => Err(Refusal::BadForm),
+            Some(Form::Note) => Ok(None),
+            Some(Form::Move(made)) if made.thread >= self.threads => Err(Refusal::NoThread),
+            Some(Form::Move(made)) if made.target >= self.threads => Err(Refusal::BadTarget),
+            Some(Form::Move(made)) => Ok(Some(made)),
+        }
+    }
+}
+
+/// Each line gives its move, nothing for a note, or its refusal.
+impl Iterator for Lines<'_> {
+    type Item = Result<Option<Move>, Refusal>;
+
+    fn next(&mut self) -> Option<Self::Item> {
+        if self.rest.is_empty() {
+            return None;
+        }
+        self.place += 1;
+        let Some((line, later)) = split_line(self.rest) else {
+            return Some(Err(Refusal::BadForm));
+        };
+        self.rest = later;
+        Some(self.read(line))
+    }
+}
+
+fn run_lines(script: &[u8], printer: &mut Printer) {
+    let mut lines = match Lines::start(script) {
+        Ok(lines) => lines,
+        Err(refusal) => return printer.refused(refusal, 1),
+    };
+    let threads = lines.threads;
     let mut bytes = [0; 3 + 3 * MAX_THREADS];
     let table = &mut bytes[..table_size(threads)];
     start(threads, table);
-    let (mut forbidden, mut steps, mut place) = (0, 0, 1);
-    while !rest.is_empty() {
-        place += 1;
-        let Some((line, later)) = split_line(rest) else {
-            return printer.refused(Refusal::BadForm, place);
+    let (mut forbidden, mut steps) = (0, 0);
+    while let Some(line) = lines.next() {
+        let made = match line {
+            Ok(Some(made)) => made,
+            Ok(None) => continue,
+            Err(refusal) => return printer.refused(refusal, lines.place),
         };
-        match run_line(line, table, threads, &mut forbidden) {
-            Ok(None) => (),
-            Ok(Some((_, Outcome::Quiet))) => steps += 1,
-            Ok(Some((thread, Outcome::Shown(event)))) => {
-                steps += 1;
-                printer.event(thread, event);
-            }
-            Ok(Some((_, Outcome::Refused(refusal)))) | Err(refusal) => {
-                return printer.refused(refusal, place);
-            }
-        }
-        rest = later;
-    }
-    printer.steps(steps);
-}
-
-/// Reads a line and makes its move: the mover and the outcome, none for a note.
-fn run_line(
-    line: &[u8],
-    table: &mut [u8],
-    threads: usize,
-    forbidden: &mut usize,
-) -> Result<Option<(usize, Outcome)>, Refusal> {
-    match form(line) {
-        None => Err(Refusal::BadForm),
-        Some(Form::Note) => Ok(None),
-        Some(Form::Move { thread, .. }) if thread >= threads => Err(Refusal::NoThread),
-        Some(Form::Move { target, .. }) if target >= threads => Err(Refusal::BadTarget),
-        Some(Form::Move {
+        let Move {
             thread,
             mov,
             target,
-        }) => Ok(Some((
-            thread,
-            apply(table, threads, forbidden, thread, mov, target),
-        ))),
+        } = made;
+        match apply(table, threads, &mut forbidden, thread, mov, target) {
+            Outcome::Quiet => (),
+            Outcome::Shown(event) => printer.event(thread, event),
+            Outcome::Refused(refusal) => return printer.refused(refusal, lines.place),
+        }
+        steps += 1;
     }
+    printer.steps(steps);
 }
 
 // --------------------------------------------------------------- the watcher

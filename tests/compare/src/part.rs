@@ -4,9 +4,10 @@
 //! An answer's low byte is the refusal's number, 0 where accepted. The rest is
 //! the refusal's place, or the number answered: a count, or for the move the
 //! event's code, 0 for quiet. The watcher answers 0, and its question 1 for yes
-//! and 0 for no.
+//! and 0 for no. Reading a script answers N and 256 times the number of bytes.
 
 use crate::model::{self, Answer, Outcome, Record, Refusal};
+use crate::spelling::{self, Reading};
 
 /// The entries of the part. Those that an archive lacks keep the default.
 pub trait Part {
@@ -32,6 +33,12 @@ pub trait Part {
     fn watch_inside(&self, _record: &Record) -> u64 {
         panic!("the part has no watcher")
     }
+    fn write_script(&self, _threads: u16, _triples: &[u8], _out: &mut [u8]) -> u64 {
+        panic!("the part writes no scripts")
+    }
+    fn read_script(&self, _script: &[u8], _out: &mut [u8]) -> u64 {
+        panic!("the part reads no scripts")
+    }
 }
 
 pub fn done(value: u64) -> u64 {
@@ -40,6 +47,11 @@ pub fn done(value: u64) -> u64 {
 
 pub fn refused(number: u64, place: u64) -> u64 {
     place << 8 | number
+}
+
+/// The answer to a script that was read.
+pub fn done_reading(threads: u64, bytes: u64) -> u64 {
+    done(threads + 256 * bytes)
 }
 
 /// The refusal's number, 0 where accepted.
@@ -104,6 +116,15 @@ impl Part for Model {
     fn watch_inside(&self, record: &Record) -> u64 {
         watched(model::watch_inside(record).map(u64::from))
     }
+    fn write_script(&self, threads: u16, triples: &[u8], out: &mut [u8]) -> u64 {
+        encoded(spelling::write_script(threads, triples, out))
+    }
+    fn read_script(&self, script: &[u8], out: &mut [u8]) -> u64 {
+        match spelling::read_script(script, out) {
+            Ok(Reading { threads, bytes }) => done_reading(threads as u64, bytes as u64),
+            Err((refusal, place)) => refused(refusal as u64, place as u64),
+        }
+    }
 }
 
 #[derive(Clone, Copy, PartialEq, Eq, PartialOrd, Ord, Debug)]
@@ -118,9 +139,11 @@ pub enum Entry {
     WatchStart,
     WatchEvent,
     WatchInside,
+    WriteScript,
+    ReadScript,
 }
 
-pub const ENTRIES: [Entry; 10] = [
+pub const ENTRIES: [Entry; 12] = [
     Entry::Fresh,
     Entry::Move,
     Entry::Nodes,
@@ -131,6 +154,8 @@ pub const ENTRIES: [Entry; 10] = [
     Entry::WatchStart,
     Entry::WatchEvent,
     Entry::WatchInside,
+    Entry::WriteScript,
+    Entry::ReadScript,
 ];
 
 impl Entry {
@@ -146,6 +171,8 @@ impl Entry {
             "watch_start",
             "watch_event",
             "watch_inside",
+            "write_script",
+            "read_script",
         ][self as usize]
     }
 
@@ -154,6 +181,10 @@ impl Entry {
             self,
             Entry::WatchStart | Entry::WatchEvent | Entry::WatchInside
         )
+    }
+
+    pub fn is_of_writing(self) -> bool {
+        matches!(self, Entry::WriteScript | Entry::ReadScript)
     }
 
     /// The refusals that the entry can give.
@@ -169,6 +200,8 @@ impl Entry {
             Entry::WatchStart => &[1],
             Entry::WatchEvent => &[1, 9, 10, 11, 13],
             Entry::WatchInside => &[1, 13],
+            Entry::WriteScript => &[1, 3, 4, 5, 8, 12],
+            Entry::ReadScript => &[1, 3, 5, 8, 12],
         }
     }
 }
@@ -265,6 +298,22 @@ impl Call {
             lent: vec![],
         }
     }
+    pub fn write_script(threads: u16, triples: Vec<u8>, out: Vec<u8>) -> Call {
+        Call {
+            entry: Entry::WriteScript,
+            numbers: [threads, 0, 0],
+            read: triples,
+            lent: out,
+        }
+    }
+    pub fn read_script(script: Vec<u8>, out: Vec<u8>) -> Call {
+        Call {
+            entry: Entry::ReadScript,
+            numbers: [0; 3],
+            read: script,
+            lent: out,
+        }
+    }
 
     /// The call in the words of the vectors' file, its bytes in hexadecimal.
     pub fn words(&self) -> String {
@@ -274,10 +323,10 @@ impl Call {
         match self.entry {
             Entry::Fresh | Entry::WatchStart => format!("{name} {first} {lent}"),
             Entry::Move => format!("{name} {lent} {first} {second} {third}"),
-            Entry::Nodes | Entry::Run => format!("{name} {read} {lent}"),
+            Entry::Nodes | Entry::Run | Entry::ReadScript => format!("{name} {read} {lent}"),
             Entry::OpenMoves => format!("{name} {read} {first} {lent}"),
             Entry::Check => format!("{name} {first} {read}"),
-            Entry::Plan => format!("{name} {first} {read} {lent}"),
+            Entry::Plan | Entry::WriteScript => format!("{name} {first} {read} {lent}"),
             Entry::WatchEvent => format!("{name} {lent} {first} {second}"),
             Entry::WatchInside => format!("{name} {read}"),
         }
@@ -361,6 +410,8 @@ impl<'a> Caller<'a> {
             Entry::WatchStart => self.part.watch_start(numbers[0], record(lent)),
             Entry::WatchEvent => self.part.watch_event(record(lent), numbers[0], numbers[1]),
             Entry::WatchInside => self.part.watch_inside(record(read)),
+            Entry::WriteScript => self.part.write_script(numbers[0], read, lent),
+            Entry::ReadScript => self.part.read_script(read, lent),
         }
     }
 

@@ -25,6 +25,35 @@ fn push_move(script: &mut Vec<u8>, thread: usize, mov: u16, target: u16) {
     script.extend(line.bytes());
 }
 
+/// The line of a triple.
+pub fn line(triple: &[u8]) -> Vec<u8> {
+    let mut line = Vec::new();
+    push_move(
+        &mut line,
+        triple[0].into(),
+        triple[1].into(),
+        triple[2].into(),
+    );
+    line
+}
+
+/// The script of a list of triples that can be spelled.
+pub fn spelled(threads: usize, list: &[u8]) -> Vec<u8> {
+    let mut script = format!("(threads {threads})\n").into_bytes();
+    script.extend(list.chunks(3).flat_map(line));
+    script
+}
+
+/// A script without its notes.
+pub fn without_notes(script: &[u8]) -> Vec<u8> {
+    script
+        .split_inclusive(|&byte| byte == b'\n')
+        .filter(|line| !line.starts_with(b"(note "))
+        .flatten()
+        .copied()
+        .collect()
+}
+
 /// A note whose brackets balance; where `deep`, it may pass the depth allowed.
 fn push_note(r: &mut Random, script: &mut Vec<u8>, deep: bool) {
     script.extend(b"(note ");
@@ -101,6 +130,27 @@ pub fn script(r: &mut Random, lines: usize) -> Vec<u8> {
     script
 }
 
+/// The script of a list of triples that can be spelled, with notes among them.
+pub fn with_notes(r: &mut Random, threads: usize, list: &[u8]) -> Vec<u8> {
+    let mut script = spelled(threads, &[]);
+    for triple in list.chunks(3) {
+        for _ in 0..r.pick(&[0, 0, 0, 1, 2]) {
+            push_note(r, &mut script, false);
+        }
+        script.extend(line(triple));
+    }
+    if r.chance(1, 3) {
+        let text = r.pick(&[
+            "(0 (go))",
+            "(threads 2)",
+            "(((((((((((((((())))))))))))))))",
+            "",
+        ]);
+        script.extend(format!("(note {text})\n").bytes());
+    }
+    script
+}
+
 /// A script that runs to its end and has exactly `size` bytes, at least 200,
 /// its last line a note.
 pub fn script_of_size(r: &mut Random, size: usize) -> Vec<u8> {
@@ -123,6 +173,143 @@ pub fn map_lines(script: &[u8], edited: impl Fn(&[u8]) -> Option<Vec<u8>>) -> Ve
         .map(|line| edited(line).unwrap_or(line.to_vec()))
         .collect::<Vec<_>>()
         .join(&b'\n')
+}
+
+pub fn count_lines(script: &[u8]) -> usize {
+    script.iter().filter(|&&byte| byte == b'\n').count()
+}
+
+/// A script without its first line.
+pub fn without_first(script: &[u8]) -> Vec<u8> {
+    let end = script.iter().position(|&byte| byte == b'\n').unwrap();
+    script[end + 1..].to_vec()
+}
+
+/// Lines that are no form of a line after the first.
+const NO_FORMS: [&str; 56] = [
+    "",
+    " ",
+    "(",
+    "()",
+    "(0)",
+    "(0 )",
+    "(0 ())",
+    "(go)",
+    "( (go))",
+    "0 (go)",
+    "(0 go)",
+    "(0 (go)",
+    "(0 (go)))",
+    "(0 (go)) ",
+    " (0 (go))",
+    "(0  (go))",
+    "(0(go))",
+    "(0 (go ))",
+    "(0 ( go))",
+    "(0 (Go))",
+    "(0 (goes))",
+    "(0 (g))",
+    "(0 (go))\r",
+    "(0 (go))\0",
+    "(0\t(go))",
+    "(00 (go))",
+    "(01 (go))",
+    "(000 (go))",
+    "(1000 (go))",
+    "(-1 (go))",
+    "(0x0 (go))",
+    "(0 (go 0))",
+    "(0 (call))",
+    "(0 (call both))",
+    "(0 (call  shared))",
+    "(0 (callshared))",
+    "(0 (call shared exclusive))",
+    "(0 (set))",
+    "(0 (set ))",
+    "(0 (set  0))",
+    "(0 (set 00))",
+    "(0 (set 1000))",
+    "(0 (set 0 0))",
+    "(0 (clear))",
+    "(0 (clear 01))",
+    "(0 (relent 0))",
+    "(0 (hold 0))",
+    "(note)",
+    "(note",
+    "(note(a))",
+    "(note a",
+    "(note ))",
+    "(note ()",
+    "(note )(",
+    "(note \u{1f})",
+    "(note \u{7f})",
+];
+
+/// Lines that are turned down for so many threads, each with its refusal.
+pub fn bad_lines(threads: usize) -> Vec<(Vec<u8>, u64)> {
+    let text = |number: u64, line: String| (line.into_bytes(), number);
+    let mut lines = NO_FORMS.map(|line| text(8, line.to_string())).to_vec();
+    for depth in [17, 18, 300] {
+        let (open, close) = ("(".repeat(depth), ")".repeat(depth));
+        lines.push(text(8, format!("(note {open}{close})")));
+    }
+    lines.push((b"(note \x80)".to_vec(), 8));
+    lines.push((b"(note \xff)".to_vec(), 8));
+    // The form comes before the numbers.
+    lines.push(text(8, format!("(threads {threads})")));
+    lines.push(text(8, format!("({threads} (gone))")));
+    lines.push(text(8, format!("({threads} (set {threads})")));
+    for past in [threads, 200, 256, 512, 999] {
+        let last = threads - 1;
+        lines.push(text(3, format!("({past} (go))")));
+        lines.push(text(3, format!("({past} (call exclusive))")));
+        lines.push(text(3, format!("({past} (set {last}))")));
+        // 3 before 5
+        lines.push(text(3, format!("({past} (clear {past}))")));
+        lines.push(text(5, format!("({last} (set {past}))")));
+        lines.push(text(5, format!("(0 (clear {past}))")));
+    }
+    lines
+}
+
+/// First lines that are turned down, each with its refusal.
+pub fn bad_first_lines() -> impl Iterator<Item = (&'static [u8], u64)> {
+    const NO_FORMS: [&str; 21] = [
+        "",
+        "(threads)",
+        "(threads )",
+        "(threads 01)",
+        "(threads 001)",
+        "(threads 00)",
+        "(threads 1000)",
+        "(threads 1) ",
+        " (threads 1)",
+        "(threads  1)",
+        "(threads 1 )",
+        "(threads 1",
+        "(threads 1))",
+        "(threads 1 1)",
+        "(threads -1)",
+        "(threads\t1)",
+        "(thread 1)",
+        "(Threads 1)",
+        "(threads 1)\r",
+        "(note threads)",
+        "(0 (go))",
+    ];
+    const BAD: [&str; 6] = [
+        "(threads 0)",
+        "(threads 201)",
+        "(threads 255)",
+        "(threads 256)",
+        "(threads 257)",
+        "(threads 999)",
+    ];
+    let with = |number: u64| move |line: &'static str| (line.as_bytes(), number);
+    NO_FORMS
+        .into_iter()
+        .map(with(8))
+        .chain(BAD.into_iter().map(with(1)))
 }
 
 /// A script with a fault or two, which may yet run.

@@ -11,6 +11,7 @@ use crate::random::Random;
 use crate::tables;
 use crate::vectors::{self, before_hold, Vector};
 use crate::watchers;
+use crate::written;
 
 /// Random cases for each entry.
 const CASES: usize = 200_000;
@@ -253,12 +254,7 @@ fn numbers(list: &[u8]) -> String {
 
 /// The refusal in the last line of a run's output, 0 for a line of steps.
 fn refusal_printed(output: &[u8]) -> usize {
-    let lines = String::from_utf8_lossy(output);
-    let last = lines.lines().last().unwrap_or_default();
-    let number = last
-        .strip_prefix("(refused ")
-        .and_then(|rest| rest.split(' ').next());
-    number.map_or(0, |number| number.parse().unwrap_or(0))
+    written::stop(output).map_or(0, |[number, _]| number as usize)
 }
 
 /// Every list of up to four pairs for one and two threads, events and threads
@@ -290,7 +286,7 @@ pub fn small_histories(c: &mut Comparison) {
 
 /// Scripts that have every form between them, and the refusal that each prints
 /// last, 0 for none. In the second a reader waits at the mutex.
-const FORMS: [(&[u8], usize); 2] = [
+const FORMS: [(&[u8], u64); 2] = [
     (
         b"(threads 12)\n(note a (b) c)\n(11 (call exclusive))\n(11 (go))\n(11 (set 10))\n\
         (3 (call shared))\n(11 (relent))\n(11 (go))\n(note )\n(3 (go))\n(11 (clear 2))\n",
@@ -306,7 +302,7 @@ const FORMS: [(&[u8], usize); 2] = [
 ];
 
 /// These scripts with each byte taken out, doubled, or replaced by each
-/// of the 256, and cut after each byte.
+/// of the 256, and cut after each byte: run and read.
 pub fn edited_scripts(c: &mut Comparison) {
     let before = c.passed;
     for (script, refusal) in FORMS {
@@ -315,25 +311,20 @@ pub fn edited_scripts(c: &mut Comparison) {
     c.say(&format!("  {} calls", c.passed - before));
 }
 
-fn edited_script(c: &mut Comparison, script: &[u8], refusal: usize) {
-    let mut call = Call::run(script.to_vec(), vec![0x5a; 400]);
-    let size = value_of(c.compare(&call)) as usize;
-    let printed = refusal_printed(&c.lent()[..size]);
+fn edited_script(c: &mut Comparison, script: &[u8], refusal: u64) {
+    let (stopped, _) = written::run_and_read(c, script);
+    let printed = stopped.map_or(0, |[number, _]| number);
     c.claim(printed == refusal, || {
         format!("a script printed refusal {printed} and not {refusal}")
     });
     for at in 0..script.len() {
+        let (front, back) = script.split_at(at);
         for byte in 0..=255 {
-            call.read = script.to_vec();
-            call.read[at] = byte;
-            c.compare(&call);
+            written::run_and_read(c, &[front, &[byte], &back[1..]].concat());
         }
-        call.read = [&script[..at], &script[at + 1..]].concat();
-        c.compare(&call);
-        call.read = [&script[..at], &script[at..at + 1], &script[at..]].concat();
-        c.compare(&call);
-        call.read = script[..at].to_vec();
-        c.compare(&call);
+        written::run_and_read(c, &[front, &back[1..]].concat());
+        written::run_and_read(c, &[front, &back[..1], back].concat());
+        written::run_and_read(c, front);
         if c.stopped() {
             return;
         }

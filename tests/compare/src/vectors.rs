@@ -10,9 +10,11 @@ use crate::scripts::map_lines;
 use crate::tables::phases_mut;
 
 /// The entries that the vectors call. They were made before 02 §2: there are
-/// none of the watcher.
+/// none of the watcher, and none that write or read a script.
 pub fn entries() -> impl Iterator<Item = Entry> {
-    ENTRIES.into_iter().filter(|entry| !entry.is_of_watcher())
+    ENTRIES
+        .into_iter()
+        .filter(|entry| !entry.is_of_watcher() && !entry.is_of_writing())
 }
 
 /// A call with its answer and the lent bytes after it.

@@ -15,7 +15,7 @@ use Rattle.opening.specs.FirstLine.{FirstAt, ThreadsAt}
 use Rattle.reading.specs.Moves.{Taken, AllTaken}
 use Rattle.theory.proofs.Stages.{count-most}
 use Rattle.theory.proofs.Tests.{true-T}
-use Rattle.reading.proofs.EntryLaws.{too-long, bad-first, bad-count, bad-line, no-room-left, within, triples-room, all-read}
+use Rattle.reading.proofs.EntryLaws.{too-long, bad-first, bad-count, bad-line, no-room-left, within, triples-room, triples-whole, all-read}
 use Rattle.reading.proofs.read.Statement.{statement}
 use Rattle.reading.proofs.read.Tie as tie
 
@@ -118,15 +118,16 @@ returns-4 c =
 array-share-prefix-moves : tie.Need-array-share-prefix-moves
 array-share-prefix-moves c = size-fits (c .before .before)
 
-slice-aggregate-put-text : tie.Need-slice-aggregate-put-text
-slice-aggregate-put-text c = sym (length-take-le _ _ (size-fits (c .before .before .before)))
+slice-aggregate-put-triples : tie.Need-slice-aggregate-put-triples
+slice-aggregate-put-triples c = sym (length-take-le _ _ (size-fits (c .before .before .before)))
 
-put-text-requires : tie.Need-put-text-requires
-put-text-requires c κs =
+put-triples-requires : tie.Need-put-triples-requires
+put-triples-requires c κs =
     let e = c .before .before in
     let t = lines (e .before) in
     let k = known (fitting t) in
-    triples-room _ _ (short k) _ _ (threads-at k) (counts (fitting t)) (all-taken (e .before)) long (t .take-lines .kept .1 .1 .1 .0) (e .if3 .left)
+    (triples-room _ _ (short k) _ _ (threads-at k) (counts (fitting t)) (all-taken (e .before)) long (t .take-lines .kept .1 .1 .1 .0) (e .if3 .left),
+    triples-whole _ (start k .args .out .now) (short k) _ _ (threads-at k) (counts (fitting t)) (all-taken (e .before)) long (t .take-lines .kept .1 .1 .1 .0) (e .if3 .left))
 
 returns-5 : tie.Need-returns-5
 returns-5 c =
@@ -144,7 +145,7 @@ returns-6 c =
     let e = w .before .before .before in
     let t = lines (e .before) in
     let k = known (fitting t) in
-    all-read _ _ (short k) _ _ (threads-at k) (counts (fitting t)) (all-taken (e .before)) long (t .take-lines .kept .1 .1 .1 .0) (e .if3 .left) _ _ (w .put-text .ensures)
+    all-read _ _ (short k) _ _ (threads-at k) (counts (fitting t)) (all-taken (e .before)) long (t .take-lines .kept .1 .1 .1 .0) (e .if3 .left) _ _ (w .put-triples .ensures)
 
 pub read-spec : {M : Type 1} → statement M
 read-spec =
@@ -165,8 +166,8 @@ read-spec =
     enum-known-taken-2
     returns-4
     array-share-prefix-moves
-    slice-aggregate-put-text
-    put-text-requires
+    slice-aggregate-put-triples
+    put-triples-requires
     returns-5
     same-length
     returns-6)
