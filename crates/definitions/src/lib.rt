@@ -195,9 +195,6 @@ pub enum Inside {
 
 // What reading a script answers: N and the number of bytes written (02 §3).
 pub enum Reading {
-    Read {
-        threads: u8,
-        bytes: usize,
-    },
+    Read { threads: u8, bytes: usize },
     Refused(Refusal, usize),
 }

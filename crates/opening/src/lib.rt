@@ -11,10 +11,7 @@ ghost use Rattle.opening.specs.FirstLine.{FirstAt};
 // What the first line says.
 pub enum First {
     // The number of threads, and the place where the second line begins.
-    Threads {
-        count: u16,
-        start: usize,
-    },
+    Threads { count: u16, start: usize },
     // Anything else, or there is no line.
     Bad,
 }

@@ -87,7 +87,7 @@ refused-once before other n m l k e =
     let b = sym (refused-back before n l) ∙ (ap (λ (xs : List ℕ). drop 2 (reverse xs)) e ∙ refused-back other m k) in
     let last = split-once (reverse (decimal l)) (reverse (decimal k)) _ _ (decimal-digits l) (decimal-digits k) b in
     let front : (number : ℕ) (xs : List ℕ)
-        → reverse (decimal number) ++ reverse (xs ++ bytes "(refused ") ≡ reverse (decimal number) ++ (32 ∷ (reverse (bytes "(refused") ++ reverse xs)) =
+    → reverse (decimal number) ++ reverse (xs ++ bytes "(refused ") ≡ reverse (decimal number) ++ (32 ∷ (reverse (bytes "(refused") ++ reverse xs)) =
     λ number xs. ap (λ (ys : List ℕ). reverse (decimal number) ++ ys) (reverse-append xs (bytes "(refused ")) in
     let first = split-once (reverse (decimal n)) (reverse (decimal m)) _ _ (decimal-digits n) (decimal-digits m) (sym (front n before) ∙ (last .1 ∙ front m other)) in
     let back : reverse before ≡ reverse other = append-cancel-left (reverse (bytes "(refused")) (reverse before) (reverse other) (first .1) in

@@ -61,12 +61,12 @@ fn script_length(threads: u16, triples: &[u8]) -> usize
     let moves = triples.len() / 3;
     let first = threads_length(threads);
     let mut total = first as usize;
-    let mut k: usize = 0;
-    while k < moves {
-        let i = 3 * k;
+    let mut m: usize = 0;
+    while m < moves {
+        let i = 3 * m;
         let line = move_length(triples[i], triples[i + 1], triples[i + 2]);
         total += line as usize;
-        k += 1;
+        m += 1;
     }
     total
 }
@@ -78,11 +78,11 @@ fn put_moves(out: &mut [u8], start: usize, triples: &[u8]) -> usize
 {
     let moves = triples.len() / 3;
     let mut at = start;
-    let mut k: usize = 0;
-    while k < moves {
-        let i = 3 * k;
+    let mut j: usize = 0;
+    while j < moves {
+        let i = 3 * j;
         at = put_move(out, at, triples[i], triples[i + 1], triples[i + 2]);
-        k += 1;
+        j += 1;
     }
     at
 }

@@ -125,9 +125,10 @@ put-triples-requires : tie.Need-put-triples-requires
 put-triples-requires c κs =
     let e = c .before .before in
     let t = lines (e .before) in
-    let k = known (fitting t) in
-    (triples-room _ _ (short k) _ _ (threads-at k) (counts (fitting t)) (all-taken (e .before)) long (t .take-lines .kept .1 .1 .1 .0) (e .if3 .left),
-    triples-whole _ (start k .args .out .now) (short k) _ _ (threads-at k) (counts (fitting t)) (all-taken (e .before)) long (t .take-lines .kept .1 .1 .1 .0) (e .if3 .left))
+    let k = known (fitting t) in (
+      triples-room _ _ (short k) _ _ (threads-at k) (counts (fitting t)) (all-taken (e .before)) long (t .take-lines .kept .1 .1 .1 .0) (e .if3 .left),
+      triples-whole _ (start k .args .out .now) (short k) _ _ (threads-at k) (counts (fitting t)) (all-taken (e .before)) long (t .take-lines .kept .1 .1 .1 .0) (e .if3 .left),
+    )
 
 returns-5 : tie.Need-returns-5
 returns-5 c =

@@ -9,10 +9,10 @@ use Rattle.writing.proofs.put_moves.Statement.{statement}
 use Rattle.writing.proofs.put_moves.Tie as tie
 
 abbrev Inv-loop : tie.InvT-loop
-Inv-loop out₀ start triples moves at₀ k₀ out at k = (k ≤ length triples / 3) × Partly out₀ start (textFrom triples 0) (textFrom triples k) out at
+Inv-loop out₀ start triples moves at₀ j₀ out at j = (j ≤ length triples / 3) × Partly out₀ start (textFrom triples 0) (textFrom triples j) out at
 
 abbrev μ-loop : tie.MeasureT-loop
-μ-loop out₀ start triples moves at₀ k₀ out at k = moves - k
+μ-loop out₀ start triples moves at₀ j₀ out at j = moves - j
 
 loop-holds : tie.Need-loop-holds Inv-loop μ-loop
 loop-holds c = (omega arith, no-part (c .before .before .pre))
@@ -38,10 +38,10 @@ shared-slice-read-put-move-3 c = omega arith
 put-move-requires : tie.Need-put-move-requires Inv-loop μ-loop
 put-move-requires c κs =
     let l = c .before .before .before .before in
-    line-room _ (l .before .loop .k) (l .before .loop .inv .1) (l .loop-test .taken)
+    line-room _ (l .before .loop .j) (l .before .loop .inv .1) (l .loop-test .taken)
 
-add-k : tie.Need-add-k Inv-loop μ-loop
-add-k c = omega arith
+add-j : tie.Need-add-j Inv-loop μ-loop
+add-j c = omega arith
 
 loop-less : tie.Need-loop-less Inv-loop μ-loop
 loop-less c = omega arith
@@ -50,13 +50,13 @@ loop-again : tie.Need-loop-again Inv-loop μ-loop
 loop-again c =
     let p = c .before .before in
     let l = p .before .before .before .before .before in
-    (omega arith, line-put _ (l .before .loop .k) (l .before .loop .inv .1) (l .loop-test .taken) (p .put-move .ensures))
+    (omega arith, line-put _ (l .before .loop .j) (l .before .loop .inv .1) (l .loop-test .taken) (p .put-move .ensures))
 
 same-length : tie.Need-same-length Inv-loop μ-loop
 same-length c = c .before .loop .inv .1 .size
 
 returns : tie.Need-returns Inv-loop μ-loop
-returns c = lines-put _ (c .before .loop .k) (c .before .loop .inv .1) (c .loop-test .left)
+returns c = lines-put _ (c .before .loop .j) (c .before .loop .inv .1) (c .loop-test .left)
 
 pub put-moves-spec : {M : Type 1} → statement M
 put-moves-spec =
@@ -72,7 +72,7 @@ put-moves-spec =
     add-put-move-2
     shared-slice-read-put-move-3
     put-move-requires
-    add-k
+    add-j
     loop-less
     loop-again
     same-length

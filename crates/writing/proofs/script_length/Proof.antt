@@ -7,10 +7,10 @@ use Rattle.writing.proofs.script_length.Statement.{statement}
 use Rattle.writing.proofs.script_length.Tie as tie
 
 abbrev Inv-loop : tie.InvT-loop
-Inv-loop threads triples moves first total₀ k₀ total k = Measured threads triples k total
+Inv-loop threads triples moves first total₀ m₀ total m = Measured threads triples m total
 
 abbrev μ-loop : tie.MeasureT-loop
-μ-loop threads triples moves first total₀ k₀ total k = moves - k
+μ-loop threads triples moves first total₀ m₀ total m = moves - m
 
 threads-length-requires : tie.Need-threads-length-requires Inv-loop μ-loop
 threads-length-requires c κs = search needs
@@ -50,8 +50,8 @@ add-total c =
     let l = c .before .before .before .before .before in
     record { fits = omega (arith, l .before .before .before .pre, l .loop .inv .few) }
 
-add-k : tie.Need-add-k Inv-loop μ-loop
-add-k c = omega arith
+add-m : tie.Need-add-m Inv-loop μ-loop
+add-m c = omega arith
 
 loop-less : tie.Need-loop-less Inv-loop μ-loop
 loop-less c = omega arith
@@ -59,10 +59,10 @@ loop-less c = omega arith
 loop-again : tie.Need-loop-again Inv-loop μ-loop
 loop-again c =
     let l = c .before .before .before .before in
-    measured-more _ _ (l .before .loop .k) (l .before .loop .total) (l .loop-test .taken) (l .before .loop .inv) _ (omega arith) (c .move-length .ensures)
+    measured-more _ _ (l .before .loop .m) (l .before .loop .total) (l .loop-test .taken) (l .before .loop .inv) _ (omega arith) (c .move-length .ensures)
 
 returns : tie.Need-returns Inv-loop μ-loop
-returns c = measured-all _ _ (c .before .loop .k) (c .before .loop .total) (c .loop-test .left) (c .before .loop .inv)
+returns c = measured-all _ _ (c .before .loop .m) (c .before .loop .total) (c .loop-test .left) (c .before .loop .inv)
 
 pub script-length-spec : {M : Type 1} → statement M
 script-length-spec =
@@ -82,7 +82,7 @@ script-length-spec =
     move-length-requires
     cast-total-2
     add-total
-    add-k
+    add-m
     loop-less
     loop-again
     returns)
