@@ -21,10 +21,10 @@ use Rattle.definitions.specs.declared.Refusal.{Refusal}
 use Rattle.definitions.specs.declared.Refusal.the-variants.{BadSize, Unsound, NoThread, NoMove, BadTarget, NotInPhase, MutexHeld, BadForm, UnknownPair, NotNext, Occupied, NoRoom, Inconsistent}
 use Rattle.definitions.specs.declared.Watched.{Watched}
 use Rattle.definitions.specs.declared.Watched.the-variants as watched
-use Rattle.definitions.specs.Scripts.{Listed, readingReply}
+use Rattle.definitions.specs.Scripts.{readingReply}
 use Rattle.definitions.specs.Watch.{watchedReply, insideReply}
 use Rattle.theory.proofs.Tests.{below?}
-use Rattle.answer_numbers.specs.Encoding.{encoded, countValue, watchValue, insideValue, moveNumber, countNumber, watchNumber, insideNumber, readNumber}
+use Rattle.answer_numbers.specs.Encoding.{encoded, countValue, watchValue, insideValue, moveNumber, countNumber, watchNumber, insideNumber, readNumber, ByteCount}
 
 -- a refusal's number is from 1 to 255
 abbrev Numbered : {A : Type 0} → Reply A → Type 0
@@ -110,11 +110,6 @@ outcomes-apart (outcome.Refused r) outcome.Quiet h = absurd (omega (arith, numbe
 outcomes-apart (outcome.Refused r) (outcome.Refused s) h = ap (λ (k : ℕ). refused k 0) (omega arith)
 
 -- ---- reading's answers, whose N fits a byte
-
--- N is below 256 where there is one
-abbrev pub ByteCount : Reply Listed → Type 0
-ByteCount (accepted l) = l .threads < 256
-ByteCount (refused number place) = Unit {0}
 
 -- the digits above N's are in order
 digits-most : (n m k l : ℕ) → m < 256 → n + 256 * k ≡ m + 256 * l → k ≤ l

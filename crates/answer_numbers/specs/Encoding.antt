@@ -1,6 +1,6 @@
 -- An answer as one number, for C: the low byte is the refusal's number, 0 where the request is accepted; the rest is the value of what is answered, or the refusal's place.
 -- Of the answers that one entry can give no two have the same number (proofs/Apart).
-use Prim.Native.Nat.{ℕ, _+_, _-_, _*_}
+use Prim.Native.Nat.{ℕ, _+_, _-_, _*_, _<_}
 use mathlib.Core.Bool.{Bool, cond}
 use lib.Dec.{leb}
 use Rattle.definitions.specs.Answers.{Reply, accepted, refused, Seen, shown, quiet}
@@ -46,6 +46,11 @@ readNumber = encoded listedValue
 
 abbrev pub countNumber : Reply ℕ → ℕ
 countNumber = encoded countValue
+
+-- reading answers an N that fits a byte
+abbrev pub ByteCount : Reply Listed → Type 0
+ByteCount (accepted l) = l .threads < 256
+ByteCount (refused number place) = Unit {0}
 
 -- an answer's value: that of what is answered, or the place
 abbrev pub valueOf : {A : Type 0} → (A → ℕ) → Reply A → ℕ

@@ -1,7 +1,7 @@
 -- What the plan entry answers and leaves where the check passes and the output has room: the plan's length and bytes, which read as triples are the plan.
 use Prim.Native.Nat.{ℕ, _*_, _≤_}
 use mathlib.Core.List.{List, [], _∷_}
-use mathlib.Core.Path.{_≡_, refl, sym, subst, ap, _∙_}
+use mathlib.Core.Path.{_≡_, sym, subst, ap, _∙_}
 use lib.Dec.{T, leb→le}
 use lib.ListN.{length, take, drop}
 use lib.Seq.{take-at}

@@ -6,6 +6,13 @@ use Rattle.forms.proofs.Spelling as spelled
 use Rattle.orders.proofs.EveryOrder as orders
 use Rattle.printout.proofs.Output as output
 use Rattle.printout.proofs.print_input.Met as printing
+use Rattle.round_trips.proofs.PlanWriteRun.{plan-write-run}
+use Rattle.round_trips.proofs.ReadWritten.{read-written}
+use Rattle.round_trips.proofs.RefusedAlike as alike
+use Rattle.round_trips.proofs.SameScript.{same-script}
+use Rattle.round_trips.proofs.WrittenLines.{writable-e}
+use Rattle.round_trips.proofs.WrittenRead.{written-read}
+use Rattle.runs.proofs.Lines.{read-few}
 use Rattle.runs.proofs.StepsAndEvents.{all-accepted, events-printed, steps-counted}
 use Rattle.runs.proofs.Suffices as suffices
 use Rattle.soundness.proofs.OnePass.{one-pass}
@@ -17,6 +24,7 @@ use Rattle.theory.proofs.SoundKept as kept
 use Rattle.theory.proofs.Storages as storages
 use Rattle.watching.proofs.EveryEvent as watching
 use Rattle.answer_numbers.proofs.Apart as apart
+use Rattle.answer_numbers.proofs.Small as small
 use Rattle.wospinzo.proofs.wospinzo_check.Met as check
 use Rattle.wospinzo.proofs.wospinzo_fresh.Met as fresh
 use Rattle.wospinzo.proofs.wospinzo_move.Met as move
@@ -24,10 +32,12 @@ use Rattle.wospinzo.proofs.wospinzo_nodes.Met as nodes
 use Rattle.wospinzo.proofs.wospinzo_open_moves.Met as open-moves
 use Rattle.wospinzo.proofs.wospinzo_plan.Met as plan
 use Rattle.wospinzo.proofs.wospinzo_run.Met as run
+use Rattle.wospinzo.proofs.wospinzo_read_script.Met as read-script
 use Rattle.wospinzo.proofs.wospinzo_version.Met as version
 use Rattle.wospinzo.proofs.wospinzo_watch_event.Met as watch-event
 use Rattle.wospinzo.proofs.wospinzo_watch_inside.Met as watch-inside
 use Rattle.wospinzo.proofs.wospinzo_watch_start.Met as watch-start
+use Rattle.wospinzo.proofs.wospinzo_write_script.Met as write-script
 use Rattle.promises.proofs.Rooms as rooms
 
 pub proved : {M : Type 1} → Promises M
@@ -41,6 +51,8 @@ proved =
       wospinzo-check = check.met;
       wospinzo-plan = plan.met;
       wospinzo-run = run.met;
+      wospinzo-write-script = write-script.met;
+      wospinzo-read-script = read-script.met;
       wospinzo-watch-start = watch-start.met;
       wospinzo-watch-event = watch-event.met;
       wospinzo-watch-inside = watch-inside.met;
@@ -48,12 +60,16 @@ proved =
       count-told = apart.answers-apart;
       watch-told = apart.watched-apart;
       inside-told = apart.inside-apart;
+      read-told = apart.readings-apart;
+      write-held = small.write-held;
       refused-keeps = kept.refused-keeps;
       fresh-room = rooms.fresh-exactly;
       nodes-room = rooms.nodes-exactly;
       open-room = λ table thread. exact.open-short (tableOf table) thread;
       run-room = suffices.never-refused;
       run-length = suffices.run-bound;
+      read-room = read-few;
+      write-room = λ n triples t. writable-e n triples t .short;
       print-input = printing.met;
       program-room = output.output-fits;
       program-reads = output.read-enough;
@@ -102,4 +118,12 @@ proved =
       watch-consistent = watching.consistent-exactly;
       watch-counted = watching.inside-counted;
       watch-question = watching.inside-watched;
+      read-written = read-written;
+      written-read = written-read;
+      same-script = same-script;
+      refused-alike = alike.refused-alike;
+      read-numbers = alike.read-numbers;
+      finished-reads = alike.finished-reads;
+      run-refused = alike.run-refused;
+      plan-write-run = plan-write-run;
     }

@@ -1,4 +1,4 @@
--- Everything that is promised and proved of the part, in the order of the three demands, and then of the watcher (02 §2). proofs/Citations.antt proves it, each line by citing.
+-- Everything that is promised and proved of the part, in the order of the three demands, then of the watcher (02 §2), then of scripts written out and read (02 §3). proofs/Citations.antt proves it, each line by citing.
 -- The words are those of crates/definitions/specs and of the specs/ of the crates named below. `statement` is the contract of a function as it stands in its source, for every model `M` of memory.
 use Prim.Native.Nat.{ℕ, _+_, _*_, _≤_, _<_}
 use mathlib.Core.Bool.{Bool, true, not}
@@ -16,28 +16,31 @@ use Rattle.definitions.specs.Nodes.{nodesOf, nodesEntry}
 use Rattle.definitions.specs.OpenMoves.{openMoves, openEntry}
 use Rattle.definitions.specs.PlainLock.{Pair, pairsOf, placesIn, atStart, placesAfter, permitted, checkReply}
 use Rattle.definitions.specs.Plan.{plan, bytesOf, planEntry}
-use Rattle.definitions.specs.Run.{eventLines, stepsLine, runOutputOf, runEntry, programOutput}
+use Rattle.definitions.specs.Run.{eventLines, stepsLine, refusedLine, runOutputOf, runEntry, programOutput}
+use Rattle.definitions.specs.Scripts.{scriptOf, writeEntry, Listed, requestsIn, threadsOf, moveLines, readingReply, readEntry}
 use Rattle.definitions.specs.Sound.{sound}
 use Rattle.definitions.specs.Table.{Table, Storage, itself, byteTable, tableOf, size, fresh, freshEntry, phaseAt, busyAt}
-use Rattle.definitions.specs.Texts.{bytes}
+use Rattle.definitions.specs.Texts.{bytes, linesOf}
 use Rattle.definitions.specs.Threads.{howMany, among}
 use Rattle.definitions.specs.Watch.{recordOf, started, consistent, watchedReply, insideReply, questionReply, watchReplies, watchRecord}
 use Rattle.definitions.specs.declared.Answer.{Answer}
 use Rattle.definitions.specs.declared.Inside.{Inside}
 use Rattle.definitions.specs.declared.Outcome.{Outcome}
+use Rattle.definitions.specs.declared.Reading.{Reading}
 use Rattle.definitions.specs.declared.Request.{Request}
 use Rattle.definitions.specs.declared.Watched.{Watched}
 use Rattle.definitions.specs.declared.Watcher.{Watcher}
 use Rattle.forms.specs.Grammar.{numberBound, Spellable, Spells}
 use Rattle.orders.specs.Histories.{mostEvents, historyBytes, AllBytes, Passes, FirstBad, Makes}
 use Rattle.orders.specs.Rounds.{placesOf}
+use Rattle.round_trips.specs.Exchange.{Writable, withoutNotes, readReply, ReadRefusal, stopOf, RunRefused}
 use Rattle.runs.specs.Requests.{Closes, movesOf}
 use Rattle.soundness.specs.Pass.{foundOf, passes}
 use Rattle.theory.specs.Outputs.{Delivered}
 use Rattle.theory.specs.Statements.{OutsideView, writesMutex, MayWrite, Disciplined, atMutex, localMove, Agree, Stands}
 use Rattle.theory.specs.Tables.{SoundBytes, Keeps}
 use Rattle.watching.specs.Verdicts.{verdictOn, verdictsOn, acceptedOf, someInside}
-use Rattle.answer_numbers.specs.Encoding.{moveNumber, countNumber, watchNumber, insideNumber}
+use Rattle.answer_numbers.specs.Encoding.{moveNumber, countNumber, watchNumber, insideNumber, readNumber, ByteCount, valueBound, held}
 use Rattle.printout.proofs.print_input.Statement as printing
 use Rattle.wospinzo.proofs.wospinzo_check.Statement as check
 use Rattle.wospinzo.proofs.wospinzo_fresh.Statement as fresh-table
@@ -46,10 +49,12 @@ use Rattle.wospinzo.proofs.wospinzo_nodes.Statement as nodes
 use Rattle.wospinzo.proofs.wospinzo_open_moves.Statement as open-moves
 use Rattle.wospinzo.proofs.wospinzo_plan.Statement as plan-bytes
 use Rattle.wospinzo.proofs.wospinzo_run.Statement as run
+use Rattle.wospinzo.proofs.wospinzo_read_script.Statement as read-script
 use Rattle.wospinzo.proofs.wospinzo_version.Statement as version
 use Rattle.wospinzo.proofs.wospinzo_watch_event.Statement as watch-event
 use Rattle.wospinzo.proofs.wospinzo_watch_inside.Statement as watch-inside
 use Rattle.wospinzo.proofs.wospinzo_watch_start.Statement as watch-start
+use Rattle.wospinzo.proofs.wospinzo_write_script.Statement as write-script
 
 pub record Promises (M : Type 1) : Type 2 where
   -- ---- 1. Nothing breaks an entry
@@ -58,6 +63,7 @@ pub record Promises (M : Type 1) : Type 2 where
   -- The version answers `version`. The move, asked r, answers `moveNumber (moveReply table r)` and leaves `moveTable table r`. The check answers `countNumber (checkReply n history)`.
   -- The others write: they answer `countNumber (deliveryReply d out)` and leave `deliveryOutput d out`, where d is
   -- `freshEntry n`, `nodesEntry table`, `openEntry table thread`, `planEntry n history` or `runEntry script`. Lent bytes that are only read stay.
+  -- Writing answers `countNumber (held (deliveryReply (writeEntry n triples) out))`, `held` since the index of a triple may be any number; reading answers `readNumber (deliveryReply (readEntry script) out)`.
   -- Of a watcher's record w the start answers `watchNumber (startReply n)` and leaves `startRecord n w`; an event x answers `watchNumber (eventReply w x)` and leaves `eventRecord w x`;
   -- the question answers `insideNumber (questionReply w)`.
   pub wospinzo-version : version.statement M
@@ -68,6 +74,8 @@ pub record Promises (M : Type 1) : Type 2 where
   pub wospinzo-check : check.statement M
   pub wospinzo-plan : plan-bytes.statement M
   pub wospinzo-run : run.statement M
+  pub wospinzo-write-script : write-script.statement M
+  pub wospinzo-read-script : read-script.statement M
   pub wospinzo-watch-start : watch-start.statement M
   pub wospinzo-watch-event : watch-event.statement M
   pub wospinzo-watch-inside : watch-inside.statement M
@@ -76,6 +84,9 @@ pub record Promises (M : Type 1) : Type 2 where
   pub count-told : (a b : Answer) → countNumber (answerReply a) ≡ countNumber (answerReply b) → answerReply a ≡ answerReply b
   pub watch-told : (a b : Watched) → watchNumber (watchedReply a) ≡ watchNumber (watchedReply b) → watchedReply a ≡ watchedReply b
   pub inside-told : (a b : Inside) → insideNumber (insideReply a) ≡ insideNumber (insideReply b) → insideReply a ≡ insideReply b
+  pub read-told : (a b : Reading) → ByteCount (readingReply a) → ByteCount (readingReply b) → readNumber (readingReply a) ≡ readNumber (readingReply b) → readingReply a ≡ readingReply b
+  -- Of a list of triples whose indices stand beside a refusal's number, which all are that a memory of 64-bit addresses holds, writing's answer is the reply itself.
+  pub write-held : (n : ℕ) (triples out : List ℕ) → length triples ≤ 3 * valueBound → held (deliveryReply (writeEntry n triples) out) ≡ deliveryReply (writeEntry n triples) out
   -- A refused move leaves every byte of the table.
   pub refused-keeps : (table : List ℕ) (r : Request) → T (not (acceptsIn byteTable table r)) → moveTable table r ≡ table
   -- Rooms that suffice: 3 + 3N bytes are exactly the fresh table, N bytes the nodes;
@@ -88,6 +99,9 @@ pub record Promises (M : Type 1) : Type 2 where
   pub run-room : (script out : List ℕ) → length script ≤ mostScript → enoughOutput ≤ length out
       → Delivered (runEntry script) out (filled out (runOutputOf script)) (accepted (length (runOutputOf script)))
   pub run-length : (script : List ℕ) → length script ≤ mostScript → length (runOutputOf script) ≤ 2 * length script + 18
+  -- The triples of a script take a third of its bytes at most, and a script that is written has at most 30,000.
+  pub read-room : (script : List ℕ) → 3 * length (readEntry script .text) ≤ length script
+  pub write-room : (n : ℕ) (triples : List ℕ) → Writable n triples → length (writeEntry n triples .text) ≤ mostScript
   -- The program's printing (crates/printout): what it prints always fits its buffer, and 30,001 bytes of the input decide it.
   pub print-input : printing.statement M
   pub program-room : (input : List ℕ) → length (programOutput input) ≤ enoughOutput
@@ -190,3 +204,30 @@ pub record Promises (M : Type 1) : Type 2 where
       → (b ≡ not (eqb (howMany (w .threads) (λ t. among (placesIn (w .places) t) (2 ∷ 6 ∷ []))) 0)) × (b ≡ someInside (w .threads) (placesIn (w .places)))
   pub watch-question : (n : ℕ) → 1 ≤ n → n ≤ mostThreads → (xs : List Pair)
       → questionReply (watchRecord (started n) xs) ≡ accepted (someInside n (placesAfter atStart (acceptedOf n [] xs)))
+  -- ---- 5. Scripts written out and read
+
+  -- Reading what was written gives back N and the same triples; writing what was read gives the script without its note lines, byte for byte.
+  pub read-written : (n : ℕ) (triples out back : List ℕ) (size : ℕ) → deliveryReply (writeEntry n triples) out ≡ accepted size → length triples ≤ length back
+      → let script = take size (deliveryOutput (writeEntry n triples) out) in
+      Delivered (readEntry script) back (filled back triples) (accepted (record { threads = n; bytes = length triples }))
+  pub written-read : (script out back : List ℕ) (a : Listed) → deliveryReply (readEntry script) out ≡ accepted a → length (withoutNotes (linesOf script)) ≤ length back
+      → let triples = take (a .bytes) (deliveryOutput (readEntry script) out) in
+      let text = withoutNotes (linesOf script) in
+      Delivered (writeEntry (a .threads) triples) back (filled back text) (accepted (length text))
+  -- Two lists have the same script only if they, and their N, are equal.
+  pub same-script : (n m : ℕ) (xs ys : List ℕ) → Writable n xs → Writable m ys → scriptOf n (requestsOf xs) ≡ scriptOf m (requestsOf ys) → (n ≡ m) × (xs ≡ ys)
+  -- Reading refuses the line, and by the number, that the run stops at with its refusals 6 and 7 set aside, or neither refuses; the number is 1, 3, 5 or 8, and the line one of the script's.
+  pub refused-alike : (script : List ℕ) → readReply script ≡ stopOf (linesOf script)
+  pub read-numbers : (script : List ℕ) (number line : ℕ) → readReply script ≡ refused number line → ReadRefusal (linesOf script) number line
+  -- By the last line that the run prints: where that is `(steps K)`, reading refuses no line; where it is `(refused R L)`, reading refuses L by R, or R is 6 or 7 and reading refuses no line up to L.
+  pub finished-reads : (script before : List ℕ) (steps : ℕ) → runOutputOf script ≡ before ++ stepsLine steps → readReply script ≡ accepted tt
+  pub run-refused : (script before : List ℕ) (number line : ℕ) → runOutputOf script ≡ before ++ refusedLine number line → RunRefused (readReply script) number line
+  -- Plan, then write, then run: for every history that the check passes and whose script isn't too long, the run prints the events of the history.
+  pub plan-write-run : (n : ℕ) (bytes plan-out script-out run-out : List ℕ) (events : ℕ) → checkReply n bytes ≡ accepted events
+      → let moves = plan n (pairsOf bytes) in
+      let script = scriptOf n moves in
+      let text = eventLines (pairsOf bytes) ++ stepsLine (length moves) in
+      length script ≤ mostScript → length (bytesOf moves) ≤ length plan-out → length script ≤ length script-out → enoughOutput ≤ length run-out
+      → Delivered (planEntry n bytes) plan-out (filled plan-out (bytesOf moves)) (accepted (length moves))
+      × Delivered (writeEntry n (bytesOf moves)) script-out (filled script-out script) (accepted (length script))
+      × Delivered (runEntry script) run-out (filled run-out text) (accepted (length text))

@@ -3,15 +3,15 @@ use Prim.Native.Nat.{ℕ, _%_, _≤_, _<_}
 use native.Mathlib.Nat.{zero-add, mul-mod-right}
 use native.Mathlib.Omega.{arith}
 use mathlib.Core.Bool.{true, false}
-use mathlib.Core.List.{List, [], _∷_}
-use mathlib.Core.Path.{_≡_, refl, sym, ap, _∙_}
+use mathlib.Core.List.{List, _∷_}
+use mathlib.Core.Path.{_≡_, sym, ap, _∙_}
 use borrow.Author.Tests.{lt-leb}
 use lib.Dec.{T, leb, le→leb}
 use lib.ListN.{length, take, drop, length-drop}
 use Rattle.definitions.specs.Answers.{accepted, refused, Test, test, testAt, answered, passesAll}
-use Rattle.definitions.specs.Bounds.{mostScript, mostThreads}
+use Rattle.definitions.specs.Bounds.{mostScript}
 use Rattle.definitions.specs.Plan.{bytesOf}
-use Rattle.definitions.specs.Scripts.{linesTests, requestsIn, scriptTests, threadsOf, moveLines, statedBy, Listed, readEntry}
+use Rattle.definitions.specs.Scripts.{linesTests, requestsIn, scriptTests, statedBy, Listed, readEntry}
 use Rattle.definitions.specs.Table.{countFits}
 use Rattle.definitions.specs.Texts.{Line, linesOf}
 use Rattle.opening.specs.FirstLine.{ThreadsAt, NoThreads}

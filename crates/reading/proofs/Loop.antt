@@ -1,16 +1,15 @@
 -- What the loop over the lines knows at each of them, and that each line keeps that.
-use Prim.Native.Nat.{ℕ, suc, _+_, _-_, _*_, _≤_, _<_}
+use Prim.Native.Nat.{ℕ, suc, _+_, _-_, _≤_}
 use native.Mathlib.Numerals.{add-one}
 use native.Mathlib.Omega.{arith}
-use mathlib.Core.List.{List, [], _∷_, _++_}
+use mathlib.Core.List.{List, _++_}
 use mathlib.Core.Path.{_≡_, refl, sym, ap, _∙_}
 use lib.ListN.{length, take, drop, length-drop}
-use Rattle.definitions.specs.Answers.{Reply, accepted, refused, answered}
+use Rattle.definitions.specs.Answers.{Reply, answered}
 use Rattle.definitions.specs.Forms.{formOf, lineTests, requestIn}
 use Rattle.definitions.specs.Plan.{bytesOf}
 use Rattle.definitions.specs.Scripts.{linesTests, requestsIn}
 use Rattle.definitions.specs.Texts.{Line, linesOf}
-use Rattle.definitions.specs.declared.Request.{Request}
 use Rattle.lines.specs.Lines.{LineAt, UnendedAt, DoneAt}
 use Rattle.theory.specs.Outputs.{RoomAt}
 use Rattle.reading.specs.Moves.{AllTaken, TurnedDown, Roomy}

@@ -18,7 +18,6 @@ ghost use Prim.Native.Nat.{_%_, _≤_};
 ghost use mathlib.Core.List.{[], _∷_};
 ghost use mathlib.Core.Path.{_≡_};
 ghost use lib.ListN.{length, drop};
-ghost use Rattle.definitions.specs.Bounds.{mostScript};
 ghost use Rattle.definitions.specs.Forms.{formOf, lineTests, requestIn};
 ghost use Rattle.definitions.specs.Moves.{numberTests};
 ghost use Rattle.definitions.specs.Plan.{bytesOf};

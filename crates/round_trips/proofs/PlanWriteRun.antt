@@ -5,7 +5,7 @@ use Prim.Native.Nat.{ℕ, suc, _+_, _*_, _≤_}
 use native.Mathlib.Nat.{zero-add}
 use native.Mathlib.Omega.{arith}
 use mathlib.Core.List.{List, [], _∷_, _++_, append-assoc}
-use mathlib.Core.Path.{_≡_, refl, sym, subst, ap, _∙_}
+use mathlib.Core.Path.{_≡_, sym, subst, ap, _∙_}
 use lib.Dec.{T, leb, le→leb, lt→ltb}
 use lib.ListN.{length, take}
 use Rattle.definitions.specs.Answers.{Reply, accepted, Seen, passesAll, filled, deliveryReply, deliveryOutput}

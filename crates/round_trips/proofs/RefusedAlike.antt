@@ -20,7 +20,7 @@ use Rattle.definitions.specs.Texts.{Line, linesOf}
 use Rattle.definitions.specs.Threads.{among}
 use Rattle.definitions.specs.declared.Request.{Request}
 use Rattle.forms.specs.Grammar.{Spells}
-use Rattle.round_trips.specs.Exchange.{setAside, stopFrom, stopFor, stopOf}
+use Rattle.round_trips.specs.Exchange.{judged, readReply, IfRefused, readNumbers, ReadRefusal, setAside, stopFrom, stopFor, stopOf, RunRefused}
 use Rattle.theory.specs.Tables.{SoundBytes}
 use Rattle.forms.proofs.Spelling.{read-spelled}
 use Rattle.runs.proofs.LastLine.{refused-once, steps-not-refused}
@@ -31,19 +31,6 @@ use Rattle.theory.proofs.SoundKept.{fresh-is-sound, sound-kept}
 use Rattle.theory.proofs.Tests.{no-both, cond-yes, cond-no, cond-either}
 
 -- ---- refusals
-
--- what tests say: a refusal, or none
-abbrev pub judged : List Test → Reply (Unit {0})
-judged ts = answered ts tt
-
--- what reading says of a script's lines: it refuses the first line whose form or numbers are bad, or none
-abbrev pub readReply : List ℕ → Reply (Unit {0})
-readReply script = judged (scriptTests (linesOf script))
-
--- a reply that is no refusal, or one of whose number and place P holds
-abbrev pub IfRefused : {A : Type 0} → (ℕ → ℕ → Type 0) → Reply A → Type 0
-IfRefused P (accepted a) = Unit {0}
-IfRefused P (refused number place) = P number place
 
 -- P holds of the number and the place of each test that fails
 abbrev EachFailed : (ℕ → ℕ → Type 0) → List Test → Type 0
@@ -178,10 +165,6 @@ refused-alike script = lines-refused-alike (linesOf script)
 
 -- ---- by which numbers, and at which lines
 
--- the numbers that reading refuses a line by
-abbrev pub readNumbers : List ℕ
-readNumbers = 1 ∷ 3 ∷ 5 ∷ 8 ∷ []
-
 -- a form whose request, if it states one, is for one of the moves
 abbrev MoveKnown : Form → Type 0
 MoveKnown (threads n) = Unit {0}
@@ -231,10 +214,6 @@ module _ (P : ℕ → ℕ → Type 0) where
 -- reading refuses none of the lines before the first that it is given
 refused-from : (k n : ℕ) (ls : List Line) → IfRefused (λ number line. k ≤ line) (judged (linesTests k n ls))
 refused-from k n ls = if-refused (λ number line. k ≤ line) tt (linesTests k n ls) (lines-failed (λ number line. k ≤ line) k n ls (λ number line t low high. low))
-
--- a refusal of reading: one of its numbers, at a line of the script, or at line 1 of a script that has none
-abbrev pub ReadRefusal : List Line → ℕ → ℕ → Type 0
-ReadRefusal ls number line = T (among number readNumbers) × (((1 ≤ line) × (line ≤ length ls)) ⊎ ((ls ≡ []) × (line ≡ 1)))
 
 lines-refused : (ls : List Line) → IfRefused (ReadRefusal ls) (judged (scriptTests ls))
 unfolding scriptTests answered among
@@ -325,10 +304,6 @@ finished-reads script before steps e = by (run-ended script)
     by (finished events k p q) = q
     by (turned-down events number line p q) = absurd (steps-not-refused before events steps number line (sym e ∙ p))
     by (not-now events number line p t q) = absurd (steps-not-refused before events steps number line (sym e ∙ p))
-
--- what a run that is turned down says of reading
-abbrev pub RunRefused : Reply (Unit {0}) → ℕ → ℕ → Type 0
-RunRefused reading number line = (reading ≡ refused number line) ⊎ (T (setAside number) × IfRefused (λ other place. line < place) reading)
 
 -- a run whose output ends in `(refused R L)`: reading refuses L by R, or R is 6 or 7 and reading refuses no line up to L
 pub run-refused : (script before : List ℕ) (number line : ℕ) → runOutputOf script ≡ before ++ refusedLine number line → RunRefused (readReply script) number line

@@ -1,15 +1,19 @@
--- The words of the theorems on scripts written out and read: lists that can be written, scripts that can be read, a script without its notes, and where a run stops whose refusals 6 and 7 are set aside.
-use Prim.Native.Nat.{ℕ, suc}
+-- The words of the theorems on scripts written out and read: lists that can be written, scripts that can be read, a script without its notes, what reading refuses, and where a run stops whose refusals 6 and 7 are set aside.
+use Prim.Native.Nat.{ℕ, suc, _≤_, _<_}
 use mathlib.Core.Bool.{Bool, true, false, cond, _||_}
 use mathlib.Core.List.{List, [], _∷_, _++_}
+use mathlib.Core.Logic.{_⊎_}
+use mathlib.Core.Path.{_≡_}
 use lib.Dec.{T, eqb}
-use Rattle.definitions.specs.Answers.{Reply, accepted, refused, passesAll, answered}
+use lib.ListN.{length}
+use Rattle.definitions.specs.Answers.{Reply, accepted, refused, Test, passesAll, answered}
 use Rattle.definitions.specs.Forms.{Form, threads, request, note, bad, lineForm, firstTests, threadsFirst}
 use Rattle.definitions.specs.Moves.{moveTable}
 use Rattle.definitions.specs.Run.{stops, passes, makes, turnOf}
-use Rattle.definitions.specs.Scripts.{ended, writeTests, readEntry}
+use Rattle.definitions.specs.Scripts.{ended, scriptTests, writeTests, readEntry}
 use Rattle.definitions.specs.Table.{fresh}
-use Rattle.definitions.specs.Texts.{Line}
+use Rattle.definitions.specs.Texts.{Line, linesOf}
+use Rattle.definitions.specs.Threads.{among}
 
 -- writing turns the list down by 12 at most
 abbrev pub Writable : ℕ → List ℕ → Type 0
@@ -31,6 +35,29 @@ isNote bad = false
 unfoldable pub withoutNotes : List Line → List ℕ
 withoutNotes [] = []
 withoutNotes (l ∷ ls) = cond (isNote (lineForm l)) [] (ended (l .text)) ++ withoutNotes ls
+
+-- ---- the refusals of reading
+
+-- what tests say: a refusal, or none
+abbrev pub judged : List Test → Reply (Unit {0})
+judged ts = answered ts tt
+
+-- what reading says of a script's lines: it refuses the first line whose form or numbers are bad, or none
+abbrev pub readReply : List ℕ → Reply (Unit {0})
+readReply script = judged (scriptTests (linesOf script))
+
+-- a reply that is no refusal, or one of whose number and place P holds
+abbrev pub IfRefused : {A : Type 0} → (ℕ → ℕ → Type 0) → Reply A → Type 0
+IfRefused P (accepted a) = Unit {0}
+IfRefused P (refused number place) = P number place
+
+-- the numbers that reading refuses a line by
+abbrev pub readNumbers : List ℕ
+readNumbers = 1 ∷ 3 ∷ 5 ∷ 8 ∷ []
+
+-- a refusal of reading: one of its numbers, at a line of the script, or at line 1 of a script that has none
+abbrev pub ReadRefusal : List Line → ℕ → ℕ → Type 0
+ReadRefusal ls number line = T (among number readNumbers) × (((1 ≤ line) × (line ≤ length ls)) ⊎ ((ls ≡ []) × (line ≡ 1)))
 
 -- ---- the run with its refusals 6 and 7 set aside
 
@@ -56,3 +83,7 @@ stopFor (refused number line) ls = refused number line
 unfoldable pub stopOf : List Line → Reply (Unit {0})
 stopOf [] = refused 8 1
 stopOf (l ∷ ls) = stopFor (answered (firstTests (lineForm l)) (threadsFirst (lineForm l))) ls
+
+-- what a run that prints `(refused R L)` says of reading: it refuses that line by that number, or R is 6 or 7 and it refuses no line up to L
+abbrev pub RunRefused : Reply (Unit {0}) → ℕ → ℕ → Type 0
+RunRefused reading number line = (reading ≡ refused number line) ⊎ (T (setAside number) × IfRefused (λ other place. line < place) reading)

@@ -1,10 +1,10 @@
 -- The moves that the run of a script makes of the requests that its lines state.
 use Prim.Native.Nat.{ℕ}
 use mathlib.Core.Bool.{cond}
-use mathlib.Core.List.{List, [], _∷_, _++_}
+use mathlib.Core.List.{List, [], _∷_}
 use mathlib.Core.Logic.{_⊎_}
 use mathlib.Core.Path.{_≡_}
-use lib.ListN.{length, drop}
+use lib.ListN.{length}
 use Rattle.definitions.specs.Forms.{Form, threads, request, note, bad, lineForm}
 use Rattle.definitions.specs.Moves.{moveTable}
 use Rattle.definitions.specs.Run.{stepsLine, refusedLine, stops, passes, makes, turnOf}

@@ -1,5 +1,5 @@
 -- What writing answers and leaves, by the tests in their order: turned down, too long, no room, written.
-use Prim.Native.Nat.{ℕ, _*_, _/_, _%_, _≤_, _<_}
+use Prim.Native.Nat.{ℕ, _/_, _%_, _≤_, _<_}
 use native.Mathlib.Omega.{arith}
 use mathlib.Core.Bool.{true, false}
 use mathlib.Core.List.{List, [], _∷_, _++_}
@@ -7,7 +7,7 @@ use mathlib.Core.Path.{_≡_, refl, sym, ap, _∙_}
 use borrow.Author.Tests.{lt-leb}
 use lib.Dec.{T, leb, le→leb}
 use lib.ListN.{length}
-use Rattle.definitions.specs.Answers.{Reply, accepted, refused, numberOf, answerReply, Test, test, answered, passesAll, filled}
+use Rattle.definitions.specs.Answers.{accepted, refused, numberOf, answerReply, Test, test, answered, passesAll}
 use Rattle.definitions.specs.Bounds.{mostScript}
 use Rattle.definitions.specs.Chains.{requestsOf}
 use Rattle.definitions.specs.Scripts.{scriptOf, triplesTests, writeTests, writeEntry}
@@ -15,7 +15,7 @@ use Rattle.definitions.specs.Table.{countFits}
 use Rattle.definitions.specs.declared.Answer.{Answer}
 use Rattle.definitions.specs.declared.Answer.the-variants.{Done, Refused}
 use Rattle.definitions.specs.declared.Refusal.{Refusal}
-use Rattle.theory.specs.Outputs.{RoomAt, PutAt, Delivered}
+use Rattle.theory.specs.Outputs.{PutAt, Delivered}
 use Rattle.theory.proofs.Outputs.{turned-down, no-room, whole, delivered-as, filled-up}
 use Rattle.theory.proofs.Replies.{passed, failed, pass, no-test, behind, in-front}
 use Rattle.theory.proofs.TestLists.{answered-e, passes-join}

@@ -4,7 +4,7 @@ use native.Mathlib.Omega.{arith}
 use mathlib.Core.List.{List, [], _∷_, _++_}
 use mathlib.Core.Path.{_≡_, ap}
 use lib.Dec.{T, leb→le}
-use lib.ListN.{length, getD, length-append}
+use lib.ListN.{length, length-append}
 use Rattle.definitions.specs.Answers.{passesAll}
 use Rattle.definitions.specs.Chains.{requestsOf}
 use Rattle.definitions.specs.Forms.{threadsLine, spelled}
@@ -12,7 +12,7 @@ use Rattle.definitions.specs.Scripts.{ended, movesText, scriptOf, triplesTests}
 use Rattle.definitions.specs.declared.Request.{Request}
 use Rattle.theory.specs.Outputs.{RoomAt, PutAt}
 use Rattle.spelling.proofs.LineTexts.{move-least}
-use Rattle.text.proofs.Parts.{Partly, no-part, room-part, part-put, all-parts}
+use Rattle.text.proofs.Parts.{Partly, room-part, part-put, all-parts}
 use Rattle.theory.proofs.Replies.{peel}
 use Rattle.theory.proofs.Triples.{tripleAt, triplesFrom, triples-next, triples-end}
 

@@ -1,13 +1,12 @@
 -- The tests of a list's triples, one triple after the other.
-use Prim.Native.Nat.{ℕ, suc, _+_, _/_, _≤_, _<_}
+use Prim.Native.Nat.{ℕ, _+_, _/_, _≤_, _<_}
 use native.Mathlib.Numerals.{add-one}
 use native.Mathlib.Omega.{arith}
-use mathlib.Core.List.{List, [], _++_}
+use mathlib.Core.List.{List, _++_}
 use mathlib.Core.Path.{_≡_, refl, sym, subst, ap, _∙_}
 use lib.Dec.{T}
 use lib.ListN.{length}
-use Rattle.definitions.specs.Answers.{Reply, accepted, refused, isAccepted, numberOf, Test, answered, passesAll}
-use Rattle.definitions.specs.Chains.{requestsOf}
+use Rattle.definitions.specs.Answers.{Reply, accepted, refused, isAccepted, numberOf, answered, passesAll}
 use Rattle.definitions.specs.Moves.{numberTests}
 use Rattle.definitions.specs.Scripts.{triplesTests}
 use Rattle.definitions.specs.declared.Refusal.{Refusal}

@@ -2,7 +2,6 @@
 use Prim.Native.Nat.{_+_, _-_, _≤_}
 use native.Mathlib.Omega.{arith}
 use mathlib.Core.Path.{_≡_}
-use borrow.Author.Needs.{needs}
 use lib.ListN.{length}
 use Rattle.reading.proofs.Copying.{Copied, copied-none, triple-left, copied-all, triple-room, copied-more}
 use Rattle.reading.proofs.put_triples.Statement.{statement}

@@ -1,5 +1,5 @@
 -- `spelling::put_act` meets its contract, arm by arm: an arm's text is that of its move.
-use mathlib.Core.Path.{sym, ap}
+use mathlib.Core.Path.{sym}
 use borrow.Author.Needs.{needs}
 use Rattle.definitions.specs.Forms.{actText}
 use Rattle.definitions.specs.Texts.{bytes}

@@ -1,7 +1,6 @@
 -- `writing::put_moves` meets its contract. The loop's invariant: the lines of the triples passed are put (proofs/ScriptParts). The measure is how many triples are left.
 use Prim.Native.Nat.{_-_, _/_, _≤_}
 use native.Mathlib.Omega.{arith}
-use borrow.Author.Needs.{needs}
 use lib.ListN.{length}
 use Rattle.text.proofs.Parts.{Partly, no-part}
 use Rattle.writing.proofs.ScriptParts.{textFrom, lines-put, line-room, line-put}

@@ -1,6 +1,4 @@
 -- `writing::put_script` meets its contract: the threads line, then the lines of the moves.
-use mathlib.Core.List.{List}
-use Prim.Native.Nat.{ℕ}
 use borrow.Author.Needs.{needs}
 use Rattle.definitions.specs.Chains.{requestsOf}
 use Rattle.definitions.specs.Forms.{threadsLine}

@@ -1,10 +1,9 @@
 -- `writing::write` meets its contract, by the tests in their order (proofs/EntryLaws).
 use native.Mathlib.Omega.{arith}
 use mathlib.Core.Bool.{true}
-use mathlib.Core.Path.{_≡_, sym, subst, _∙_}
+use mathlib.Core.Path.{_≡_, sym, _∙_}
 use borrow.Author.Needs.{needs}
 use borrow.Author.Tests.{not-true, not-false}
-use lib.ListN.{length}
 use Rattle.definitions.specs.Table.{countFits}
 use Rattle.writing.proofs.EntryLaws.{bad-count, bad-length, bad-triple, same-count, too-long, too-many, no-room-left, written}
 use Rattle.writing.proofs.write.Statement.{statement}
