@@ -9,10 +9,9 @@ use Rattle.printout.proofs.print_input.Met as printing
 use Rattle.round_trips.proofs.PlanWriteRun.{plan-write-run}
 use Rattle.round_trips.proofs.ReadWritten.{read-written}
 use Rattle.round_trips.proofs.RefusedAlike as alike
+use Rattle.round_trips.proofs.Rooms as room
 use Rattle.round_trips.proofs.SameScript.{same-script}
-use Rattle.round_trips.proofs.WrittenLines.{writable-e}
 use Rattle.round_trips.proofs.WrittenRead.{written-read}
-use Rattle.runs.proofs.Lines.{read-few}
 use Rattle.runs.proofs.StepsAndEvents.{all-accepted, events-printed, steps-counted}
 use Rattle.runs.proofs.Suffices as suffices
 use Rattle.soundness.proofs.OnePass.{one-pass}
@@ -68,8 +67,8 @@ proved =
       open-room = λ table thread. exact.open-short (tableOf table) thread;
       run-room = suffices.never-refused;
       run-length = suffices.run-bound;
-      read-room = read-few;
-      write-room = λ n triples t. writable-e n triples t .short;
+      read-room = room.read-room;
+      write-room = room.write-room;
       print-input = printing.met;
       program-room = output.output-fits;
       program-reads = output.read-enough;

@@ -33,7 +33,7 @@ use Rattle.definitions.specs.declared.Watcher.{Watcher}
 use Rattle.forms.specs.Grammar.{numberBound, Spellable, Spells}
 use Rattle.orders.specs.Histories.{mostEvents, historyBytes, AllBytes, Passes, FirstBad, Makes}
 use Rattle.orders.specs.Rounds.{placesOf}
-use Rattle.round_trips.specs.Exchange.{Writable, withoutNotes, readReply, ReadRefusal, stopOf, RunRefused}
+use Rattle.round_trips.specs.Exchange.{Writable, Readable, withoutNotes, readReply, ReadRefusal, stopOf, RunRefused}
 use Rattle.runs.specs.Requests.{Closes, movesOf}
 use Rattle.soundness.specs.Pass.{foundOf, passes}
 use Rattle.theory.specs.Outputs.{Delivered}
@@ -99,8 +99,8 @@ pub record Promises (M : Type 1) : Type 2 where
   pub run-room : (script out : List ℕ) → length script ≤ mostScript → enoughOutput ≤ length out
       → Delivered (runEntry script) out (filled out (runOutputOf script)) (accepted (length (runOutputOf script)))
   pub run-length : (script : List ℕ) → length script ≤ mostScript → length (runOutputOf script) ≤ 2 * length script + 18
-  -- The triples of a script take a third of its bytes at most, and a script that is written has at most 30,000.
-  pub read-room : (script : List ℕ) → 3 * length (readEntry script .text) ≤ length script
+  -- 9,996 bytes hold the triples of every script that is read, and 30,000 every script that is written.
+  pub read-room : (script : List ℕ) → Readable script → length (readEntry script .text) ≤ 9_996
   pub write-room : (n : ℕ) (triples : List ℕ) → Writable n triples → length (writeEntry n triples .text) ≤ mostScript
   -- The program's printing (crates/printout): what it prints always fits its buffer, and 30,001 bytes of the input decide it.
   pub print-input : printing.statement M

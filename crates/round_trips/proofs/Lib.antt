@@ -3,5 +3,6 @@ pub mod WrittenLines
 pub mod ReadWritten
 pub mod SameScript
 pub mod WrittenRead
+pub mod Rooms
 pub mod PlanWriteRun
 pub mod RefusedAlike

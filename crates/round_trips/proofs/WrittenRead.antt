@@ -31,13 +31,13 @@ use Rattle.round_trips.proofs.WrittenLines.{lineOf, Numbered, other-pla
 -- ---- one line
 
 -- a line that says N or a request is the line written for it
-abbrev LineIs : Line → Form → Type 0
+abbrev pub LineIs : Line → Form → Type 0
 LineIs l (threads n) = l ≡ lineOf (threadsLine n)
 LineIs l (request r) = l ≡ lineOf (spelled r)
 LineIs l note = Unit {0}
 LineIs l bad = Unit {0}
 
-line-is : (l : Line) → LineIs l (lineForm l)
+pub line-is : (l : Line) → LineIs l (lineForm l)
 line-is l = by (l .ended) (l .text)
   where
     spells : (text : List ℕ) (f : Form) → Spells text f → LineIs (lineOf text) f
