@@ -38,7 +38,9 @@
  * their own. The rest is the value: of an accepted request what the function
  * says it answers; of a refusal its place, which is
  *   of a history        the index of the first bad pair, for 9, 10 and 11
- *   of a list of moves  the index of the first bad triple, for 3, 4 and 5
+ *   of a list of moves  the index of the first bad triple, for 3, 4 and 5; the
+ *                       largest that an answer holds is 2^55 - 1, which stands
+ *                       for every larger one
  *   of a script read    the first bad line, from 1, for 1, 3, 5 and 8, but 0
  *                       for the 8 of a script that is too long
  * and 0 for every other refusal.
