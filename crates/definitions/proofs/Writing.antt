@@ -57,7 +57,9 @@ pub record WritingExamples : Type 0 where
   pub first-triple : written 2 (0 ∷ 0 ∷ 1 ∷ 2 ∷ 0 ∷ 0 ∷ []) 0 ≡ refused 5 0
   -- "with the first such line as place": 8 for a bad form, 1 for a bad N, 3 and 5 for a thread and a target
   pub lines : (read [] 9 ≡ refused 8 1) × (read (bytes "(note )\n(threads 1)\n") 9 ≡ refused 8 1) × (read (bytes "(threads 201)\n(0 (go))\n") 9 ≡ refused 1 1)
-  pub line-numbers : (read (bytes "(threads 2)\n(0 (go))\n(2 (set 2))\n(0 go)\n") 9 ≡ refused 3 3) × (read (bytes "(threads 2)\n(0 (set 2))\n") 9 ≡ refused 5 2) × (read (bytes "(threads 2)\n(threads 2)\n") 9 ≡ refused 8 2) × (read (bytes "(threads 2)\n(0 (go))") 9 ≡ refused 8 2)
+  pub line-thread : read (bytes "(threads 2)\n(0 (go))\n(2 (set 2))\n(0 go)\n") 9 ≡ refused 3 3
+  pub line-target : read (bytes "(threads 2)\n(0 (set 2))\n") 9 ≡ refused 5 2
+  pub line-form : (read (bytes "(threads 2)\n(threads 2)\n") 9 ≡ refused 8 2) × (read (bytes "(threads 2)\n(0 (go))") 9 ≡ refused 8 2)
   -- "The list may hold moves that a run would later refuse": a go in phase 0
   pub later : (read (bytes "(threads 1)\n(0 (go))\n") 3 ≡ yes 1 3) × (written 1 (0 ∷ 0 ∷ 0 ∷ []) 21 ≡ accepted 21)
 
@@ -75,6 +77,8 @@ writing-examples =
       numbers = (refl, refl, refl);
       first-triple = refl;
       lines = (refl, refl, refl);
-      line-numbers = (refl, refl, refl, refl);
+      line-thread = refl;
+      line-target = refl;
+      line-form = (refl, refl);
       later = (refl, refl);
     }

@@ -1,4 +1,5 @@
--- The forms of a script's lines: the lines that spell a form, then what a line says, read off the line alone; last what a line says to N threads, which is one definition for the run and for reading (02 §3).
+-- The forms of a script's lines: the lines that spell a form, then what a line says, read off the line alone.
+-- Last what a line says to N threads, which is one definition for the run and for reading (02 §3).
 -- `threadsLine` and `spelled` write the line of a form; `formOf` reads a line. That the one is the inverse of the other is shown in crates/forms, proofs/Spelling.
 use Prim.Native.Nat.{ℕ, suc, _+_, _-_}
 use mathlib.Core.Bool.{Bool, false, cond, _&&_}

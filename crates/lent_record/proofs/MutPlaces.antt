@@ -28,9 +28,10 @@ use denote.Lend.{Held, lends-slice, slice-back}
 use denote.Index.{row, whole-in, whole-out}
 use denote.Steps.{facts, heard}
 use Rattle.definitions.specs.declared.Watcher.{Watcher}
+use Rattle.lent_record.specs.Parts.{withPlaces}
 use Rattle.lent_record.proofs.Lent.{R, vals, Holds, long-of}
 use Rattle.lent_record.proofs.LentPlaces.{as-slice, slice-of, room}
-use Rattle.lent_record.proofs.Places.{Rest, with-places, places-out, places-in}
+use Rattle.lent_record.proofs.Places.{Rest, places-out, places-in}
 
 -- what is lent for the call
 abbrev pub LentMut : Watcher → ℕ → ℕ → ℕ → GName → Fml
@@ -48,7 +49,7 @@ module _ {M : Type 1} {𝓤 : URA M} {H : Heap 𝓤} {A : Atoms 𝓤} {K : Type 
       (lends-slice 𝓤 H A W u8 (named 0) (ν ∷ []) (h .places) b (o + 3) (room h is)) $ await t z $ pick t (λ δ. split t $ move t (2 ∷ []) $ k ν δ))
 
   pub places-back : K → Soaks G → (h : Watcher) → Holds h → (zs : List ℕ) → length zs ≡ length (h .places) → (b o ν : ℕ) (δ : GName)
-      → (Holds (with-places h zs) → Seq K W (‵ (cellAt fullShare (R .mir) (vals (with-places h zs)) b o) ∷ Γ) G)
+      → (Holds (withPlaces h zs) → Seq K W (‵ (cellAt fullShare (R .mir) (vals (withPlaces h zs)) b o) ∷ Γ) G)
       → Seq K W (‵ (flft (ν ∷ []) fullShare) ∷ ‵ (LentMut h b o ν δ) ∷ raw (Rest 𝓤 H fullShare h b o) ∷ ‵ (finally u8 δ zs) ∷ Γ) G
   places-back t z h is zs e b o ν δ k =
       lft-end t z $ move t (0 ∷ 1 ∷ 3 ∷ []) $ use3 W (later (‵ (Arr (mem u8) (length (h .places)) .lies zs b (o + 3)))) (slice-back 𝓤 H A W u8 (ν ∷ []) δ zs (length (h .places)) b (o + 3)) $

@@ -1,5 +1,4 @@
 -- The places of a `Watcher` that lies in memory: the array's entries are taken out of the record's cell, at any share, and put back, as they were or others.
---     with-places            a record with other places
 --     places-out             the record's cell  ⇒  its places, as a row of bytes from the offset 3, and the rest of the cell
 --     places-in              a row of 200 bytes and the rest of the cell  ⇒  the cell of the record with those places, and the facts
 -- The laws take `Given`. The rest assumes nothing.
@@ -29,10 +28,8 @@ use denote.Struct.Laws as LL
 use Rattle.definitions.specs.declared.Watcher.{Watcher}
 use Rattle.definitions.proofs.Watcher as T
 use Rattle.definitions.proofs.Watcher.Laws as T′
+use Rattle.lent_record.specs.Parts.{withPlaces}
 use Rattle.lent_record.proofs.Lent.{R, vals, Holds}
-
-abbrev pub with-places : Watcher → List ℕ → Watcher
-with-places h zs = record { threads = h .threads; shared = h .shared; exclusive = h .exclusive; places = zs }
 
 -- the fields' types, the array's, and the machine values of an array and of a record
 abbrev fields : Tys
@@ -51,10 +48,10 @@ machine h ys = vcons (vint w8 (h .threads)) (vcons (vint w8 (h .shared)) (vcons 
 the-array : (h : Watcher) → Holds h → Is (Array u8 200) (h .places) (listed (h .places) ∷ [])
 the-array h is = subst (λ (ys : List ℕ). Is (Array u8 200) ys (listed ys ∷ [])) (map-id (h .places)) (LL.owed T.the-type T′.the-laws h (vals h) is .1 .1 .1 .0)
 
-another : (h : Watcher) → Holds h → (zs : List ℕ) → Is (Array u8 200) zs (listed zs ∷ []) → Holds (with-places h zs)
+another : (h : Watcher) → Holds h → (zs : List ℕ) → Is (Array u8 200) zs (listed zs ∷ []) → Holds (withPlaces h zs)
 another h is zs p =
     let old = LL.owed T.the-type T′.the-laws h (vals h) is in
-    LL.owes T.the-type T′.the-laws (with-places h zs) (old .0, (old .1 .0, (old .1 .1 .0, (subst (λ (ys : List ℕ). Is (Array u8 200) ys (listed ys ∷ [])) (sym (map-id zs)) p, tt))))
+    LL.owes T.the-type T′.the-laws (withPlaces h zs) (old .0, (old .1 .0, (old .1 .1 .0, (subst (λ (ys : List ℕ). Is (Array u8 200) ys (listed ys ∷ [])) (sym (map-id zs)) p, tt))))
 
 -- the record's cell without its places: with any array in their place it is a record's cell again
 module _ {M : Type 1} (𝓤 : URA M) (H : Heap 𝓤) (q : Share) (h : Watcher) (b o : ℕ) where
@@ -78,7 +75,7 @@ module _ {M : Type 1} {𝓤 : URA M} {H : Heap 𝓤} {A : Atoms 𝓤} {K : Type 
       use1 W (‵ (arr-parts (shares u8) 200 .part q (h .places) b (o + 3))) (array-apart 𝓤 H A W u8 q tt 200 (h .places) b (o + 3)) $ fsplit t $ drop t $ s)
 
   pub places-in : K → (q : Share) (h : Watcher) → Holds h → (zs : List ℕ) → length zs ≡ 200 → (b o : ℕ)
-      → (Holds (with-places h zs) → Seq K W (‵ (cellAt q (R .mir) (vals (with-places h zs)) b o) ∷ Γ) G)
+      → (Holds (withPlaces h zs) → Seq K W (‵ (cellAt q (R .mir) (vals (withPlaces h zs)) b o) ∷ Γ) G)
       → Seq K W (‵ (row u8 q zs b (o + 3)) ∷ raw (Rest 𝓤 H q h b o) ∷ Γ) G
   unfolding partOf
   places-in t q h is zs long b o k =

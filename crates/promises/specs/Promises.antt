@@ -1,4 +1,5 @@
--- Everything that is promised and proved of the part, in the order of the three demands, then of the watcher (02 §2), then of scripts written out and read (02 §3). proofs/Citations.antt proves it, each line by citing.
+-- Everything that is promised and proved of the part, in the order of the three demands, then of the watcher (02 §2) and of scripts written out and read (02 §3).
+-- proofs/Citations.antt proves it, each line by citing.
 -- The words are those of crates/definitions/specs and of the specs/ of the crates named below. `statement` is the contract of a function as it stands in its source, for every model `M` of memory.
 use Prim.Native.Nat.{ℕ, _+_, _*_, _≤_, _<_}
 use mathlib.Core.Bool.{Bool, true, not}
@@ -63,7 +64,8 @@ pub record Promises (M : Type 1) : Type 2 where
   -- The version answers `version`. The move, asked r, answers `moveNumber (moveReply table r)` and leaves `moveTable table r`. The check answers `countNumber (checkReply n history)`.
   -- The others write: they answer `countNumber (deliveryReply d out)` and leave `deliveryOutput d out`, where d is
   -- `freshEntry n`, `nodesEntry table`, `openEntry table thread`, `planEntry n history` or `runEntry script`. Lent bytes that are only read stay.
-  -- Writing answers `countNumber (held (deliveryReply (writeEntry n triples) out))`, `held` since the index of a triple may be any number; reading answers `readNumber (deliveryReply (readEntry script) out)`.
+  -- Writing answers `countNumber (held (deliveryReply (writeEntry n triples) out))`, `held` since the index of a triple may be any number;
+  -- reading answers `readNumber (deliveryReply (readEntry script) out)`.
   -- Of a watcher's record w the start answers `watchNumber (startReply n)` and leaves `startRecord n w`; an event x answers `watchNumber (eventReply w x)` and leaves `eventRecord w x`;
   -- the question answers `insideNumber (questionReply w)`.
   pub wospinzo-version : version.statement M

@@ -7,6 +7,8 @@ use lib.ListN.{length}
 use Rattle.definitions.specs.Answers.{Reply, refused, numberOf, Test, answered, passesAll}
 use Rattle.definitions.specs.Bounds.{mostScript}
 use Rattle.definitions.specs.Plan.{bytesOf}
+use Rattle.definitions.specs.Scripts.{linesTests, requestsIn}
+use Rattle.definitions.specs.Texts.{Line}
 use Rattle.definitions.specs.declared.Answer.{Answer}
 use Rattle.definitions.specs.declared.Answer.the-variants.{Done, Refused}
 use Rattle.definitions.specs.declared.Request.{Request}
@@ -24,6 +26,10 @@ pub record TurnedDown (tests : List Test) (number place : ℕ) : Type 0 where
 abbrev pub Taken : List Test → List Request → List ℕ → ℕ → List ℕ → Answer → Type 0
 Taken tests rs before at after (Done next) = AllTaken tests rs before at after next
 Taken tests rs before at after (Refused x place) = TurnedDown tests (numberOf x) place
+
+-- the lines behind the first, for n threads, from the front
+abbrev pub LinesTaken : List Line → ℕ → List ℕ → List ℕ → Answer → Type 0
+LinesTaken ls n before after a = Taken (linesTests 2 n ls) (requestsIn ls) before 0 after a
 
 -- the script isn't too long, and there is room for a triple for every nine bytes of it
 pub record Roomy (script moves : List ℕ) : Type 0 where

@@ -21,10 +21,10 @@ ghost use lib.ListN.{length, drop};
 ghost use Rattle.definitions.specs.Forms.{formOf, lineTests, requestIn};
 ghost use Rattle.definitions.specs.Moves.{numberTests};
 ghost use Rattle.definitions.specs.Plan.{bytesOf};
-ghost use Rattle.definitions.specs.Scripts.{linesTests, requestsIn, readingReply, readEntry};
+ghost use Rattle.definitions.specs.Scripts.{readingReply, readEntry};
 ghost use Rattle.definitions.specs.Texts.{linesOf};
 ghost use Rattle.theory.specs.Outputs.{RoomAt, PutAt, Delivered};
-ghost use Rattle.reading.specs.Moves.{Taken, Roomy};
+ghost use Rattle.reading.specs.Moves.{Taken, LinesTaken, Roomy};
 
 // The triples of a script are three bytes for every nine of it at most.
 const MOST_TRIPLES: usize = MOST_SCRIPT / 3;
@@ -62,7 +62,7 @@ fn take_line(text: &[u8], line: usize, threads: u8, moves: &mut [u8], at: usize)
 // The lines from start on, which is the second. They answer the number of bytes of their triples.
 fn take_lines(script: &[u8], start: usize, threads: u8, moves: &mut [u8]) -> Answer
     requires { ⌜ (start ≤ length (now script)) × Roomy (now script) (now moves) ⌝ }
-    ensures { λ r. ⌜ Taken (linesTests 2 threads (linesOf (drop start (now (script .entry))))) (requestsIn (linesOf (drop start (now (script .entry))))) (now (moves .entry)) 0 (now (moves .exit)) r ⌝ }
+    ensures { λ r. ⌜ LinesTaken (linesOf (drop start (now (script .entry)))) threads (now (moves .entry)) (now (moves .exit)) r ⌝ }
 {
     let mut from = start;
     let mut line: usize = 2;

@@ -126,7 +126,8 @@ written-plan-run n bytes plan-out script-out run-out moves size p w room =
     rw (text-first (writeEntry n triples) script-out size size w (s .answer))
     (delivered-as (never-refused (scriptOf n rs) run-out (f .short) room) (ap (filled run-out) prints) (ap (λ (xs : List ℕ). accepted (length xs)) prints))
 
--- For every history that the check passes and whose script isn't too long, with room in the three outputs: the plan entry leaves the plan's triples, the writing entry their script, and the run prints the events of the history.
+-- For every history that the check passes and whose script isn't too long, with room in the three outputs:
+-- the plan entry leaves the plan's triples, the writing entry their script, and the run prints the events of the history.
 pub plan-write-run : (n : ℕ) (bytes plan-out script-out run-out : List ℕ) (events : ℕ) → checkReply n bytes ≡ accepted events
     → let moves = plan n (pairsOf bytes) in
     let script = scriptOf n moves in

@@ -1,4 +1,5 @@
--- Rooms that suffice: a script that can be read has a threads line of 12 bytes or more and then 9 bytes for each move, so that 9,996 bytes hold its triples; a script that can be written has at most 30,000.
+-- Rooms that suffice: a script that can be read has a threads line of 12 bytes or more and then 9 bytes for each move, so that 9,996 bytes hold its triples.
+-- A script that can be written has at most 30,000.
 use Prim.Native.Nat.{ℕ, _+_, _*_, _≤_}
 use native.Mathlib.Omega.{arith}
 use mathlib.Core.List.{List, [], _∷_}

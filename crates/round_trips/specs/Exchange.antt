@@ -1,4 +1,5 @@
--- The words of the theorems on scripts written out and read: lists that can be written, scripts that can be read, a script without its notes, what reading refuses, and where a run stops whose refusals 6 and 7 are set aside.
+-- The words of the theorems on scripts written out and read: lists that can be written, scripts that can be read, a script without its notes,
+-- what reading refuses, and where a run stops whose refusals 6 and 7 are set aside.
 use Prim.Native.Nat.{ℕ, suc, _≤_, _<_}
 use mathlib.Core.Bool.{Bool, true, false, cond, _||_}
 use mathlib.Core.List.{List, [], _∷_, _++_}

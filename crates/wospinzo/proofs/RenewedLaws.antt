@@ -24,7 +24,7 @@ use Rattle.wospinzo.specs.declared.Renewed.{Renewed}
 use Rattle.wospinzo.proofs.Renewed as D
 use Rattle.wospinzo.proofs.Renewed.Laws as D′
 use Rattle.lent_record.proofs.Lent.{vals, Holds}
-use Rattle.lent_record.proofs.Places.{with-places}
+use Rattle.lent_record.specs.Parts.{withPlaces}
 
 abbrev pub S : RattleType
 S = D.the-row
@@ -54,8 +54,8 @@ pub renewed-typed : {M : Type 1} (𝓤 : URA M) (H : Heap 𝓤) (A : Atoms 𝓤)
 renewed-typed 𝓤 H A W r v is = LL.lawful D.the-type D′.the-laws 𝓤 H A W .typed r (v ∷ []) is
 
 -- the record once the places are a list and the three numbers are stored
-pub left-holds : (h : Watcher) (zs : List ℕ) → Holds (with-places h zs) → (r : Renewed) (v : Val) → IsRenewed r v → Holds (left r zs)
+pub left-holds : (h : Watcher) (zs : List ℕ) → Holds (withPlaces h zs) → (r : Renewed) (v : Val) → IsRenewed r v → Holds (left r zs)
 left-holds h zs is r v is′ =
-    let old = LL.owed T.the-type T′.the-laws (with-places h zs) (vals (with-places h zs)) is in
+    let old = LL.owed T.the-type T′.the-laws (withPlaces h zs) (vals (withPlaces h zs)) is in
     LL.owes T.the-type T′.the-laws (left r zs)
     ((refl, threads-fits r v is′), ((refl, shared-fits r v is′), ((refl, exclusive-fits r v is′), (old .1 .1 .1 .0, tt))))

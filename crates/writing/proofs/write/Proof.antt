@@ -49,7 +49,8 @@ script-length-requires c κs =
     let k = c .before in
     let p = k .before .before .before in
     let e = p .before in
-    omega (arith, c .if3 .left, same-count _ _ (e .before .before .before .before .before .args .out .now) (counts (e .before)) (e .if2 .left) _ (p .test-triples .ensures) _ (k .before .tested .given .1))
+    let out = e .before .before .before .before .before .args .out .now in
+    omega (arith, c .if3 .left, same-count _ _ out (counts (e .before)) (e .if2 .left) _ (p .test-triples .ensures) _ (k .before .tested .given .1))
 
 returns-5 : tie.Need-returns-5
 returns-5 c =
