@@ -48,7 +48,7 @@ build_binary() {
     touch "$top/target/cargo/release/plan" "$top/target/cargo/release/draw"
 }
 
-# One build at a time, as both commands may stand in one pipe.
+# One build at a time, as the commands and ./run may stand in one pipe.
 build() {
     archive_up_to_date && binary_up_to_date && return
     mkdir -p "$top/target/log"
@@ -56,5 +56,5 @@ build() {
         flock 9
         archive_up_to_date || build_archive
         binary_up_to_date || build_binary
-    ) 9>"$top/target/log/commands.lock" || exit 3
+    ) 9>"$top/target/log/build.lock" || exit 3
 }
