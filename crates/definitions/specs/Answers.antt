@@ -107,7 +107,7 @@ pub record Test : Type 0 where
   pub place : ℕ
   pub passed : Bool
 
--- the place is "the index of the first bad pair for 9, 10, 11 .., else 0"
+-- the place is "the index of the first bad pair for 9, 10, 11 .., else 0"; for a list that is written the triple's index, and for a script that is read the line (02 §3)
 abbrev pub test : ℕ → Bool → Test
 test number passed = record { number = number; place = 0; passed = passed }
 
