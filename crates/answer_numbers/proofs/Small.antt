@@ -6,12 +6,12 @@ use mathlib.Core.Bool.{Bool, true, false, cond, _&&_}
 use mathlib.Core.List.{List, [], _∷_, _++_}
 use mathlib.Core.Path.{_≡_, refl, sym, subst, ap}
 use lib.Dec.{T, leb, eqb, leb→le, le→leb}
-use lib.ListN.{length, getD, length-append}
+use lib.ListN.{length, getD, drop, length-append, length-drop}
 use Rattle.definitions.specs.Answers.{Test, test, Reply, accepted, refused, answered, passesAll, Delivery, roomTest, deliveryReply}
 use Rattle.definitions.specs.Bounds.{mostThreads, mostHistory, mostScript}
 use Rattle.definitions.specs.Chains.{requestsOf}
 use Rattle.definitions.specs.Codes.{go, setMove, clearMove}
-use Rattle.definitions.specs.Forms.{Form, threads, request, note, bad, lineForm, firstTests, threadsFirst, lineTests}
+use Rattle.definitions.specs.Forms.{Form, threads, request, note, bad, lineForm, firstForm, firstTests, threadsFirst, lineTests}
 use Rattle.definitions.specs.Moves.{ask}
 use Rattle.definitions.specs.Nodes.{nodesOf, nodesEntry}
 use Rattle.definitions.specs.OpenMoves.{openEntry}
@@ -264,15 +264,13 @@ first-places bound bad h = (h, λ p. tt)
 
 script-places : (bound : ℕ) (ls : List Line) → 1 < bound → 2 + length ls ≤ bound → PlacesBelow bound (scriptTests ls)
 unfolding scriptTests
-script-places bound [] h k = (h, λ p. tt)
-script-places bound (l ∷ ls) h k =
-    places-append bound (firstTests (lineForm l)) _ (first-places bound (lineForm l) h) (lines-places bound 2 (threadsFirst (lineForm l)) ls (omega arith))
+script-places bound ls h k =
+    places-append bound (firstTests (firstForm ls)) _ (first-places bound (firstForm ls) h) (lines-places bound 2 (threadsOfLines ls) (drop 1 ls) (omega (arith, length-drop 1 ls)))
 
 -- a script that can be read has an N up to 200
 script-count : (ls : List Line) → T (passesAll (scriptTests ls)) → threadsOfLines ls ≤ mostThreads
 unfolding scriptTests
-script-count [] t = omega arith
-script-count (l ∷ ls) t = by (lineForm l) (passes-split (firstTests (lineForm l)) _ t .0)
+script-count ls t = by (firstForm ls) (passes-split (firstTests (firstForm ls)) _ t .0)
   where
     by : (f : Form) → T (passesAll (firstTests f)) → threadsFirst f ≤ mostThreads
     by (threads n) p = count-most n (peel _ [] p .0)

@@ -111,6 +111,11 @@ lineForm l = cond (l .ended) (formOf (l .text)) bad
 
 -- ---- what a line says to N threads
 
+-- what the first line says; a script without a line has a bad form there: "an empty script's `(refused 8 1)`"
+abbrev pub firstForm : List Line → Form
+firstForm [] = bad
+firstForm (l ∷ ls) = lineForm l
+
 -- the refusals of the first line, for its form or its N: "First `(threads N)`"; "a bad form is 8, a bad N 1"
 abbrev pub firstTests : Form → List Test
 firstTests (threads n) = testAt 1 1 (countFits n) ∷ []

@@ -4,10 +4,10 @@ use Prim.Native.Nat.{ℕ, suc}
 use mathlib.Core.Bool.{cond}
 use mathlib.Core.List.{List, [], _∷_, _++_}
 use lib.Dec.{leb}
-use lib.ListN.{length, getD}
+use lib.ListN.{length, getD, drop}
 use Rattle.definitions.specs.Answers.{Reply, accepted, refused, Seen, shown, quiet, test, answered, Delivery, counted}
 use Rattle.definitions.specs.Bounds.{mostScript}
-use Rattle.definitions.specs.Forms.{Form, lineForm, firstTests, threadsFirst, lineTests, requestIn}
+use Rattle.definitions.specs.Forms.{Form, lineForm, firstForm, firstTests, threadsFirst, lineTests, requestIn}
 use Rattle.definitions.specs.Moves.{moveReply, moveTable}
 use Rattle.definitions.specs.PlainLock.{Pair}
 use Rattle.definitions.specs.Table.{tableOf, fresh}
@@ -89,10 +89,9 @@ printedFor (refused number line) ls = refusedLine number line
 unfoldable pub printedFirst : Form → List Line → List ℕ
 printedFirst form ls = printedFor (answered (firstTests form) (threadsFirst form)) ls
 
--- the whole output of a run; "an empty script's `(refused 8 1)`"
+-- the whole output of a run
 unfoldable pub runText : List Line → List ℕ
-runText [] = refusedLine 8 1
-runText (l ∷ ls) = printedFirst (lineForm l) ls
+runText ls = printedFirst (firstForm ls) (drop 1 ls)
 
 abbrev pub runOutputOf : List ℕ → List ℕ
 runOutputOf script = runText (linesOf script)

@@ -1,14 +1,13 @@
 -- Scripts written out and read (02 §3): the script of a list of moves, and the entries that write one and read one.
 -- What a line says to N threads stands in Forms, and is what the run goes by too.
 use Prim.Native.Nat.{ℕ, suc, _%_}
-use mathlib.Core.Bool.{false}
 use mathlib.Core.List.{List, [], _∷_, _++_}
 use lib.Dec.{leb, eqb}
 use lib.ListN.{length, drop}
-use Rattle.definitions.specs.Answers.{Reply, accepted, refused, numberOf, Test, test, testAt, Delivery, counted}
+use Rattle.definitions.specs.Answers.{Reply, accepted, refused, numberOf, Test, test, Delivery, counted}
 use Rattle.definitions.specs.Bounds.{mostScript}
 use Rattle.definitions.specs.Chains.{requestsOf}
-use Rattle.definitions.specs.Forms.{threadsLine, spelled, lineForm, firstTests, threadsFirst, lineTests, requestIn}
+use Rattle.definitions.specs.Forms.{threadsLine, spelled, lineForm, firstForm, firstTests, threadsFirst, lineTests, requestIn}
 use Rattle.definitions.specs.Moves.{numberTests}
 use Rattle.definitions.specs.Plan.{bytesOf}
 use Rattle.definitions.specs.Table.{countFits}
@@ -61,18 +60,16 @@ unfoldable pub requestsIn : List Line → List Request
 requestsIn [] = []
 requestsIn (l ∷ ls) = requestIn (lineForm l) ++ requestsIn ls
 
--- those of a whole script: the first line, then the lines from 2 on; one without a line is a bad form in line 1
-unfoldable pub scriptTests : List Line → List Test
-scriptTests [] = testAt 1 8 false ∷ []
-scriptTests (l ∷ ls) = firstTests (lineForm l) ++ linesTests 2 (threadsFirst (lineForm l)) ls
-
 -- the N of a script, 0 where its first line gives none
 abbrev pub threadsOfLines : List Line → ℕ
-threadsOfLines [] = 0
-threadsOfLines (l ∷ ls) = threadsFirst (lineForm l)
+threadsOfLines ls = threadsFirst (firstForm ls)
 
 abbrev pub threadsOf : List ℕ → ℕ
 threadsOf script = threadsOfLines (linesOf script)
+
+-- the refusals of a whole script: the first line's, then those of the lines from 2 on
+unfoldable pub scriptTests : List Line → List Test
+scriptTests ls = firstTests (firstForm ls) ++ linesTests 2 (threadsOfLines ls) (drop 1 ls)
 
 -- the lines behind the first
 abbrev pub moveLines : List ℕ → List Line

@@ -9,9 +9,9 @@ use lib.Dec.{T}
 use lib.ListN.{take, drop}
 use Rattle.definitions.specs.Answers.{refused, Test, testAt, answered}
 use Rattle.definitions.specs.Forms as spec
-use Rattle.definitions.specs.Forms.{formOf, firstTests, threadsFirst}
+use Rattle.definitions.specs.Forms.{formOf, firstForm, firstTests, threadsFirst}
 use Rattle.definitions.specs.Run.{printedFirst, refusedLine, runText, runOutputOf}
-use Rattle.definitions.specs.Scripts.{linesTests, scriptTests, threadsOfLines, threadsOf, moveLines}
+use Rattle.definitions.specs.Scripts.{linesTests, scriptTests, threadsOf, moveLines}
 use Rattle.definitions.specs.Table.{countFits}
 use Rattle.definitions.specs.Texts as texts
 use Rattle.definitions.specs.Texts.{linesOf}
@@ -23,7 +23,7 @@ use Rattle.lines.specs.declared.Next.{Next}
 use Rattle.lines.specs.declared.Next.the-variants.{Line, Unended, Done}
 use denote.Enum.Declared.{tagOf}
 use types.Run.{OneOf}
-use Rattle.opening.specs.FirstLine.{firstForm, saysThreads, ThreadsAt, NoThreads}
+use Rattle.opening.specs.FirstLine.{saysThreads, ThreadsAt, NoThreads}
 use Rattle.forms.proofs.Form as form′
 use Rattle.lines.proofs.Next as next
 
@@ -56,14 +56,9 @@ module _ (script : List ℕ) where
 
 -- ---- the run
 
-run-by : (ls : List texts.Line) → runText ls ≡ printedFirst (firstForm ls) (drop 1 ls)
-unfolding runText printedFirst answered
-run-by [] = refl
-run-by (l ∷ ls) = refl
-
 pub run-from : {script : List ℕ} (n start : ℕ) → ThreadsAt script n start → runOutputOf script ≡ printedFirst (spec.threads n) (linesOf (drop start script))
-run-from {script} n start t =
-    run-by (linesOf script) ∙ (ap (λ (f : spec.Form). printedFirst f (moveLines script)) (t .says) ∙ ap (printedFirst (spec.threads n)) (t .behind))
+unfolding runText
+run-from {script} n start t = ap (λ (f : spec.Form). printedFirst f (moveLines script)) (t .says) ∙ ap (printedFirst (spec.threads n)) (t .behind)
 
 bad-printed : (f : spec.Form) (ls : List texts.Line) → saysThreads f ≡ false → printedFirst f ls ≡ refusedLine 8 1
 unfolding printedFirst answered
@@ -73,18 +68,10 @@ bad-printed spec.note ls e = refl
 bad-printed spec.bad ls e = refl
 
 pub run-bad : {script : List ℕ} → NoThreads script → runOutputOf script ≡ refusedLine 8 1
-run-bad {script} t = run-by (linesOf script) ∙ bad-printed (firstForm (linesOf script)) (moveLines script) (t .says)
+unfolding runText
+run-bad {script} t = bad-printed (firstForm (linesOf script)) (moveLines script) (t .says)
 
 -- ---- reading
-
-tests-by : (ls : List texts.Line) → scriptTests ls ≡ firstTests (firstForm ls) ++ linesTests 2 (threadsFirst (firstForm ls)) (drop 1 ls)
-unfolding scriptTests linesTests
-tests-by [] = refl
-tests-by (l ∷ ls) = refl
-
-count-by : (ls : List texts.Line) → threadsOfLines ls ≡ threadsFirst (firstForm ls)
-count-by [] = refl
-count-by (l ∷ ls) = refl
 
 bad-tests : {A : Type 0} (a : A) (f : spec.Form) (ts : List Test) → saysThreads f ≡ false → answered (firstTests f ++ ts) a ≡ refused 8 1
 unfolding answered
@@ -97,16 +84,15 @@ module _ {script : List ℕ} where
   -- a script whose first line says N
   module _ (n start : ℕ) (t : ThreadsAt script n start) where
     pub read-tests : scriptTests (linesOf script) ≡ testAt 1 1 (countFits n) ∷ linesTests 2 n (linesOf (drop start script))
+    unfolding scriptTests
     read-tests =
-        tests-by (linesOf script)
-        ∙ (ap (λ (f : spec.Form). firstTests f ++ linesTests 2 (threadsFirst f) (moveLines script)) (t .says)
-        ∙ ap (λ (ls : List texts.Line). testAt 1 1 (countFits n) ∷ linesTests 2 n ls) (t .behind))
+        ap (λ (f : spec.Form). firstTests f ++ linesTests 2 (threadsFirst f) (moveLines script)) (t .says)
+        ∙ ap (λ (ls : List texts.Line). testAt 1 1 (countFits n) ∷ linesTests 2 n ls) (t .behind)
 
     pub read-count : threadsOf script ≡ n
-    read-count = count-by (linesOf script) ∙ ap threadsFirst (t .says)
+    read-count = ap threadsFirst (t .says)
 
   -- one whose first line doesn't
   pub read-bad : {A : Type 0} (a : A) → NoThreads script → answered (scriptTests (linesOf script)) a ≡ refused 8 1
-  read-bad a t =
-      ap (λ (ts : List Test). answered ts a) (tests-by (linesOf script))
-      ∙ bad-tests a (firstForm (linesOf script)) (linesTests 2 (threadsFirst (firstForm (linesOf script))) (moveLines script)) (t .says)
+  unfolding scriptTests
+  read-bad a t = bad-tests a (firstForm (linesOf script)) (linesTests 2 (threadsOf script) (moveLines script)) (t .says)

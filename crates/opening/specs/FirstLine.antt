@@ -1,19 +1,14 @@
 -- What the first line of a script says, and the lines behind it.
 use Prim.Native.Nat.{ℕ, _≤_}
 use mathlib.Core.Bool.{Bool, true, false}
-use mathlib.Core.List.{List, [], _∷_}
+use mathlib.Core.List.{List}
 use mathlib.Core.Path.{_≡_}
 use lib.ListN.{length, drop}
-use Rattle.definitions.specs.Forms.{Form, threads, request, note, bad, lineForm}
+use Rattle.definitions.specs.Forms.{Form, threads, request, note, bad, firstForm}
 use Rattle.definitions.specs.Scripts.{moveLines}
-use Rattle.definitions.specs.Texts.{Line, linesOf}
+use Rattle.definitions.specs.Texts.{linesOf}
 use Rattle.opening.specs.declared.First.{First}
 use Rattle.opening.specs.declared.First.the-variants.{Threads, Bad}
-
--- no line is a bad form
-abbrev pub firstForm : List Line → Form
-firstForm [] = bad
-firstForm (l ∷ ls) = lineForm l
 
 abbrev pub saysThreads : Form → Bool
 saysThreads (threads n) = true

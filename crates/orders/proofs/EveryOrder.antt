@@ -13,7 +13,7 @@ use lib.ListN.{length, take, drop}
 use Rattle.definitions.specs.Answers.{accepted, refused, filled, deliveryReply, deliveryOutput}
 use Rattle.definitions.specs.Bounds.{mostThreads}
 use Rattle.definitions.specs.Chains.{historyIn, history, requestsOf}
-use Rattle.definitions.specs.Forms.{Form, threads, request, note, bad, lineForm, threadsFirst}
+use Rattle.definitions.specs.Forms.{Form, threads, request, note, bad, firstForm, threadsFirst}
 use Rattle.definitions.specs.Phases.{rows}
 use Rattle.definitions.specs.PlainLock.{Pair, pairsOf, atStart, permitted, checkReply}
 use Rattle.definitions.specs.Plan.{plan, bytesOf, planEntry}
@@ -141,8 +141,7 @@ first-shown note ls = nothing-shown 0
 first-shown bad ls = nothing-shown 0
 
 lines-shown : (ls : List Line) → T (permitted (threadsOfLines ls) (history (fresh (threadsOfLines ls)) (movesOfLines ls)))
-lines-shown [] = nothing-shown 0
-lines-shown (l ∷ ls) = first-shown (lineForm l) ls
+lines-shown ls = first-shown (firstForm ls) (drop 1 ls)
 
 -- The events that the run of a script prints, whatever the script is, are a permitted history, and what is printed besides is one last line.
 pub run-shown : (script : List ℕ)

@@ -8,10 +8,10 @@ use mathlib.Core.List.{List, [], _∷_, _++_, append-assoc}
 use mathlib.Core.Logic.{_⊎_, inl, inr}
 use mathlib.Core.Path.{_≡_, refl, sym, subst, ap, _∙_}
 use lib.Dec.{T, leb, ltb, le→leb}
-use lib.ListN.{length}
+use lib.ListN.{length, drop}
 use Rattle.definitions.specs.Answers.{Reply, accepted, refused, Seen, Test, testAt, answered, passesAll}
 use Rattle.definitions.specs.Bounds.{lastMove}
-use Rattle.definitions.specs.Forms.{Form, threads, request, note, bad, formOf, lineForm, firstTests, threadsFirst, lineTests}
+use Rattle.definitions.specs.Forms.{Form, threads, request, note, bad, formOf, lineForm, firstForm, firstTests, threadsFirst, lineTests}
 use Rattle.definitions.specs.Moves.{targetFits, numberTests, effect, moveTable}
 use Rattle.definitions.specs.Run.{eventLine, stepsLine, refusedLine, Turn, stops, passes, makes, turnFor, turnOf, printed, printedFor, printedFirst, runText, runOutputOf}
 use Rattle.definitions.specs.Scripts.{linesTests, scriptTests}
@@ -155,9 +155,8 @@ first-alike note ls = refl
 first-alike bad ls = refl
 
 lines-refused-alike : (ls : List Line) → judged (scriptTests ls) ≡ stopOf ls
-unfolding scriptTests stopOf answered
-lines-refused-alike [] = refl
-lines-refused-alike (l ∷ ls) = first-alike (lineForm l) ls
+unfolding scriptTests stopOf
+lines-refused-alike ls = first-alike (firstForm ls) (drop 1 ls)
 
 -- theorem 4: reading a script refuses the line, and by the number, that its run stops at with its refusals 6 and 7 set aside, or neither refuses it
 pub refused-alike : (script : List ℕ) → readReply script ≡ stopOf (linesOf script)
@@ -288,9 +287,8 @@ first-ended note ls = turned-down [] 8 1 refl refl
 first-ended bad ls = turned-down [] 8 1 refl refl
 
 text-ended : (ls : List Line) → Ended (runText ls) (judged (scriptTests ls))
-unfolding runText scriptTests answered
-text-ended [] = turned-down [] 8 1 refl refl
-text-ended (l ∷ ls) = first-ended (lineForm l) ls
+unfolding runText scriptTests
+text-ended ls = first-ended (firstForm ls) (drop 1 ls)
 
 -- every script's run ends in one of these ways
 pub run-ended : (script : List ℕ) → Ended (runOutputOf script) (readReply script)

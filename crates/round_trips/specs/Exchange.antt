@@ -6,9 +6,9 @@ use mathlib.Core.List.{List, [], _∷_, _++_}
 use mathlib.Core.Logic.{_⊎_}
 use mathlib.Core.Path.{_≡_}
 use lib.Dec.{T, eqb}
-use lib.ListN.{length}
+use lib.ListN.{length, drop}
 use Rattle.definitions.specs.Answers.{Reply, accepted, refused, Test, passesAll, answered}
-use Rattle.definitions.specs.Forms.{Form, threads, request, note, bad, lineForm, firstTests, threadsFirst}
+use Rattle.definitions.specs.Forms.{Form, threads, request, note, bad, lineForm, firstForm, firstTests, threadsFirst}
 use Rattle.definitions.specs.Moves.{moveTable}
 use Rattle.definitions.specs.Run.{stops, passes, makes, turnOf}
 use Rattle.definitions.specs.Scripts.{ended, scriptTests, writeTests, readEntry}
@@ -80,10 +80,9 @@ abbrev pub stopFor : Reply ℕ → List Line → Reply (Unit {0})
 stopFor (accepted n) ls = stopFrom (fresh n) 2 ls
 stopFor (refused number line) ls = refused number line
 
--- a whole script, "an empty script's `(refused 8 1)`" included
+-- a whole script
 unfoldable pub stopOf : List Line → Reply (Unit {0})
-stopOf [] = refused 8 1
-stopOf (l ∷ ls) = stopFor (answered (firstTests (lineForm l)) (threadsFirst (lineForm l))) ls
+stopOf ls = stopFor (answered (firstTests (firstForm ls)) (threadsFirst (firstForm ls))) (drop 1 ls)
 
 -- what a run that prints `(refused R L)` says of reading: it refuses that line by that number, or R is 6 or 7 and it refuses no line up to L
 abbrev pub RunRefused : Reply (Unit {0}) → ℕ → ℕ → Type 0

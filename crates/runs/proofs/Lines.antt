@@ -36,6 +36,11 @@ abbrev pub sizeOf : List Line → ℕ
 sizeOf [] = 0
 sizeOf (l ∷ ls) = lineSize l + sizeOf ls
 
+-- the lines behind the first
+pub behind-size : (ls : List Line) → sizeOf (drop 1 ls) ≤ sizeOf ls
+behind-size [] = omega arith
+behind-size (l ∷ ls) = omega arith
+
 front-size : (c : ℕ) (ls : List Line) → sizeOf (inFront c ls) ≡ suc (sizeOf ls)
 front-size c [] = refl
 front-size c (l ∷ ls) = omega arith
@@ -164,10 +169,6 @@ stated-few (l ∷ ls) =
 -- so the triples that a script states take a third of its bytes at most
 pub read-few : (script : List ℕ) → 3 * length (bytesOf (statedBy script)) ≤ length script
 read-few script = omega (arith, bytes-length (statedBy script), stated-few (moveLines script), behind-size (linesOf script), lines-size script)
-  where
-    behind-size : (ls : List Line) → sizeOf (drop 1 ls) ≤ sizeOf ls
-    behind-size [] = omega arith
-    behind-size (l ∷ ls) = omega arith
 
 -- ---- what a line does to the run
 

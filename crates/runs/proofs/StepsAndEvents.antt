@@ -12,7 +12,7 @@ use lib.Dec.{T}
 use lib.ListN.{length, getD, take, drop}
 use Rattle.definitions.specs.Answers.{Reply, accepted, refused, isAccepted, Seen, shown, quiet, answered}
 use Rattle.definitions.specs.Chains.{pairFor, historyIn, afterIn, acceptsAllIn, history, tableAfter, acceptsAll}
-use Rattle.definitions.specs.Forms.{Form, threads, request, note, bad, lineForm, threadsFirst, requestIn}
+use Rattle.definitions.specs.Forms.{Form, threads, request, note, bad, lineForm, firstForm, threadsFirst, requestIn}
 use Rattle.definitions.specs.Moves.{acceptsIn, moveReply, moveTable}
 use Rattle.definitions.specs.PlainLock.{Pair}
 use Rattle.definitions.specs.Run.{eventLine, eventLines, stepsLine, refusedLine, Turn, stops, passes, makes, turnFor, turnOf, printed, printedFirst, runText, runOutputOf}
@@ -222,8 +222,7 @@ first-run bad ls = not-started 0 ls 8 (inl refl)
 
 lines-run : (ls : List Line) → WholeRun (threadsOfLines ls) (drop 1 ls) (movesOfLines ls) (runText ls)
 unfolding runText
-lines-run [] = not-started 0 [] 8 (inl refl)
-lines-run (l ∷ ls) = first-run (lineForm l) ls
+lines-run ls = first-run (firstForm ls) (drop 1 ls)
 
 -- every script's run
 pub whole-run : (script : List ℕ) → WholeRun (threadsOf script) (moveLines script) (movesOf script) (runOutputOf script)

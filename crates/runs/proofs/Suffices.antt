@@ -5,10 +5,10 @@ use native.Mathlib.Omega.{arith}
 use mathlib.Core.List.{List, [], _∷_, _++_}
 use mathlib.Core.Path.{sym, subst}
 use lib.Dec.{le→leb}
-use lib.ListN.{length, length-append}
+use lib.ListN.{length, drop, length-append, length-drop}
 use Rattle.definitions.specs.Answers.{accepted, answered, filled}
 use Rattle.definitions.specs.Bounds.{mostScript, enoughOutput}
-use Rattle.definitions.specs.Forms.{lineForm, Form, threads, request, note, bad}
+use Rattle.definitions.specs.Forms.{lineForm, firstForm, Form, threads, request, note, bad}
 use Rattle.definitions.specs.Moves.{moveTable}
 use Rattle.definitions.specs.Run.{eventLine, stepsLine, refusedLine, Turn, stops, passes, makes, turnOf, printed, printedFirst, runText, runOutputOf, runEntry}
 use Rattle.definitions.specs.Table.{tableOf, countFits, fresh}
@@ -20,7 +20,7 @@ use Rattle.theory.proofs.Numbers.{tens, decimal-short}
 use Rattle.theory.proofs.Outputs.{whole}
 use Rattle.theory.proofs.Replies.{pass, no-test}
 use Rattle.theory.proofs.Tests.{cond-either}
-use Rattle.runs.proofs.Lines.{lineSize, sizeOf, lines-size, lines-count, Does, line-does}
+use Rattle.runs.proofs.Lines.{lineSize, sizeOf, behind-size, lines-size, lines-count, Does, line-does}
 use Rattle.runs.proofs.Potential.{potential, fresh-potential, move-cost}
 
 -- ---- the last line
@@ -78,8 +78,10 @@ first-bound bad ls few = let last = refused-short 8 1 (omega arith) (omega arith
 
 text-bound : (ls : List Line) → 2 + length ls < tens 5 → length (runText ls) ≤ 2 * sizeOf ls + 18
 unfolding runText
-text-bound [] few = refused-short 8 1 (omega arith) (omega arith)
-text-bound (l ∷ ls) few = let rest = first-bound (lineForm l) ls (omega arith) in omega arith
+text-bound ls few =
+    let rest = first-bound (firstForm ls) (drop 1 ls) (omega (arith, length-drop 1 ls)) in
+    let size = behind-size ls in
+    omega arith
 
 -- the output of a run is at most twice its script and one short line
 pub run-bound : (script : List ℕ) → length script ≤ mostScript → length (runOutputOf script) ≤ longestOutput (length script)

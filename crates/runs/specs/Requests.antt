@@ -4,8 +4,8 @@ use mathlib.Core.Bool.{cond}
 use mathlib.Core.List.{List, [], _∷_}
 use mathlib.Core.Logic.{_⊎_}
 use mathlib.Core.Path.{_≡_}
-use lib.ListN.{length}
-use Rattle.definitions.specs.Forms.{Form, threads, request, note, bad, lineForm}
+use lib.ListN.{length, drop}
+use Rattle.definitions.specs.Forms.{Form, threads, request, note, bad, lineForm, firstForm}
 use Rattle.definitions.specs.Moves.{moveTable}
 use Rattle.definitions.specs.Run.{stepsLine, refusedLine, stops, passes, makes, turnOf}
 use Rattle.definitions.specs.Table.{countFits, fresh}
@@ -30,8 +30,7 @@ movesFirst note ls = []
 movesFirst bad ls = []
 
 abbrev pub movesOfLines : List Line → List Request
-movesOfLines [] = []
-movesOfLines (l ∷ ls) = movesFirst (lineForm l) ls
+movesOfLines ls = movesFirst (firstForm ls) (drop 1 ls)
 
 -- the moves that the run of a script makes
 abbrev pub movesOf : List ℕ → List Request
