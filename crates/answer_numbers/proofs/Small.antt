@@ -19,12 +19,12 @@ use Rattle.definitions.specs.Phases.{nodeOf}
 use Rattle.definitions.specs.PlainLock.{Pair, pairsOf, testsOf, checkTests, checkReply}
 use Rattle.definitions.specs.Plan.{planRows, planOf, plan, planEntry}
 use Rattle.definitions.specs.Run.{runEntry}
-use Rattle.definitions.specs.Scripts.{scriptOf, triplesTests, writeTests, writeEntry, linesTests, scriptTests, threadsOfLines, readEntry}
+use Rattle.definitions.specs.Scripts.{scriptOf, triplesTests, writeTests, writeEntry, linesTests, scriptTests, threadsOfLines, Listed, readEntry}
 use Rattle.definitions.specs.Table.{sized, freshEntry, tableOf}
 use Rattle.definitions.specs.Texts.{Line, linesOf}
 use Rattle.definitions.specs.Threads.{gather}
 use Rattle.definitions.specs.declared.Request.{Request}
-use Rattle.answer_numbers.specs.Encoding.{countValue, listedValue, valueOf, valueIn, valueBound, heldPlace, held}
+use Rattle.answer_numbers.specs.Encoding.{countValue, listedValue, valueOf, valueIn, valueBound, heldPlace, held, ByteCount}
 use Rattle.history.proofs.CheckLaws.{tests-e}
 use Rattle.runs.proofs.Lines.{lines-count, read-few}
 use Rattle.runs.proofs.Suffices.{suffices}
@@ -283,3 +283,13 @@ read-small script =
     small-value listedValue (readEntry script)
     (omega arith, λ p. script-places valueBound (linesOf script) (omega arith) (omega (arith, lines-count script, leb→le (length script) mostScript p)))
     (λ t. let a = peel _ _ t in omega (arith, script-count (linesOf script) (a .1), read-few script, leb→le (length script) mostScript (a .0)))
+
+-- the N that reading answers fits a byte
+pub read-byte : (script out : List ℕ) → ByteCount (deliveryReply (readEntry script) out)
+read-byte script out = by (deliveryReply (readEntry script) out) refl
+  where
+    by : (x : Reply Listed) → deliveryReply (readEntry script) out ≡ x → ByteCount x
+    by (accepted l) e =
+        let s = answered-so (readEntry script) out l e in
+        omega (arith, ap (λ (x : Listed). x .threads) (s .answer), script-count (linesOf script) (peel _ _ (s .tested) .1))
+    by (refused number line) e = tt

@@ -1,5 +1,5 @@
 -- An answer as one number, for C: the low byte is the refusal's number, 0 where the request is accepted; the rest is the value of what is answered, or the refusal's place.
--- Of the answers that one entry can give no two have the same number (proofs/Apart).
+-- Of the answers that one entry can give no two have the same number (proofs/Apart), but that writing's places above the largest that is held are answered as that one.
 use Prim.Native.Nat.{ℕ, _+_, _-_, _*_, _<_}
 use mathlib.Core.Bool.{Bool, cond}
 use lib.Dec.{leb}

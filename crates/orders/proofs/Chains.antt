@@ -1,21 +1,22 @@
 -- Lists of requests to the record `Table` that are accepted throughout (`Leads`), one behind the other; lists from the fresh table's bytes as lists from its record;
--- and the 16 bits of accepted requests.
-use Prim.Native.Nat.{ℕ, _≤_, _<_, _^_}
+-- and the numbers of accepted requests.
+use Prim.Native.Nat.{ℕ, _≤_, _^_}
 use native.Mathlib.Omega.{arith}
-use mathlib.Core.Bool.{Bool, true, false, cond}
+use mathlib.Core.Bool.{true}
 use mathlib.Core.List.{List, [], _∷_, _++_, append-assoc, append-nil}
 use mathlib.Core.Path.{_≡_, refl, sym, subst, ap, _∙_}
-use lib.Dec.{T, ltb, eqb, ltb→lt, eqb→eq}
+use lib.Dec.{T}
 use Rattle.definitions.specs.Answers.{accepted, Seen}
 use Rattle.definitions.specs.Bounds.{mostThreads}
-use Rattle.definitions.specs.Chains.{pairFor, historyIn, afterIn, acceptsAllIn, history, tableAfter, acceptsAll, Fits16, AllFit16}
-use Rattle.definitions.specs.Moves.{effect, stepReply, accepts, replyIn, stepIn, acceptsIn, namesThread, targetFits}
+use Rattle.definitions.specs.Chains.{pairFor, historyIn, afterIn, acceptsAllIn, history, tableAfter, acceptsAll, AllFit16}
+use Rattle.definitions.specs.Moves.{effect, stepReply, accepts, replyIn, stepIn, acceptsIn}
 use Rattle.definitions.specs.PlainLock.{Pair}
 use Rattle.definitions.specs.Sound.{sound}
 use Rattle.definitions.specs.Table.{Table, freshTable, tableOf, applied, itself, byteTable, fresh}
 use Rattle.definitions.specs.declared.Request.{Request}
 use Rattle.theory.proofs.Bytes.{byte-keeps, fresh-table, fresh-sized}
 use Rattle.theory.proofs.Replies.{accepted-is, all-passed}
+use Rattle.theory.proofs.RequestNumbers.{NumbersFit, AllNumbersFit, target-below}
 use Rattle.theory.proofs.SoundSteps.{kept-sound}
 use Rattle.theory.proofs.Storages.{reply-same, accepts-e, accepts-i, accepted-stores, history-same, after-same, accepts-all-same}
 use Rattle.theory.proofs.Tests.{and-l, and-r, and-i}
@@ -109,30 +110,34 @@ both {s} {t} {u} {rs} {qs} {h} {k} a b =
       sound-after = b .sound-after;
     }
 
--- ---- 16 bits
+-- ---- the numbers of accepted requests
 
-target-16 : (n mv t : ℕ) → n ≤ mostThreads → T (targetFits n mv t) → t < 2 ^ 16
-target-16 n mv t most f = choose (namesThread mv) f
-  where
-    choose : (b : Bool) → T (cond b (ltb t n) (eqb t 0)) → t < 2 ^ 16
-    choose true u = let l = ltb→lt t n u in omega arith
-    choose false u = let e = eqb→eq t 0 u in omega arith
+-- the numbers of every accepted request fit the table's threads
+pub accepted-numbers : (s : Table) (r : Request) → Accepted s r → NumbersFit (s .threads) r
+accepted-numbers s r a = record { thread-fits = a .thread-fits; move-fits = a .move-fits; target-fits = a .target-fits }
 
-accepted-16 : (s : Table) (r : Request) → s .threads ≤ mostThreads → Accepted s r → Fits16 r
-accepted-16 s r most a =
-    record {
-      thread = let l = a .thread-fits in omega arith;
-      mv = let l = a .move-fits in omega arith;
-      target = target-16 (s .threads) (r .mv) (r .target) most (a .target-fits);
-    }
-
--- every accepted request has three 16-bit numbers
-pub all-16 : (s : Table) (rs : List Request) → s .threads ≤ mostThreads → T (acceptsAllIn itself s rs) → AllFit16 rs
+pub all-numbers : (s : Table) (rs : List Request) → T (acceptsAllIn itself s rs) → AllNumbersFit (s .threads) rs
 unfolding acceptsAllIn
-all-16 s [] most a = tt
-all-16 s (r ∷ rs) most a =
-    let t = accepts-e itself s r (and-l (acceptsIn itself s r) (acceptsAllIn itself (stepIn itself s r) rs) a) .1 in
-    let n : stepIn itself s r .threads ≡ s .threads = ap (λ (x : Table). x .threads) (own-step s r t) ∙ applied-keeps s (effect s r .writes) in (
-      accepted-16 s r most (accepted-e s r t),
-      all-16 (stepIn itself s r) rs (subst (λ (m : ℕ). m ≤ mostThreads) (sym n) most) (and-r (acceptsIn itself s r) (acceptsAllIn itself (stepIn itself s r) rs) a),
+all-numbers s [] a = tt
+all-numbers s (r ∷ rs) a =
+    let here = acceptsIn itself s r in
+    let rest = acceptsAllIn itself (stepIn itself s r) rs in
+    let t = accepts-e itself s r (and-l here rest a) .1 in
+    let n : stepIn itself s r .threads ≡ s .threads = ap (λ (x : Table). x .threads) (own-step s r t) ∙ applied-keeps s (effect s r .writes) in
+    (accepted-numbers s r (accepted-e s r t), subst (λ (m : ℕ). AllNumbersFit m rs) n (all-numbers (stepIn itself s r) rs (and-r here rest a)))
+
+-- so they have 16 bits
+numbers-16 : (n : ℕ) (rs : List Request) → n ≤ mostThreads → AllNumbersFit n rs → AllFit16 rs
+numbers-16 n [] most f = tt
+numbers-16 n (r ∷ rs) most f =
+    let a = f .0 in (
+      record {
+        thread = omega (arith, a .thread-fits);
+        mv = omega (arith, a .move-fits);
+        target = target-below n (2 ^ 16) (r .mv) (r .target) (omega arith) (omega arith) (a .target-fits);
+      },
+      numbers-16 n rs most (f .1),
     )
+
+pub all-16 : (s : Table) (rs : List Request) → s .threads ≤ mostThreads → T (acceptsAllIn itself s rs) → AllFit16 rs
+all-16 s rs most a = numbers-16 (s .threads) rs most (all-numbers s rs a)

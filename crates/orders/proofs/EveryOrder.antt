@@ -5,7 +5,7 @@
 -- `Makes`, `Passes`, `FirstBad` and `historyBytes` stand in specs/Histories. Here are the statements, each with a short proof from the other files of this folder.
 use Prim.Native.Nat.{ℕ, _*_, _≤_}
 use native.Mathlib.Omega.{arith}
-use mathlib.Core.List.{List, [], _∷_, _++_}
+use mathlib.Core.List.{List, [], _++_}
 use mathlib.Core.Logic.{_↔_}
 use mathlib.Core.Path.{_≡_, sym, subst, ap, _∙_}
 use lib.Dec.{T, leb, leb→le}

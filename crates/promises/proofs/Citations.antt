@@ -60,6 +60,7 @@ proved =
       watch-told = apart.watched-apart;
       inside-told = apart.inside-apart;
       read-told = apart.readings-apart;
+      read-byte = small.read-byte;
       write-held = small.write-held;
       refused-keeps = kept.refused-keeps;
       fresh-room = rooms.fresh-exactly;

@@ -87,6 +87,7 @@ pub record Promises (M : Type 1) : Type 2 where
   pub watch-told : (a b : Watched) → watchNumber (watchedReply a) ≡ watchNumber (watchedReply b) → watchedReply a ≡ watchedReply b
   pub inside-told : (a b : Inside) → insideNumber (insideReply a) ≡ insideNumber (insideReply b) → insideReply a ≡ insideReply b
   pub read-told : (a b : Reading) → ByteCount (readingReply a) → ByteCount (readingReply b) → readNumber (readingReply a) ≡ readNumber (readingReply b) → readingReply a ≡ readingReply b
+  pub read-byte : (script out : List ℕ) → ByteCount (deliveryReply (readEntry script) out)
   -- Of a list of triples whose indices stand beside a refusal's number, which all are that a memory of 64-bit addresses holds, writing's answer is the reply itself.
   pub write-held : (n : ℕ) (triples out : List ℕ) → length triples ≤ 3 * valueBound → held (deliveryReply (writeEntry n triples) out) ≡ deliveryReply (writeEntry n triples) out
   -- A refused move leaves every byte of the table.

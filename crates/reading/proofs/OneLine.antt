@@ -1,15 +1,13 @@
 -- What one line leaves of the moves, by the test of its request's numbers, and by its form.
 use Prim.Native.Nat.{ℕ, _<_}
 use native.Mathlib.Omega.{arith}
-use mathlib.Core.Bool.{Bool, true, false, cond}
 use mathlib.Core.List.{List, [], _∷_}
 use mathlib.Core.Path.{_≡_, refl, sym, subst, ap, _∙_}
-use lib.Dec.{T, leb→le, ltb, ltb→lt, eqb, eqb→eq}
+use lib.Dec.{T}
 use Rattle.definitions.specs.Answers.{isAccepted, numberOf, answered, passesAll}
-use Rattle.definitions.specs.Bounds.{lastMove}
 use Rattle.definitions.specs.Forms.{formOf, lineTests, requestIn}
 use Rattle.definitions.specs.Forms as spec
-use Rattle.definitions.specs.Moves.{namesThread, numberTests}
+use Rattle.definitions.specs.Moves.{numberTests}
 use Rattle.definitions.specs.Plan.{bytesOf}
 use Rattle.definitions.specs.declared.Answer.{Answer}
 use Rattle.definitions.specs.declared.Refusal.{Refusal}
@@ -23,7 +21,8 @@ use Rattle.requests.specs.declared.Tested.the-variants.{Passed, Refused}
 use Rattle.theory.specs.Outputs.{RoomAt, PutAt}
 use Rattle.reading.specs.Moves.{AllTaken, TurnedDown, Taken}
 use Rattle.theory.proofs.Outputs.{none}
-use Rattle.theory.proofs.Replies.{peel, accepted-is, no-test}
+use Rattle.theory.proofs.Replies.{accepted-is, no-test}
+use Rattle.theory.proofs.RequestNumbers.{numbers-e, target-below}
 
 -- ---- a request
 
@@ -43,15 +42,12 @@ module _ (line n : ℕ) (r : Request) (tested : Tested) (e : (place : ℕ) → t
 
     pub small : n < 256 → Small r
     small h =
-        let a = peel _ _ passes in
-        let b = peel _ _ (a .1) in
-        let thread = ltb→lt (r .thread) n (a .0) in
-        let mv = leb→le (r .mv) lastMove (b .0) in
-        record { thread = omega arith; mv = omega arith; target = below (namesThread (r .mv)) (peel _ _ (b .1) .0) }
-      where
-        below : (b : Bool) → T (cond b (ltb (r .target) n) (eqb (r .target) 0)) → r .target < 256
-        below true t = let l = ltb→lt (r .target) n t in omega arith
-        below false t = let z = eqb→eq (r .target) 0 t in omega arith
+        let f = numbers-e line n r passes in
+        record {
+          thread = omega (arith, f .thread-fits);
+          mv = omega (arith, f .move-fits);
+          target = target-below n 256 (r .mv) (r .target) (omega arith) (omega arith) (f .target-fits);
+        }
 
     pub request-taken : {moves moves′ : List ℕ} {at next : ℕ} → PutAt moves at (bytesOf (r ∷ [])) moves′ next → AllTaken (numberTests line n r) (r ∷ []) moves at moves′ next
     request-taken p = record { passed = passes; put = p }

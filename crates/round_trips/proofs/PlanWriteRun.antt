@@ -6,23 +6,23 @@ use native.Mathlib.Nat.{zero-add}
 use native.Mathlib.Omega.{arith}
 use mathlib.Core.List.{List, [], _∷_, _++_, append-assoc}
 use mathlib.Core.Path.{_≡_, sym, subst, ap, _∙_}
-use lib.Dec.{T, leb, le→leb, lt→ltb}
+use lib.Dec.{T, leb, le→leb}
 use lib.ListN.{length, take}
-use Rattle.definitions.specs.Answers.{Reply, accepted, Seen, passesAll, filled, deliveryReply, deliveryOutput}
-use Rattle.definitions.specs.Bounds.{mostThreads, lastMove, mostScript, enoughOutput}
+use Rattle.definitions.specs.Answers.{Reply, accepted, Seen, filled, deliveryReply, deliveryOutput}
+use Rattle.definitions.specs.Bounds.{mostThreads, mostScript, enoughOutput}
 use Rattle.definitions.specs.Chains.{pairFor, historyIn, acceptsAllIn, history, acceptsAll, requestsOf}
 use Rattle.definitions.specs.Forms.{Form, spelled, lineForm}
-use Rattle.definitions.specs.Moves.{numberTests, effect, replyIn, stepIn, acceptsIn, moveTable}
+use Rattle.definitions.specs.Moves.{effect, replyIn, acceptsIn, moveTable}
 use Rattle.definitions.specs.PlainLock.{Pair, pairsOf, checkReply}
 use Rattle.definitions.specs.Plan.{plan, bytesOf, planEntry}
 use Rattle.definitions.specs.Run.{eventLine, eventLines, stepsLine, refusedLine, makes, turnFor, turnOf, printed, printedFirst, runText, runOutputOf, runEntry}
 use Rattle.definitions.specs.Scripts.{scriptOf, writeEntry}
-use Rattle.definitions.specs.Table.{Table, countFits, freshTable, tableOf, itself, byteTable, fresh}
+use Rattle.definitions.specs.Table.{countFits, freshTable, tableOf, byteTable, fresh}
 use Rattle.definitions.specs.Texts.{Line}
 use Rattle.definitions.specs.declared.Request.{Request}
 use Rattle.theory.specs.Outputs.{Delivered}
 use Rattle.round_trips.specs.Exchange.{Writable}
-use Rattle.orders.proofs.Chains.{accepts-fresh, own-step}
+use Rattle.orders.proofs.Chains.{accepts-fresh, accepted-numbers, all-numbers}
 use Rattle.orders.proofs.CheckReply.{passes-i}
 use Rattle.orders.proofs.EveryOrder.{checked, planned, plan-run}
 use Rattle.runs.proofs.StepsAndEvents.{pair-line}
@@ -30,30 +30,12 @@ use Rattle.runs.proofs.Suffices.{never-refused}
 use Rattle.theory.proofs.Bytes.{sized-e}
 use Rattle.theory.proofs.LineTurns.{first-printed, request-turn}
 use Rattle.theory.proofs.Outputs.{whole, delivered-as, answered-so, text-first}
-use Rattle.theory.proofs.Replies.{pass, no-test}
 use Rattle.theory.proofs.SoundKept.{accepted-sound}
 use Rattle.theory.proofs.Storages.{accepts-e, accepted-reply}
 use Rattle.theory.proofs.Tests.{and-l, and-r, and-i, cond-yes}
-use Rattle.theory.proofs.Ways.{Accepted, accepted-e}
-use Rattle.theory.proofs.Writes.{applied-keeps}
+use Rattle.theory.proofs.Ways.{accepted-e}
 use Rattle.theory.proofs.Triples.{bytes-read}
-use Rattle.round_trips.proofs.WrittenLines.{lineOf, linesFor, script-lines, Numbered, writable-e, bytes-writable, count-read, move-read}
-
--- ---- the numbers of accepted requests
-
-numbers-fit : (s : Table) (r : Request) → Accepted s r → T (passesAll (numberTests 0 (s .threads) r))
-numbers-fit s r a =
-    pass _ _ (lt→ltb (r .thread) (s .threads) (a .thread-fits)) (pass _ _ (le→leb (r .mv) lastMove (a .move-fits)) (pass _ _ (a .target-fits) no-test))
-
-all-numbered : (s : Table) (rs : List Request) → T (acceptsAllIn itself s rs) → Numbered (s .threads) rs
-unfolding acceptsAllIn
-all-numbered s [] a = tt
-all-numbered s (r ∷ rs) a =
-    let here = acceptsIn itself s r in
-    let rest = acceptsAllIn itself (stepIn itself s r) rs in
-    let t = accepts-e itself s r (and-l here rest a) .1 in
-    let n : stepIn itself s r .threads ≡ s .threads = ap (λ (x : Table). x .threads) (own-step s r t) ∙ applied-keeps s (effect s r .writes) in
-    (numbers-fit s r (accepted-e s r t), subst (λ (m : ℕ). Numbered m rs) n (all-numbered (stepIn itself s r) rs (and-r here rest a)))
+use Rattle.round_trips.proofs.WrittenLines.{lineOf, linesFor, script-lines, writable-e, bytes-writable, count-read, move-read}
 
 -- The plan for a history that the check passes can be written, if its script isn't too long.
 pub plan-writable : (n : ℕ) (bytes : List ℕ) (events : ℕ) → checkReply n bytes ≡ accepted events → length (scriptOf n (plan n (pairsOf bytes))) ≤ mostScript
@@ -63,7 +45,7 @@ plan-writable n bytes events e short =
     let rs = plan n (pairsOf bytes) in
     let m = planned n (p .least) (p .most) (pairsOf bytes) (p .allowed) in
     bytes-writable n rs (and-i (leb 1 n) (leb n mostThreads) (le→leb 1 n (p .least)) (le→leb n mostThreads (p .most)))
-    (all-numbered (freshTable n) rs (subst T (accepts-fresh n (p .least) (p .most) rs) (m .accepted))) short
+    (all-numbers (freshTable n) rs (subst T (accepts-fresh n (p .least) (p .most) rs) (m .accepted))) short
 
 -- ---- the run of requests that are all accepted
 
@@ -77,7 +59,7 @@ printed-move table line steps l ls r seen e = rw (e, printed)
 turn-made : (table : List ℕ) (r : Request) → T (acceptsIn byteTable table r) → turnOf table (lineForm (lineOf (spelled r))) ≡ makes r (effect (tableOf table) r .shows)
 turn-made table r t =
     let a = accepts-e byteTable table r t in
-    ap (turnOf table) (move-read (tableOf table .threads) r (sized-e table (a .0) .most) (numbers-fit (tableOf table) r (accepted-e (tableOf table) r (a .1))))
+    ap (turnOf table) (move-read (tableOf table .threads) r (sized-e table (a .0) .most) (accepted-numbers (tableOf table) r (accepted-e (tableOf table) r (a .1))))
     ∙ (request-turn table r (accepted-sound table r t .0) ∙ ap (turnFor r) (accepted-reply byteTable table r t))
 
 printed-all : (table : List ℕ) (line steps : ℕ) (rs : List Request) → T (acceptsAll table rs)

@@ -9,7 +9,6 @@ use Rattle.definitions.specs.Answers.{accepted, passesAll, filled, deliveryRepl
 use Rattle.definitions.specs.Bounds.{mostScript}
 use Rattle.definitions.specs.Chains.{requestsOf}
 use Rattle.definitions.specs.Forms.{Form, request, threadsLine, spelled, lineForm, firstTests, threadsFirst, lineTests, requestIn}
-use Rattle.definitions.specs.Moves.{numberTests}
 use Rattle.definitions.specs.Plan.{bytesOf}
 use Rattle.definitions.specs.Scripts.{scriptOf, linesTests, requestsIn, scriptTests, threadsOfLines, threadsOf, statedBy, writeEntry, readEntry}
 use Rattle.definitions.specs.Table.{countFits}
@@ -19,10 +18,11 @@ use Rattle.theory.specs.Outputs.{Delivered}
 use Rattle.round_trips.specs.Exchange.{Writable, Readable}
 use Rattle.theory.proofs.Outputs.{whole, delivered-as, answered-so, text-first}
 use Rattle.theory.proofs.Replies.{pass, no-test}
+use Rattle.theory.proofs.RequestNumbers.{NumbersFit, AllNumbersFit, numbers-i}
 use Rattle.theory.proofs.Stages.{count-most}
 use Rattle.theory.proofs.TestLists.{passes-join}
 use Rattle.theory.proofs.Triples.{triples-written}
-use Rattle.round_trips.proofs.WrittenLines.{lineOf, linesFor, script-lines, Numbered, other-place, writable-e, count-read, move-read}
+use Rattle.round_trips.proofs.WrittenLines.{lineOf, linesFor, script-lines, writable-e, count-read, move-read}
 
 -- what the lines of a script are read as: they pass their tests, and state N and these requests
 record ReadAs (n : ℕ) (rs : List Request) (ls : List Line) : Type 0 where
@@ -31,25 +31,25 @@ record ReadAs (n : ℕ) (rs : List Request) (ls : List Line) : Type 0 where
   pub requests : requestsIn (drop 1 ls) ≡ rs
 
 module _ (n : ℕ) (fits : T (countFits n)) where
-  line-read : (r : Request) → T (passesAll (numberTests 0 n r)) → lineForm (lineOf (spelled r)) ≡ request r
+  line-read : (r : Request) → NumbersFit n r → lineForm (lineOf (spelled r)) ≡ request r
   line-read r = move-read n r (count-most n fits)
 
-  lines-pass : (k : ℕ) (rs : List Request) → Numbered n rs → T (passesAll (linesTests k n (linesFor rs)))
+  lines-pass : (k : ℕ) (rs : List Request) → AllNumbersFit n rs → T (passesAll (linesTests k n (linesFor rs)))
   unfolding linesTests
   lines-pass k [] f = no-test
   lines-pass k (r ∷ rs) f =
       passes-join (lineTests k n (lineForm (lineOf (spelled r)))) (linesTests (suc k) n (linesFor rs))
-      (subst (λ (form : Form). T (passesAll (lineTests k n form))) (sym (line-read r (f .0))) (other-place n 0 k r (f .0)))
+      (subst (λ (form : Form). T (passesAll (lineTests k n form))) (sym (line-read r (f .0))) (numbers-i k n r (f .0)))
       (lines-pass (suc k) rs (f .1))
 
-  lines-state : (rs : List Request) → Numbered n rs → requestsIn (linesFor rs) ≡ rs
+  lines-state : (rs : List Request) → AllNumbersFit n rs → requestsIn (linesFor rs) ≡ rs
   unfolding requestsIn
   lines-state [] f = refl
   lines-state (r ∷ rs) f =
       ap (λ (form : Form). requestIn form ++ requestsIn (linesFor rs)) (line-read r (f .0))
       ∙ ap (λ (qs : List Request). r ∷ qs) (lines-state rs (f .1))
 
-  script-read : (rs : List Request) → Numbered n rs → ReadAs n rs (lineOf (threadsLine n) ∷ linesFor rs)
+  script-read : (rs : List Request) → AllNumbersFit n rs → ReadAs n rs (lineOf (threadsLine n) ∷ linesFor rs)
   unfolding scriptTests
   script-read rs f =
       let first = count-read n fits in

@@ -9,10 +9,10 @@ use mathlib.Core.Path.{_≡_, refl, ap, _∙_}
 use lib.Dec.{T, ltb, eqb, leb→le, le→leb, ltb→lt, lt→ltb, eqb→eq}
 use lib.ListN.{length}
 use Rattle.definitions.specs.Answers.{passesAll}
-use Rattle.definitions.specs.Bounds.{mostThreads, lastMove, mostScript}
+use Rattle.definitions.specs.Bounds.{mostThreads, mostScript}
 use Rattle.definitions.specs.Chains.{requestsOf}
 use Rattle.definitions.specs.Forms.{threads, request, threadsLine, actText, spelled, lineForm}
-use Rattle.definitions.specs.Moves.{namesThread, targetFits, numberTests}
+use Rattle.definitions.specs.Moves.{namesThread, numberTests}
 use Rattle.definitions.specs.Plan.{bytesOf}
 use Rattle.definitions.specs.Scripts.{ended, movesText, scriptOf, triplesTests}
 use Rattle.definitions.specs.Table.{countFits}
@@ -24,6 +24,7 @@ use Rattle.forms.proofs.Spelling.{threads-read, request-read}
 use Rattle.theory.proofs.Lengths.{bytes-length}
 use Rattle.theory.proofs.Numbers.{decimal-small, decimal-more, by-tens}
 use Rattle.theory.proofs.Replies.{peel, pass, no-test}
+use Rattle.theory.proofs.RequestNumbers.{NumbersFit, AllNumbersFit, numbers-e, numbers-i}
 use Rattle.theory.proofs.Stages.{count-most}
 use Rattle.theory.proofs.TestLists.{passes-split, passes-join}
 use Rattle.theory.proofs.Tests.{T-false, and-l, and-r, and-i, ne-T, eq-T}
@@ -108,34 +109,24 @@ script-lines n rs = first-line (threadsLine n) (movesText rs) (threads-unbroken 
 
 -- ---- what the tests of a list to be written say
 
--- every request of a list passes the tests of its numbers
-abbrev pub Numbered : ℕ → List Request → Type 0
-Numbered n [] = Unit {0}
-Numbered n (r ∷ rs) = T (passesAll (numberTests 0 n r)) × Numbered n rs
-
 module _ (n : ℕ) where
-  -- a request passes them at every place or at none
-  pub other-place : (j k : ℕ) (r : Request) → T (passesAll (numberTests j n r)) → T (passesAll (numberTests k n r))
-  unfolding passesAll
-  other-place j k r t = t
-
-  triples-e : (k : ℕ) (rs : List Request) → T (passesAll (triplesTests k n rs)) → Numbered n rs
+  triples-e : (k : ℕ) (rs : List Request) → T (passesAll (triplesTests k n rs)) → AllNumbersFit n rs
   unfolding triplesTests
   triples-e k [] t = tt
   triples-e k (r ∷ rs) t =
       let p = passes-split (numberTests k n r) (triplesTests (suc k) n rs) t in
-      (other-place k 0 r (p .0), triples-e (suc k) rs (p .1))
+      (numbers-e k n r (p .0), triples-e (suc k) rs (p .1))
 
-  triples-i : (k : ℕ) (rs : List Request) → Numbered n rs → T (passesAll (triplesTests k n rs))
+  triples-i : (k : ℕ) (rs : List Request) → AllNumbersFit n rs → T (passesAll (triplesTests k n rs))
   unfolding triplesTests
   triples-i k [] f = no-test
-  triples-i k (r ∷ rs) f = passes-join (numberTests k n r) (triplesTests (suc k) n rs) (other-place 0 k r (f .0)) (triples-i (suc k) rs (f .1))
+  triples-i k (r ∷ rs) f = passes-join (numberTests k n r) (triplesTests (suc k) n rs) (numbers-i k n r (f .0)) (triples-i (suc k) rs (f .1))
 
 -- what writing asks of a list
 pub record ListFits (n : ℕ) (triples : List ℕ) : Type 0 where
   pub count : T (countFits n)
   pub whole : length triples % 3 ≡ 0
-  pub numbers : Numbered n (requestsOf triples)
+  pub numbers : AllNumbersFit n (requestsOf triples)
   pub short : length (scriptOf n (requestsOf triples)) ≤ mostScript
 
 module _ (n : ℕ) (triples : List ℕ) where
@@ -163,7 +154,7 @@ module _ (n : ℕ) (triples : List ℕ) where
       (passes-join (triplesTests 0 n (requestsOf triples)) _ (triples-i n 0 (requestsOf triples) (f .numbers)) (pass _ _ (le→leb size mostScript (f .short)) no-test)))
 
 -- the bytes of requests that fit can be written
-pub bytes-writable : (n : ℕ) (rs : List Request) → T (countFits n) → Numbered n rs → length (scriptOf n rs) ≤ mostScript → Writable n (bytesOf rs)
+pub bytes-writable : (n : ℕ) (rs : List Request) → T (countFits n) → AllNumbersFit n rs → length (scriptOf n rs) ≤ mostScript → Writable n (bytesOf rs)
 bytes-writable n rs c f short =
     writable-i n (bytesOf rs)
     record {
@@ -175,25 +166,17 @@ bytes-writable n rs c f short =
 
 -- ---- requests that can be spelled
 
--- a target that fits n fits a larger number
-target-more : (n m mv t : ℕ) → n ≤ m → T (targetFits n mv t) → T (targetFits m mv t)
-target-more n m mv t l = by (namesThread mv)
-  where
-    by : (b : Bool) → T (cond b (ltb t n) (eqb t 0)) → T (cond b (ltb t m) (eqb t 0))
-    by true u = let below = ltb→lt t n u in lt→ltb t m (omega arith)
-    by false u = u
-
-can-be-spelled : (n : ℕ) (r : Request) → n ≤ mostThreads → T (passesAll (numberTests 0 n r)) → Spellable r
-can-be-spelled n r most t =
-    let a = peel _ _ t in
-    let b = peel _ _ (a .1) in
-    let c = peel _ _ (b .1) in
-    let below = ltb→lt (r .thread) n (a .0) in
+can-be-spelled : (n : ℕ) (r : Request) → n ≤ mostThreads → NumbersFit n r → Spellable r
+can-be-spelled n r most f =
     record {
-      thread-fits = omega arith;
-      move-fits = leb→le (r .mv) lastMove (b .0);
-      target-fits = target-more n numberBound (r .mv) (r .target) (omega arith) (c .0);
+      thread-fits = omega (arith, f .thread-fits);
+      move-fits = f .move-fits;
+      target-fits = target-more (namesThread (r .mv)) (f .target-fits);
     }
+  where
+    target-more : (b : Bool) → T (cond b (ltb (r .target) n) (eqb (r .target) 0)) → T (cond b (ltb (r .target) numberBound) (eqb (r .target) 0))
+    target-more true u = let below = ltb→lt (r .target) n u in lt→ltb (r .target) numberBound (omega arith)
+    target-more false u = u
 
 -- ---- the lines as they are read
 
@@ -202,5 +185,5 @@ pub count-read : (n : ℕ) → T (countFits n) → lineForm (lineOf (threadsLine
 count-read n t = let most = count-most n t in threads-read n (omega arith)
 
 -- and a move's line says the move
-pub move-read : (n : ℕ) (r : Request) → n ≤ mostThreads → T (passesAll (numberTests 0 n r)) → lineForm (lineOf (spelled r)) ≡ request r
+pub move-read : (n : ℕ) (r : Request) → n ≤ mostThreads → NumbersFit n r → lineForm (lineOf (spelled r)) ≡ request r
 move-read n r most t = request-read r (can-be-spelled n r most t)

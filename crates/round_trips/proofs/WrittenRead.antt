@@ -24,9 +24,10 @@ use Rattle.forms.proofs.Spelling.{read-spelled}
 use Rattle.runs.proofs.Lines.{lineSize, sizeOf, lines-size}
 use Rattle.theory.proofs.Outputs.{whole, delivered-as, answered-so, text-first}
 use Rattle.theory.proofs.Replies.{peel}
+use Rattle.theory.proofs.RequestNumbers.{AllNumbersFit, numbers-e}
 use Rattle.theory.proofs.TestLists.{passes-split}
 use Rattle.theory.proofs.Triples.{bytes-read}
-use Rattle.round_trips.proofs.WrittenLines.{lineOf, Numbered, other-place, bytes-writable}
+use Rattle.round_trips.proofs.WrittenLines.{lineOf, bytes-writable}
 
 -- ---- one line
 
@@ -58,7 +59,7 @@ kept l f = cond (isNote f) [] (ended (l .text))
 
 -- the numbers of requests fit, and a script of them is a text of at most so many bytes
 record Rewritten (n : ℕ) (rs : List Request) (script text : List ℕ) (size : ℕ) : Type 0 where
-  pub numbers : Numbered n rs
+  pub numbers : AllNumbersFit n rs
   pub same : script ≡ text
   pub short : length text ≤ size
 
@@ -76,7 +77,7 @@ unfolding movesText
 line-rewritten n k l (threads m) rs text size is t w = absurd (peel _ _ t .0)
 line-rewritten n k l (request r) rs text size is t w =
     let v = with-line n rs (movesText rs) text size l (spelled r) is w in
-    record { numbers = (other-place n k 0 r t, w .numbers); same = v .same; short = v .short }
+    record { numbers = (numbers-e k n r t, w .numbers); same = v .same; short = v .short }
 line-rewritten n k l note rs text size is t w = record { numbers = w .numbers; same = w .same; short = omega arith }
 line-rewritten n k l bad rs text size is t w = absurd (peel _ _ t .0)
 

@@ -13,6 +13,7 @@ pub mod Numbers
 pub mod Digits
 pub mod Replies
 pub mod TestLists
+pub mod RequestNumbers
 pub mod Outputs
 pub mod Writes
 pub mod Places

@@ -3,17 +3,19 @@ use Prim.Native.Nat.{ℕ, suc, _+_, _*_, _/_, _≤_, _<_}
 use native.Mathlib.Omega.{arith}
 use mathlib.Core.List.{List, [], _∷_, _++_}
 use mathlib.Core.Path.{_≡_, ap}
-use lib.Dec.{T, leb→le}
+use lib.Dec.{T}
 use lib.ListN.{length, length-append}
 use Rattle.definitions.specs.Answers.{passesAll}
 use Rattle.definitions.specs.Chains.{requestsOf}
 use Rattle.definitions.specs.Forms.{threadsLine, spelled}
+use Rattle.definitions.specs.Moves.{numberTests}
 use Rattle.definitions.specs.Scripts.{ended, movesText, scriptOf, triplesTests}
 use Rattle.definitions.specs.declared.Request.{Request}
 use Rattle.theory.specs.Outputs.{RoomAt, PutAt}
 use Rattle.spelling.proofs.LineTexts.{move-least}
 use Rattle.text.proofs.Parts.{Partly, room-part, part-put, all-parts}
-use Rattle.theory.proofs.Replies.{peel}
+use Rattle.theory.proofs.RequestNumbers.{numbers-e}
+use Rattle.theory.proofs.TestLists.{passes-split}
 use Rattle.theory.proofs.Triples.{tripleAt, triplesFrom, triples-next, triples-end}
 
 -- the lines of the triples from index k on
@@ -80,10 +82,9 @@ moves-long : (k n : ℕ) (rs : List Request) → T (passesAll (triplesTests k n 
 unfolding triplesTests movesText
 moves-long k n [] p = omega arith
 moves-long k n (r ∷ rs) p =
-    let a = peel _ _ p in
-    let b = peel _ _ (a .1) in
-    let rest = moves-long (suc k) n rs (peel _ _ (b .1) .1) in
-    omega (arith, move-least (r .thread) (r .mv) (r .target) (leb→le (r .mv) 6 (b .0)), length-append (ended (spelled r)) (movesText rs))
+    let q = passes-split (numberTests k n r) (triplesTests (suc k) n rs) p in
+    let rest = moves-long (suc k) n rs (q .1) in
+    omega (arith, move-least (r .thread) (r .mv) (r .target) (numbers-e k n r (q .0) .move-fits), length-append (ended (spelled r)) (movesText rs))
 
 pub script-long : (n : ℕ) (rs : List Request) → T (passesAll (triplesTests 0 n rs)) → 9 * length rs ≤ length (scriptOf n rs)
 unfolding scriptOf
