@@ -38,8 +38,9 @@ pub fn run(script: &[u8], out: &mut [u8]) -> Result<usize, Refusal> {
 /// # Errors
 ///
 /// In this order: [`Refusal::BadSize`]; [`Refusal::BadForm`] for a length that
-/// isn't three times a whole number; for the first bad triple, with its index,
-/// [`Refusal::NoThread`], [`Refusal::NoMove`] or [`Refusal::BadTarget`];
+/// isn't three times a whole number; for the first bad triple, with its index
+/// (2^55 - 1 stands for every larger one), [`Refusal::NoThread`],
+/// [`Refusal::NoMove`] or [`Refusal::BadTarget`];
 /// [`Refusal::BadForm`] for a script that would be longer than
 /// [`MAX_SCRIPT`](crate::MAX_SCRIPT); [`Refusal::NoRoom`].
 ///
