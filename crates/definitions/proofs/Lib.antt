@@ -1,5 +1,6 @@
--- The marked examples of the scope paper, and examples of 02 §1 to §3.
+-- The marked examples of the scope paper, and examples of 02 §1 to §4.
 pub mod Marked
 pub mod Waiting
 pub mod Watching
 pub mod Writing
+pub mod Measuring

@@ -1,8 +1,8 @@
--- The plan for a history: the requests of each event, the plan's bytes, and the plan entry.
+-- The plan for a history: the requests of each event, the plan's bytes, the plan entry, and what is answered of a plan's length.
 use Prim.Native.Nat.{ℕ}
 use mathlib.Core.List.{List, [], _∷_, _++_}
 use lib.ListN.{length, getD}
-use Rattle.definitions.specs.Answers.{Delivery}
+use Rattle.definitions.specs.Answers.{Reply, answered, Delivery}
 use Rattle.definitions.specs.Codes.{go, callShared, callExclusive, setMove, clearMove}
 use Rattle.definitions.specs.Moves.{ask}
 use Rattle.definitions.specs.PlainLock.{Pair, pairsOf, checkTests}
@@ -46,3 +46,7 @@ bytesOf (r ∷ rs) = r .thread ∷ r .mv ∷ r .target ∷ bytesOf rs
 abbrev pub planEntry : ℕ → List ℕ → Delivery ℕ
 planEntry n bytes =
     record { tests = checkTests n bytes; text = bytesOf (plan n (pairsOf bytes)); answer = length (plan n (pairsOf bytes)) }
+
+-- "Given N and a history, answer the number of moves of its plan without making the plan. .. A history that the check turns down gets the check's number and place." (02 §4)
+unfoldable pub planLengthReply : ℕ → List ℕ → Reply ℕ
+planLengthReply n bytes = answered (checkTests n bytes) (length (plan n (pairsOf bytes)))
