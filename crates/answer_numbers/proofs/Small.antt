@@ -17,7 +17,7 @@ use Rattle.definitions.specs.Nodes.{nodesOf, nodesEntry}
 use Rattle.definitions.specs.OpenMoves.{openEntry}
 use Rattle.definitions.specs.Phases.{nodeOf}
 use Rattle.definitions.specs.PlainLock.{Pair, pairsOf, testsOf, checkTests, checkReply}
-use Rattle.definitions.specs.Plan.{planRows, planOf, plan, planEntry}
+use Rattle.definitions.specs.Plan.{planOf, plan, planEntry, planLengthReply}
 use Rattle.definitions.specs.Run.{runEntry}
 use Rattle.definitions.specs.Scripts.{scriptOf, triplesTests, writeTests, writeEntry, linesTests, scriptTests, threadsOfLines, Listed, readEntry}
 use Rattle.definitions.specs.Table.{sized, freshEntry, tableOf}
@@ -33,6 +33,7 @@ use Rattle.theory.proofs.Lengths.{gather-length, pairs-length, fresh-length}
 use Rattle.theory.proofs.Lists.{length-listOf}
 use Rattle.theory.proofs.OpenMovesExact.{open-short}
 use Rattle.theory.proofs.Outputs.{answered-so}
+use Rattle.theory.proofs.PlanLengths.{event-most}
 use Rattle.theory.proofs.Replies.{peel, pass}
 use Rattle.theory.proofs.Stages.{count-most}
 use Rattle.theory.proofs.TestLists.{passes-append, passes-split}
@@ -126,66 +127,22 @@ unfolding checkReply
 check-small n bytes r e =
     rw e (small-answer countValue (checkTests n bytes) (length (pairsOf bytes)) valueBound (check-places n bytes) (λ p. omega (arith, checked n bytes p .1)))
 
--- all lists of a table of lists are short
-abbrev AllShort : {A : Type 0} → ℕ → List (List A) → Type 0
-AllShort bound [] = Unit {0}
-AllShort bound (xs ∷ xss) = (length xs ≤ bound) × AllShort bound xss
-
-short-at : {A : Type 0} (bound : ℕ) (xss : List (List A)) (k : ℕ) → AllShort bound xss → length (getD xss k []) ≤ bound
-short-at bound [] k h = omega arith
-short-at bound (xs ∷ xss) zero h = h .0
-short-at bound (xs ∷ xss) (suc k) h = short-at bound xss k (h .1)
-
--- an event takes at most 402 moves, event 6 for 200 threads
-event-moves : (n : ℕ) (x : Pair) → n ≤ mostThreads → length (planOf n x) ≤ 402
-unfolding planOf
-event-moves n x l = short-at 402 (planRows n i) (x .event) rows
-  where
-    i : ℕ
-    i = x .thread
-
-    last : List Request
-    last = ask i go 0 ∷ []
-
-    sets : ℕ → List Request
-    sets t = ask i setMove t ∷ ask i go 0 ∷ []
-
-    clears : ℕ → List Request
-    clears t = ask i clearMove t ∷ []
-
-    rows : AllShort 402 (planRows n i)
-    rows = (
-      omega arith,
-      (
-        omega arith,
-        (
-          omega arith,
-          (
-            omega arith,
-            (
-              omega arith,
-              (
-                omega arith,
-                (
-                  omega (arith, length-append (gather n sets) last, gather-length sets 2 n (λ t. refl)),
-                  (omega (arith, length-append (gather n clears) last, gather-length clears 1 n (λ t. refl)), (omega arith, tt)),
-                ),
-              ),
-            ),
-          ),
-        ),
-      ),
-    )
-
-plan-moves : (n : ℕ) (h : List Pair) → n ≤ mostThreads → length (plan n h) ≤ 402 * length h
+plan-moves : (n : ℕ) (h : List Pair) → n ≤ mostThreads → length (plan n h) ≤ 613 * length h
 unfolding plan
 plan-moves n [] l = omega arith
-plan-moves n (x ∷ xs) l = omega (arith, length-append (planOf n x) (plan n xs), event-moves n x l, plan-moves n xs l)
+plan-moves n (x ∷ xs) l = omega (arith, length-append (planOf n x) (plan n xs), event-most n x, plan-moves n xs l)
+
+-- so the plan of a history that the check passes is short
+plan-short : (n : ℕ) (bytes : List ℕ) → T (passesAll (checkTests n bytes)) → length (plan n (pairsOf bytes)) < valueBound
+plan-short n bytes p = let c = checked n bytes p in omega (arith, plan-moves n (pairsOf bytes) (c .0), c .1)
+
+pub length-small : (n : ℕ) (bytes : List ℕ) (r : Reply ℕ) → r ≡ planLengthReply n bytes → valueIn r < valueBound
+unfolding planLengthReply
+length-small n bytes r e = rw e (small-answer countValue (checkTests n bytes) (length (plan n (pairsOf bytes))) valueBound (check-places n bytes) (plan-short n bytes))
 
 pub plan-small : (n : ℕ) (bytes : List ℕ) → SmallReply (planEntry n bytes)
 plan-small n bytes =
-    small-delivery (planEntry n bytes) (check-places n bytes)
-    (λ p. let c = checked n bytes p in omega (arith, plan-moves n (pairsOf bytes) (c .0), c .1))
+    small-delivery (planEntry n bytes) (check-places n bytes) (plan-short n bytes)
 
 -- ---- the run
 

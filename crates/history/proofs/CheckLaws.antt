@@ -1,4 +1,4 @@
--- What the check's loop keeps between two pairs (`Passed`), and that a turn of the loop judges its pair as the plain lock does; then the check's own tests for 1 and 8.
+-- What the pass keeps between two pairs (`Passed`), and that a turn of its loop judges its pair as the plain lock does; then the tests for 1 and 8.
 use Prim.Native.Nat.{ℕ, zero, suc, _+_, _*_, _/_, _%_, _≤_, _<_}
 use native.Mathlib.Omega.{arith}
 use mathlib.Core.Bool.{Bool, true, false, _&&_}
@@ -8,11 +8,14 @@ use mathlib.Core.Path.{_≡_, refl, sym, subst, ap, _∙_, fun-ext}
 use lib.Dec.{T, leb, eqb, leb→le, le→leb, eqb→eq}
 use lib.ListN.{length, getD, set, take, replicate, length-set, length-replicate}
 use lib.Seq.{getD-set-same, getD-set-other}
-use Rattle.definitions.specs.Answers.{numberOf, accepted, refused, Test, test, answered, passesAll}
+use Rattle.definitions.specs.Answers.{numberOf, answerReply, accepted, refused, Test, test, answered, passesAll}
 use Rattle.definitions.specs.Bounds.{mostThreads, mostHistory}
 use Rattle.definitions.specs.PlainLock.{Pair, pairsOf, Places, placesIn, atStart, placeAfter, advanced, placesAfter, pairTests, testsOf, checkTests, checkReply, howManyAt}
+use Rattle.definitions.specs.Plan.{plan, planLengthReply}
 use Rattle.definitions.specs.Table.{countFits}
 use Rattle.definitions.specs.Threads.{gather}
+use Rattle.definitions.specs.declared.Answer.{Answer}
+use Rattle.definitions.specs.declared.Answer.the-variants.{Done, Refused}
 use Rattle.definitions.specs.declared.Refusal.{Refusal}
 use Rattle.history.specs.Counts.{standingOf, standingAfter, Counted}
 use Rattle.history.specs.Pairs.{pairsReply}
@@ -24,7 +27,7 @@ use Rattle.theory.proofs.Lists.{zeros}
 use Rattle.theory.proofs.Pairs.{pairAt}
 use Rattle.theory.proofs.Quantifiers.{howMany-none}
 use Rattle.theory.proofs.Replies.{all-passed, passed, failed, peel, pass}
-use Rattle.theory.proofs.TestLists.{one-more, first-failed}
+use Rattle.theory.proofs.TestLists.{answered-e, other-answer, one-more, first-failed}
 use Rattle.theory.proofs.Tests.{and-l, and-r, and-i, true-T, false-T, eq-T, same?}
 use Rattle.theory.proofs.Writes.{update-same, update-other}
 use Rattle.history.proofs.PlainLaws.{noPair, places-more, in-round}
@@ -83,12 +86,13 @@ passed-none n bytes =
       tested = tt;
     }
 
--- past the last pair
-pub passed-all : (n : ℕ) (bytes a : List ℕ) (shared exclusive k : ℕ) → Passed n bytes a shared exclusive k → length bytes / 2 ≤ k → accepted (length bytes / 2) ≡ pairsReply n bytes
-passed-all n bytes a shared exclusive k s l =
+-- past the last pair: all have passed, and what was counted is the length of the plan
+pub passed-all : (n : ℕ) (bytes a : List ℕ) (shared exclusive k moves : ℕ) → Passed n bytes a shared exclusive k → length bytes / 2 ≤ k → moves ≡ length (plan n (pairsOf bytes))
+    → accepted moves ≡ pairsReply n bytes
+passed-all n bytes a shared exclusive k moves s l m =
     let e : k ≡ length (pairsOf bytes) = omega (arith, s .within, pairs-length bytes) in
-    ap accepted (sym (pairs-length bytes))
-    ∙ sym (all-passed (length (pairsOf bytes)) (gather (length (pairsOf bytes)) (testsOf n (pairsOf bytes))) (subst (λ (m : ℕ). T (passesAll (gather m (testsOf n (pairsOf bytes))))) e (s .tested)))
+    let tests = gather (length (pairsOf bytes)) (testsOf n (pairsOf bytes)) in
+    ap accepted m ∙ sym (all-passed (length (plan n (pairsOf bytes))) tests (subst (λ (j : ℕ). T (passesAll (gather j (testsOf n (pairsOf bytes))))) e (s .tested)))
 
 -- pair k, as a turn of the loop judges it
 module _ (n : ℕ) (bytes a : List ℕ) (shared exclusive k : ℕ) (s : Passed n bytes a shared exclusive k) (l : k < length bytes / 2) where
@@ -116,7 +120,7 @@ module _ (n : ℕ) (bytes a : List ℕ) (shared exclusive k : ℕ) (s : Passed n
   pub bad-here : (v : Verdict) (r : Refusal) → v ≡ Bad r → VerdictOf n x standing v → refused (numberOf r) k ≡ pairsReply n bytes
   bad-here v r w judged =
       let after = standingAfter standing (x .event) in
-      sym (first-failed (testsOf n (pairsOf bytes)) (length (pairsOf bytes)) after k (length (pairsOf bytes)) (numberOf r) k
+      sym (first-failed (testsOf n (pairsOf bytes)) (length (plan n (pairsOf bytes))) after k (length (pairsOf bytes)) (numberOf r) k
       (omega (arith, pairs-length bytes)) (s .tested)
       (ap (λ (ts : List Test). answered ts after) tests-here ∙ bad-verdict n (placesIn a) x standing standing-is v r w judged k))
 
@@ -163,17 +167,16 @@ module _ (n : ℕ) (bytes : List ℕ) where
   abbrev form : Test
   form = test 8 formed
 
-  pub bad-size : countFits n ≡ false → refused 1 0 ≡ checkReply n bytes
-  unfolding checkReply
-  bad-size e = sym (failed size (form ∷ pairs) events (false-T (countFits n) e))
+  -- whatever is answered where all are passed
+  module _ (a : ℕ) where
+    pub bad-size : countFits n ≡ false → refused 1 0 ≡ answered (checkTests n bytes) a
+    bad-size e = sym (failed size (form ∷ pairs) a (false-T (countFits n) e))
 
-  pub bad-form : countFits n ≡ true → formed ≡ false → refused 8 0 ≡ checkReply n bytes
-  unfolding checkReply
-  bad-form e f = sym (passed size (form ∷ pairs) events (true-T (countFits n) e) ∙ failed form pairs events (false-T formed f))
+    pub bad-form : countFits n ≡ true → formed ≡ false → refused 8 0 ≡ answered (checkTests n bytes) a
+    bad-form e f = sym (passed size (form ∷ pairs) a (true-T (countFits n) e) ∙ failed form pairs a (false-T formed f))
 
-  pub by-pairs : countFits n ≡ true → formed ≡ true → pairsReply n bytes ≡ checkReply n bytes
-  unfolding checkReply
-  by-pairs e f = sym (passed size (form ∷ pairs) events (true-T (countFits n) e) ∙ passed form pairs events (true-T formed f))
+    pub by-pairs : countFits n ≡ true → formed ≡ true → answered (gather (length (pairsOf bytes)) (testsOf n (pairsOf bytes))) a ≡ answered (checkTests n bytes) a
+    by-pairs e f = sym (passed size (form ∷ pairs) a (true-T (countFits n) e) ∙ passed form pairs a (true-T formed f))
 
   -- all tests, as numbers and the pairs' tests
   pub tests-e : T (passesAll (checkTests n bytes)) → Formed n bytes × T (passesAll (gather (length (pairsOf bytes)) (testsOf n (pairsOf bytes))))
@@ -193,3 +196,19 @@ module _ (n : ℕ) (bytes : List ℕ) where
   tests-i f t =
       pass size (form ∷ pairs) (and-i (leb 1 n) (leb n mostThreads) (le→leb 1 n (f .least)) (le→leb n mostThreads (f .most)))
       (pass form pairs (and-i (eqb (length bytes % 2) 0) (leb (length bytes) mostHistory) (eq-T (length bytes % 2) 0 (f .even)) (le→leb (length bytes) mostHistory (f .short))) t)
+
+-- ---- the check by the plan's length
+
+module _ (n : ℕ) (bytes : List ℕ) (r : Answer) (e : answerReply r ≡ planLengthReply n bytes) where
+  -- what turns the one down turns the other down
+  pub length-refused : (reason : Refusal) (place : ℕ) → r ≡ Refused reason place → answerReply r ≡ checkReply n bytes
+  unfolding planLengthReply checkReply
+  length-refused reason place q =
+      ap answerReply q
+      ∙ sym (other-answer (length (pairsOf bytes)) (checkTests n bytes) (length (plan n (pairsOf bytes))) (numberOf reason) place (sym e ∙ ap answerReply q))
+
+  pub length-told : (moves : ℕ) → r ≡ Done moves → accepted (length bytes / 2) ≡ checkReply n bytes
+  unfolding planLengthReply checkReply
+  length-told moves q =
+      let passes = answered-e (checkTests n bytes) (length (plan n (pairsOf bytes))) moves (sym e ∙ ap answerReply q) .0 in
+      ap accepted (sym (pairs-length bytes)) ∙ sym (all-passed (length (pairsOf bytes)) (checkTests n bytes) passes)

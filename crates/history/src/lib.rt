@@ -1,16 +1,20 @@
-// The check of a history, pair by pair. One pass keeps each thread's place in its round and how many threads are in shared
-// and in exclusive; `judge` decides an event from these plain counts alone, and answers what they are after it.
+// The check of a history, pair by pair, and the length of its plan. One pass keeps each thread's place in its round and how
+// many threads are in shared and in exclusive; `judge` decides an event from these plain counts alone, and answers what they
+// are after it. The pass also adds up how many moves the plan takes for the events.
 use definitions::Answer;
 use definitions::Event;
 use definitions::MOST_HISTORY;
 use definitions::Refusal;
 use definitions::count_fits;
+use shares::share_of;
 ghost use Prim.Native.Nat.{ℕ, _+_, _%_, _^_, _≤_};
 ghost use mathlib.Core.Bool.{cond};
 ghost use mathlib.Core.Path.{_≡_};
+ghost use lib.ListN.{length};
 ghost use Rattle.definitions.specs.Answers.{numberOf, answered, answerReply};
-ghost use Rattle.definitions.specs.Bounds.{mostThreads};
+ghost use Rattle.definitions.specs.Bounds.{mostThreads, mostHistory};
 ghost use Rattle.definitions.specs.PlainLock.{checkReply};
+ghost use Rattle.definitions.specs.Plan.{planLengthReply};
 ghost use Rattle.history.specs.Counts.{Counted, countTests, standingAfter, verdictReply};
 ghost use Rattle.history.specs.Pairs.{pairsReply};
 ghost use Rattle.history.specs.Rows.{eventRow};
@@ -121,15 +125,19 @@ pub fn judge(threads: u16, thread: u16, code: u16, before: Standing) -> Verdict
     Verdict::Bad(reason(known, next))
 }
 
-// One pass. Any byte is an index of the 256 places, so a thread's place is looked up before the thread is judged; those below
-// N are the only ones written.
-fn check_pairs(threads: u16, history: &[u8]) -> Answer
+// One pass, which judges each pair and adds up the shares of its event in the plan's length. Any byte is an index of the 256
+// places, so a thread's place is looked up before the thread is judged; those below N are the only ones written. The shares
+// are added up apart: a product in the loop would be compiled to branches.
+fn pass_pairs(threads: u16, history: &[u8]) -> Answer
     requires { ⌜ threads ≤ mostThreads ⌝ }
+    requires { ⌜ length (now history) ≤ mostHistory ⌝ }
     ensures { λ r. ⌜ answerReply r ≡ pairsReply threads (now (history .entry)) ⌝ }
 {
     let mut places = [0u8; 256];
     let mut shared: u16 = 0;
     let mut exclusive: u16 = 0;
+    let mut once: usize = 0;
+    let mut each: usize = 0;
     let events = history.len() / 2;
     let mut k: usize = 0;
     while k < events {
@@ -152,15 +160,19 @@ fn check_pairs(threads: u16, history: &[u8]) -> Answer
             }
             Verdict::Bad(refusal) => return Answer::Refused(refusal, k),
         }
+        let share = share_of(code);
+        once += share.once;
+        each += share.each;
         k += 1;
     }
-    Answer::Done(events)
+    let moves = once + each * threads as usize;
+    Answer::Done(moves)
 }
 
-// Refusals 1 and 8; then pair by pair 9, 10, 11, with the index of the first bad pair. An accepted history answers its number
-// of events.
-pub fn check(threads: u16, history: &[u8]) -> Answer
-    ensures { λ r. ⌜ answerReply r ≡ checkReply threads (now (history .entry)) ⌝ }
+// How many moves the plan for a history makes. Refusals 1 and 8; then pair by pair 9, 10, 11, with the index of the first bad
+// pair.
+pub fn plan_length(threads: u16, history: &[u8]) -> Answer
+    ensures { λ r. ⌜ answerReply r ≡ planLengthReply threads (now (history .entry)) ⌝ }
 {
     let count = threads as usize;
     if !count_fits(count) {
@@ -170,5 +182,16 @@ pub fn check(threads: u16, history: &[u8]) -> Answer
     if !formed {
         return Answer::Refused(Refusal::BadForm, 0);
     }
-    check_pairs(threads, history)
+    pass_pairs(threads, history)
+}
+
+// The check: the same pass, whose count of moves is not used. An accepted history answers its number of events.
+pub fn check(threads: u16, history: &[u8]) -> Answer
+    ensures { λ r. ⌜ answerReply r ≡ checkReply threads (now (history .entry)) ⌝ }
+{
+    let passed = plan_length(threads, history);
+    let Answer::Done(_) = passed else {
+        return passed;
+    };
+    Answer::Done(history.len() / 2)
 }

@@ -76,6 +76,7 @@ first-bad n h number place e =
 
 -- a refusal by 9 or above is the first bad pair's
 pub check-refused : (n : ℕ) (bytes : List ℕ) (number place : ℕ) → checkReply n bytes ≡ refused number place → 9 ≤ number → FirstBad n (pairsOf bytes) number place
+unfolding checkReply
 check-refused n bytes number place e l = by (countFits n) (formed n bytes) refl refl
   where
     -- not by 1 or 8
@@ -83,6 +84,6 @@ check-refused n bytes number place e l = by (countFits n) (formed n bytes) refl 
     low k few d = absurd (let z : k ≡ number = cc in omega arith)
 
     by : (a b : Bool) → countFits n ≡ a → formed n bytes ≡ b → FirstBad n (pairsOf bytes) number place
-    by false b p q = low 1 (omega arith) (bad-size n bytes p)
-    by true false p q = low 8 (omega arith) (bad-form n bytes p q)
-    by true true p q = first-bad n (pairsOf bytes) number place (by-pairs n bytes p q ∙ e)
+    by false b p q = low 1 (omega arith) (bad-size n bytes (length (pairsOf bytes)) p)
+    by true false p q = low 8 (omega arith) (bad-form n bytes (length (pairsOf bytes)) p q)
+    by true true p q = first-bad n (pairsOf bytes) number place (by-pairs n bytes (length (pairsOf bytes)) p q ∙ e)

@@ -1,4 +1,3 @@
--- Laws of the moves counted, of the loops over the pairs and of the entry; each file says what it shows.
-pub mod ShareLaws
+-- Laws of the loop over the pairs and of the entry; each file says what it shows.
 pub mod PairLoops
 pub mod EntryLaws

@@ -1,4 +1,4 @@
--- The plan's two loops over the pairs: what is counted or written of the pairs so far, and the plan of those that are left.
+-- The plan's loop over the pairs: what is written of the pairs so far, and the plan of those that are left.
 use Prim.Native.Nat.{ℕ, _+_, _*_, _/_, _≤_, _<_}
 use native.Mathlib.Nat.{add-mul, mul-le-mul-left}
 use native.Mathlib.Omega.{arith}
@@ -11,64 +11,10 @@ use Rattle.definitions.specs.PlainLock.{pairsOf}
 use Rattle.definitions.specs.Plan.{planOf, plan, bytesOf}
 use Rattle.definitions.specs.declared.Request.{Request}
 use Rattle.theory.specs.Outputs.{RoomAt, PutAt}
-use Rattle.plan.specs.MoveCounts.{ShareOf, CountOf}
-use Rattle.plan.specs.declared.Share.{Share}
+use Rattle.shares.proofs.Counting.{planFrom, from-next, from-end}
 use Rattle.theory.proofs.Outputs.{same-size, filled-up}
 use Rattle.theory.proofs.Pairs.{pairAt, pairs-next, pairs-end}
 use Rattle.triples.proofs.RequestBytes.{room-front, room-behind, put-both, put-none}
-
--- ---- the plan of the pairs from index k on
-
-abbrev planFrom : ℕ → List ℕ → ℕ → List Request
-planFrom n bytes k = plan n (pairsOf (drop (2 * k) bytes))
-
-from-next : (n : ℕ) (bytes : List ℕ) (k : ℕ) → k < length bytes / 2 → planFrom n bytes k ≡ planOf n (pairAt bytes k) ++ planFrom n bytes (k + 1)
-unfolding plan
-from-next n bytes k l = ap (plan n) (pairs-next bytes k l)
-
-from-end : (n : ℕ) (bytes : List ℕ) (k : ℕ) → length bytes / 2 ≤ k → planFrom n bytes k ≡ []
-unfolding plan
-from-end n bytes k l = ap (plan n) (pairs-end bytes k l)
-
--- ---- counted
-
--- k pairs are counted: the moves made once, and those made for each thread
-pub record Counting (n : ℕ) (bytes : List ℕ) (k once each : ℕ) : Type 0 where
-  pub within : k ≤ length bytes / 2
-  pub total : once + each * n + length (planFrom n bytes k) ≡ length (plan n (pairsOf bytes))
-  pub once-most : once ≤ 3 * k
-  pub each-most : each ≤ 2 * k
-
-pub counting-none : (n : ℕ) (bytes : List ℕ) → Counting n bytes 0 0 0
-counting-none n bytes = record { within = omega arith; total = omega arith; once-most = omega arith; each-most = omega arith }
-
-module _ (n : ℕ) (bytes : List ℕ) (k once each : ℕ) (a : Counting n bytes k once each) where
-  pub counting-more : (s : Share) → k < length bytes / 2 → ShareOf (getD bytes (2 * k + 1) 0) s → Counting n bytes (k + 1) (once + s .once) (each + s .each)
-  counting-more s l f =
-      record {
-        within = omega arith;
-        total =
-            omega (
-              arith,
-              a .total,
-              f .whole n (getD bytes (2 * k) 0),
-              add-mul each (s .each) n,
-              length-append (planOf n (pairAt bytes k)) (planFrom n bytes (k + 1)),
-              ap length (from-next n bytes k l),
-            );
-        once-most = omega (arith, a .once-most, f .once-most);
-        each-most = omega (arith, a .each-most, f .each-most);
-      }
-
-  -- what is made for each thread, at most 200
-  pub counting-each : n ≤ mostThreads → each * n ≤ 2 * mostThreads * k
-  counting-each few = omega (arith, mul-le-mul-left each few, a .each-most)
-
-  pub counting-all : n ≤ mostThreads → 2 * k ≤ mostHistory → length bytes / 2 ≤ k → CountOf n bytes (once + each * n)
-  counting-all few short l =
-      record { count = omega (arith, a .total, ap length (from-end n bytes k l)); most = omega (arith, counting-each few, a .once-most) }
-
--- ---- written
 
 -- k pairs are written
 pub record Writing (n : ℕ) (bytes out : List ℕ) (k : ℕ) (left : List ℕ) (next : ℕ) : Type 0 where

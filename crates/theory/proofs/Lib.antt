@@ -5,6 +5,7 @@ pub mod Cases
 pub mod Matches
 pub mod Lists
 pub mod Lengths
+pub mod PlanLengths
 pub mod Pairs
 pub mod Triples
 pub mod Texts

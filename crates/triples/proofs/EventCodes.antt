@@ -13,6 +13,7 @@ use Rattle.definitions.specs.Threads.{every, between}
 use Rattle.definitions.specs.declared.Event.{Event}
 use Rattle.definitions.specs.declared.MaybeEvent.{MaybeEvent}
 use Rattle.definitions.specs.declared.MaybeEvent.the-variants.{Known, Unknown}
+use Rattle.theory.proofs.PlanLengths.{plan-past}
 use Rattle.theory.proofs.Quantifiers.{every-at}
 use Rattle.theory.proofs.Tests.{and-r, and-i, no-both, not-i, below?}
 
@@ -55,11 +56,6 @@ unknown-code code q = ⊎-elim (λ l. inl (zero l)) inr (below? 9 code)
     zero l = ⊎-elim (λ (m : code < 1). omega arith) (λ m. absurd (no-both (between 1 8 code) (inside m l) outside)) (below? 1 code)
 
 -- ---- no event, no plan
-
-pub plan-past : (n thread code : ℕ) → (code ≡ 0) ⊎ (9 ≤ code) → planOf n (record { thread = thread; event = code }) ≡ []
-unfolding planOf
-plan-past n thread code (inl e) = rw e
-plan-past n thread code (inr l) = rw List·getD-eq-default
 
 pub no-plan : (n thread code : ℕ) → Unknown ≡ eventOf code → planOf n (record { thread = thread; event = code }) ≡ []
 no-plan n thread code q = plan-past n thread code (unknown-code code q)

@@ -17,7 +17,7 @@ ghost use Rattle.definitions.specs.Moves.{ask, moveReply, moveTable};
 ghost use Rattle.definitions.specs.Nodes.{nodesEntry};
 ghost use Rattle.definitions.specs.OpenMoves.{openEntry};
 ghost use Rattle.definitions.specs.PlainLock.{checkReply};
-ghost use Rattle.definitions.specs.Plan.{planEntry};
+ghost use Rattle.definitions.specs.Plan.{planEntry, planLengthReply};
 ghost use Rattle.definitions.specs.Run.{runEntry};
 ghost use Rattle.definitions.specs.Scripts.{writeEntry, readEntry};
 ghost use Rattle.definitions.specs.Table.{freshEntry};
@@ -29,7 +29,7 @@ ghost use Rattle.wospinzo.specs.Version.{version};
 // The part's version: major, minor and patch number. docs/CHANGELOG.md says what each of them promises.
 const MAJOR: u32 = 1;
 
-const MINOR: u32 = 3;
+const MINOR: u32 = 4;
 
 const PATCH: u32 = 0;
 
@@ -79,6 +79,15 @@ pub extern "C" fn wospinzo_check(threads: u16, history: &[u8]) -> u64
     ensures { λ r. ⌜ r ≡ countNumber (checkReply threads (now (history .entry))) ⌝ }
 {
     let answer = history::check(threads, history);
+    answer_number(answer)
+}
+
+// How many requests make a permitted history happen: the plan's count, without the plan.
+#[no_mangle]
+pub extern "C" fn wospinzo_plan_length(threads: u16, history: &[u8]) -> u64
+    ensures { λ r. ⌜ r ≡ countNumber (planLengthReply threads (now (history .entry))) ⌝ }
+{
+    let answer = history::plan_length(threads, history);
     answer_number(answer)
 }
 

@@ -1,45 +1,30 @@
--- `check` meets its contract: the tests for 1 and 8, then the pairs.
-use mathlib.Core.Bool.{true}
-use mathlib.Core.Path.{_≡_, sym, _∙_}
+-- `check` meets its contract: the refusals of the plan's length, and the number of pairs.
 use borrow.Author.Needs.{needs}
-use borrow.Author.Tests.{not-true, not-false, leb-true}
-use lib.Dec.{leb}
-use Rattle.definitions.specs.Bounds.{mostThreads}
-use Rattle.definitions.specs.Table.{countFits}
-use Rattle.theory.proofs.Tests.{and-both}
-use Rattle.history.proofs.CheckLaws.{bad-size, bad-form, by-pairs}
+use Rattle.history.proofs.CheckLaws.{length-refused, length-told}
 use Rattle.history.proofs.check.Statement.{statement}
 use Rattle.history.proofs.check.Tie as tie
 
-count-fits-requires : tie.Need-count-fits-requires
-count-fits-requires c κs = search needs
+plan-length-requires : tie.Need-plan-length-requires
+plan-length-requires c κs = search needs
+
+enum-told : tie.Need-enum-told
+enum-told c = search needs
+
+enum-told-2 : tie.Need-enum-told-2
+enum-told-2 c = search needs
 
 returns : tie.Need-returns
 returns c =
-    let a = c .before .before .before .args in
-    bad-size (a .threads) (a .history .now) (sym (c .before .count-fits .ensures) ∙ not-true _ (c .if1 .taken))
-
--- the count fits
-fits : (c : tie.Else1) → countFits (c .before .before .before .args .threads) ≡ true
-fits c = sym (c .before .count-fits .ensures) ∙ not-false _ (c .if1 .left)
+    let called = c .before .before in
+    let a = called .before .before .args in
+    length-refused (a .threads) (a .history .now) (called .plan-length .result) (called .plan-length .ensures)
+    (c .enum-told2 .given .0 .0) (c .enum-told2 .given .0 .1 .0) (c .enum-told2 .given .1)
 
 returns-2 : tie.Need-returns-2
 returns-2 c =
-    let left = c .before in
-    let a = left .before .before .before .args in
-    bad-form (a .threads) (a .history .now) (fits left) (not-true _ (c .if2 .taken))
-
-check-pairs-requires : tie.Need-check-pairs-requires
-check-pairs-requires c κs =
-    let left = c .before in
-    let n = left .before .before .before .args .threads in
-    leb-true n mostThreads (and-both (leb 1 n) (leb n mostThreads) (fits left) .1)
-
-returns-3 : tie.Need-returns-3
-returns-3 c =
-    let left = c .before .before in
-    let a = left .before .before .before .args in
-    c .check-pairs .ensures ∙ by-pairs (a .threads) (a .history .now) (fits left) (not-false _ (c .before .if2 .left))
+    let called = c .before .before in
+    let a = called .before .before .args in
+    length-told (a .threads) (a .history .now) (called .plan-length .result) (called .plan-length .ensures) (c .enum-told .given .0 .0) (c .enum-told .given .1)
 
 pub check-spec : {M : Type 1} → statement M
-check-spec = tie.close (tie.spec count-fits-requires returns returns-2 check-pairs-requires returns-3)
+check-spec = tie.close (tie.spec plan-length-requires enum-told enum-told-2 returns returns-2)

@@ -16,7 +16,7 @@ loop-holds : tie.Need-loop-holds Inv-loop μ-loop
 loop-holds c =
     let start = c .before .before in
     let a = start .args in
-    writing-none (a .threads) (a .history .now) (a .out .now) (start .pre .1)
+    writing-none (a .threads) (a .history .now) (a .out .now) (start .pre)
 
 mul-at : tie.Need-mul-at Inv-loop μ-loop
 mul-at c = search needs
@@ -35,7 +35,7 @@ write-pair-requires c κs =
     let at = c .before .before .before .before in
     let start = at .before .before .before in
     let a = start .args in
-    writing-room (a .threads) (a .history .now) (a .out .now) (start .pre .1) (at .loop .k) (at .loop .out) (at .loop .next) (at .loop .inv) (omega arith)
+    writing-room (a .threads) (a .history .now) (a .out .now) (start .pre) (at .loop .k) (at .loop .out) (at .loop .next) (at .loop .inv) (omega arith)
 
 add-k : tie.Need-add-k Inv-loop μ-loop
 add-k c = search needs
@@ -49,7 +49,7 @@ loop-again c =
     let at = c .before .before .before .before .before .before .before in
     let start = at .before .before .before in
     let a = start .args in
-    writing-more (a .threads) (a .history .now) (a .out .now) (start .pre .1) (at .loop .k) (at .loop .out) (at .loop .next) (at .loop .inv) (omega arith)
+    writing-more (a .threads) (a .history .now) (a .out .now) (start .pre) (at .loop .k) (at .loop .out) (at .loop .next) (at .loop .inv) (omega arith)
     (pair .last .0) (pair .result) (pair .ensures)
 
 same-length : tie.Need-same-length Inv-loop μ-loop
@@ -60,7 +60,7 @@ returns c =
     let at = c .before in
     let start = at .before .before .before in
     let a = start .args in
-    writing-end (a .threads) (a .history .now) (a .out .now) (start .pre .1) (at .loop .k) (at .loop .out) (at .loop .next) (at .loop .inv) (omega arith)
+    writing-end (a .threads) (a .history .now) (a .out .now) (start .pre) (at .loop .k) (at .loop .out) (at .loop .next) (at .loop .inv) (omega arith)
 
 pub write-pairs-spec : {M : Type 1} → statement M
 write-pairs-spec =

@@ -1,19 +1,21 @@
--- `check_pairs` meets its contract. The loop's invariant is `Passed` of CheckLaws; the measure is the number of pairs left.
+-- `pass_pairs` meets its contract. The loop's invariant is `Passed` of CheckLaws with the count so far, `Counting` of the shares; the measure is the number of pairs left.
 use Prim.Native.Nat.{_-_, _*_, _+_}
 use native.Mathlib.Omega.{arith}
 use borrow.Author.Needs.{needs}
+use Rattle.shares.proofs.Counting.{Counting, counting-none, counting-more, counting-each, counting-all}
 use Rattle.history.proofs.CheckLaws.{Passed, passed-none, counted-here, bad-here, goes-on, passed-all}
-use Rattle.history.proofs.check_pairs.Statement.{statement}
-use Rattle.history.proofs.check_pairs.Tie as tie
+use Rattle.history.proofs.pass_pairs.Statement.{statement}
+use Rattle.history.proofs.pass_pairs.Tie as tie
 
 abbrev Inv-loop : tie.InvT-loop
-Inv-loop threads history places₀ shared₀ exclusive₀ events k₀ places shared exclusive k = Passed threads history places shared exclusive k
+Inv-loop threads history places₀ shared₀ exclusive₀ once₀ each₀ events k₀ places shared exclusive once each k =
+    Passed threads history places shared exclusive k × Counting threads history k once each
 
 abbrev μ-loop : tie.MeasureT-loop
-μ-loop threads history places₀ shared₀ exclusive₀ events k₀ places shared exclusive k = events - k
+μ-loop threads history places₀ shared₀ exclusive₀ once₀ each₀ events k₀ places shared exclusive once each k = events - k
 
 loop-holds : tie.Need-loop-holds Inv-loop μ-loop
-loop-holds c = passed-none _ _
+loop-holds c = (passed-none _ _, counting-none _ _)
 
 mul-at : tie.Need-mul-at Inv-loop μ-loop
 mul-at c = search needs
@@ -44,7 +46,7 @@ judge-requires c κs =
     let at = c .before .before .before in
     let start = at .before .before in
     counted-here (start .args .threads) (start .args .history .now) (at .loop .places) (at .loop .shared) (at .loop .exclusive)
-    (at .loop .k) (at .loop .inv) (c .before .before .loop-test .taken) (start .pre)
+    (at .loop .k) (at .loop .inv .0) (c .before .before .loop-test .taken) (start .pre .0)
 
 enum-known-verdict : tie.Need-enum-known-verdict Inv-loop μ-loop
 enum-known-verdict c = search needs
@@ -64,7 +66,16 @@ returns c =
     let at = turn .before in
     let start = at .before .before in
     bad-here (start .args .threads) (start .args .history .now) (at .loop .places) (at .loop .shared) (at .loop .exclusive)
-    (at .loop .k) (at .loop .inv) (turn .loop-test .taken) (judge .result) (c .before .verdict2 .given .0 .0) (c .before .verdict2 .given .1) (judge .ensures)
+    (at .loop .k) (at .loop .inv .0) (turn .loop-test .taken) (judge .result) (c .before .verdict2 .given .0 .0) (c .before .verdict2 .given .1) (judge .ensures)
+
+share-of-requires : tie.Need-share-of-requires Inv-loop μ-loop
+share-of-requires c κs = search needs
+
+add-once : tie.Need-add-once Inv-loop μ-loop
+add-once c = search needs
+
+add-each : tie.Need-add-each Inv-loop μ-loop
+add-each c = search needs
 
 add-k : tie.Need-add-k Inv-loop μ-loop
 add-k c = search needs
@@ -74,24 +85,41 @@ loop-less c = search needs
 
 loop-again : tie.Need-loop-again Inv-loop μ-loop
 loop-again c =
-    let judge = c .before .before .before .judge in
-    let read = c .before .before .before .before in
+    let share = c .before .before .share-of in
+    let fitted = c .before .before .before in
+    let judge = fitted .before .before .before .judge in
+    let read = fitted .before .before .before .before in
     let turn = read .before .before in
     let at = turn .before in
+    let a = at .before .before .args in (
+      goes-on (a .threads) (a .history .now) (at .loop .places) (at .loop .shared) (at .loop .exclusive)
+          (at .loop .k) (at .loop .inv .0) (turn .loop-test .taken)
+          (judge .result) (fitted .before .verdict .given .0 .0) (fitted .before .verdict .given .1) (judge .ensures) (read .shared-slice-known3 .given (2 * at .loop .k) .fits),
+      counting-more (a .threads) (a .history .now) (at .loop .k) (at .loop .once) (at .loop .each) (at .loop .inv .1) (share .result) (turn .loop-test .taken) (share .ensures),
+    )
+
+mul-moves : tie.Need-mul-moves Inv-loop μ-loop
+mul-moves c =
+    let at = c .before in
     let start = at .before .before in
-    goes-on (start .args .threads) (start .args .history .now) (at .loop .places) (at .loop .shared) (at .loop .exclusive)
-    (at .loop .k) (at .loop .inv) (turn .loop-test .taken)
-    (judge .result) (c .before .verdict .given .0 .0) (c .before .verdict .given .1) (judge .ensures) (read .shared-slice-known3 .given (2 * at .loop .k) .fits)
+    omega (arith, counting-each (start .args .threads) (start .args .history .now) (at .loop .k) (at .loop .once) (at .loop .each) (at .loop .inv .1) (start .pre .0))
+
+add-moves : tie.Need-add-moves Inv-loop μ-loop
+add-moves c =
+    let at = c .before in
+    let start = at .before .before in
+    omega (arith, counting-each (start .args .threads) (start .args .history .now) (at .loop .k) (at .loop .once) (at .loop .each) (at .loop .inv .1) (start .pre .0))
 
 returns-2 : tie.Need-returns-2 Inv-loop μ-loop
 returns-2 c =
     let at = c .before in
-    let start = at .before .before in
-    passed-all (start .args .threads) (start .args .history .now) (at .loop .places) (at .loop .shared) (at .loop .exclusive)
-    (at .loop .k) (at .loop .inv) (c .loop-test .left)
+    let a = at .before .before .args in
+    passed-all (a .threads) (a .history .now) (at .loop .places) (at .loop .shared) (at .loop .exclusive) (at .loop .k) (at .loop .once + at .loop .each * a .threads)
+    (at .loop .inv .0) (c .loop-test .left)
+    (counting-all (a .threads) (a .history .now) (at .loop .k) (at .loop .once) (at .loop .each) (at .loop .inv .1) (c .loop-test .left))
 
-pub check-pairs-spec : {M : Type 1} → statement M
-check-pairs-spec =
+pub pass-pairs-spec : {M : Type 1} → statement M
+pass-pairs-spec =
     tie.close
     (tie.spec
     Inv-loop
@@ -110,7 +138,12 @@ check-pairs-spec =
     array-write-places
     enum-known-verdict-2
     returns
+    share-of-requires
+    add-once
+    add-each
     add-k
     loop-less
     loop-again
+    mul-moves
+    add-moves
     returns-2)

@@ -1,2 +1,0 @@
--- What is counted of a plan.
-pub mod MoveCounts

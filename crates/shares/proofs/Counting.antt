@@ -1,0 +1,65 @@
+-- The plan of the pairs from an index on (`planFrom`), and what a loop that adds up the events' shares has counted of the pairs before it (`Counting`).
+use Prim.Native.Nat.{ℕ, _+_, _*_, _/_, _≤_, _<_}
+use native.Mathlib.Nat.{add-mul, mul-le-mul-left}
+use native.Mathlib.Omega.{arith}
+use mathlib.Core.List.{List, [], _++_}
+use mathlib.Core.Path.{_≡_, ap}
+use lib.ListN.{length, getD, drop, length-append}
+use Rattle.definitions.specs.Bounds.{mostThreads}
+use Rattle.definitions.specs.PlainLock.{pairsOf}
+use Rattle.definitions.specs.Plan.{planOf, plan}
+use Rattle.definitions.specs.declared.Request.{Request}
+use Rattle.shares.specs.Shares.{ShareOf}
+use Rattle.shares.specs.declared.Share.{Share}
+use Rattle.theory.proofs.Pairs.{pairAt, pairs-next, pairs-end}
+
+-- ---- the plan of the pairs from index k on
+
+abbrev pub planFrom : ℕ → List ℕ → ℕ → List Request
+planFrom n bytes k = plan n (pairsOf (drop (2 * k) bytes))
+
+pub from-next : (n : ℕ) (bytes : List ℕ) (k : ℕ) → k < length bytes / 2 → planFrom n bytes k ≡ planOf n (pairAt bytes k) ++ planFrom n bytes (k + 1)
+unfolding plan
+from-next n bytes k l = ap (plan n) (pairs-next bytes k l)
+
+pub from-end : (n : ℕ) (bytes : List ℕ) (k : ℕ) → length bytes / 2 ≤ k → planFrom n bytes k ≡ []
+unfolding plan
+from-end n bytes k l = ap (plan n) (pairs-end bytes k l)
+
+-- ---- counted
+
+-- k pairs are counted: the moves made once, and those made for each thread
+pub record Counting (n : ℕ) (bytes : List ℕ) (k once each : ℕ) : Type 0 where
+  pub within : k ≤ length bytes / 2
+  pub total : once + each * n + length (planFrom n bytes k) ≡ length (plan n (pairsOf bytes))
+  pub once-most : once ≤ 3 * k
+  pub each-most : each ≤ 2 * k
+
+pub counting-none : (n : ℕ) (bytes : List ℕ) → Counting n bytes 0 0 0
+counting-none n bytes = record { within = omega arith; total = omega arith; once-most = omega arith; each-most = omega arith }
+
+module _ (n : ℕ) (bytes : List ℕ) (k once each : ℕ) (a : Counting n bytes k once each) where
+  pub counting-more : (s : Share) → k < length bytes / 2 → ShareOf (getD bytes (2 * k + 1) 0) s → Counting n bytes (k + 1) (once + s .once) (each + s .each)
+  counting-more s l f =
+      record {
+        within = omega arith;
+        total =
+            omega (
+              arith,
+              a .total,
+              f .whole n (getD bytes (2 * k) 0),
+              add-mul each (s .each) n,
+              length-append (planOf n (pairAt bytes k)) (planFrom n bytes (k + 1)),
+              ap length (from-next n bytes k l),
+            );
+        once-most = omega (arith, a .once-most, f .once-most);
+        each-most = omega (arith, a .each-most, f .each-most);
+      }
+
+  -- what is made for each thread, at most 200
+  pub counting-each : n ≤ mostThreads → each * n ≤ 2 * mostThreads * k
+  counting-each few = omega (arith, mul-le-mul-left each few, a .each-most)
+
+  -- past the last pair
+  pub counting-all : length bytes / 2 ≤ k → once + each * n ≡ length (plan n (pairsOf bytes))
+  counting-all l = omega (arith, a .total, ap length (from-end n bytes k l))
