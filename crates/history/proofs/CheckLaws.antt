@@ -1,4 +1,4 @@
--- What the pass keeps between two pairs (`Passed`), and that a turn of its loop judges its pair as the plain lock does; then the tests for 1 and 8.
+-- A pass over the pairs (`Passed`): its start, that a turn judges its pair as the plain lock does, and its end; then the tests for 1 and 8.
 use Prim.Native.Nat.{ℕ, zero, suc, _+_, _*_, _/_, _%_, _≤_, _<_}
 use native.Mathlib.Omega.{arith}
 use mathlib.Core.Bool.{Bool, true, false, _&&_}
@@ -10,15 +10,14 @@ use lib.ListN.{length, getD, set, take, replicate, length-set, length-replicate}
 use lib.Seq.{getD-set-same, getD-set-other}
 use Rattle.definitions.specs.Answers.{numberOf, answerReply, accepted, refused, Test, test, answered, passesAll}
 use Rattle.definitions.specs.Bounds.{mostThreads, mostHistory}
-use Rattle.definitions.specs.PlainLock.{Pair, pairsOf, Places, placesIn, atStart, placeAfter, advanced, placesAfter, pairTests, testsOf, checkTests, checkReply, howManyAt}
-use Rattle.definitions.specs.Plan.{plan, planLengthReply}
+use Rattle.definitions.specs.PlainLock.{Pair, pairsOf, Places, placesIn, atStart, placeAfter, advanced, placesAfter, pairTests, testsOf, checkTests, howManyAt}
 use Rattle.definitions.specs.Table.{countFits}
 use Rattle.definitions.specs.Threads.{gather}
 use Rattle.definitions.specs.declared.Answer.{Answer}
 use Rattle.definitions.specs.declared.Answer.the-variants.{Done, Refused}
 use Rattle.definitions.specs.declared.Refusal.{Refusal}
 use Rattle.history.specs.Counts.{standingOf, standingAfter, Counted}
-use Rattle.history.specs.Pairs.{pairsReply}
+use Rattle.history.specs.Pairs.{formTests, pairsTests, Passed}
 use Rattle.history.specs.declared.Standing.{Standing}
 use Rattle.history.specs.declared.Verdict.{Verdict}
 use Rattle.history.specs.declared.Verdict.the-variants.{Fits, Bad}
@@ -26,8 +25,8 @@ use Rattle.theory.proofs.Lengths.{pairs-length}
 use Rattle.theory.proofs.Lists.{zeros}
 use Rattle.theory.proofs.Pairs.{pairAt}
 use Rattle.theory.proofs.Quantifiers.{howMany-none}
-use Rattle.theory.proofs.Replies.{all-passed, passed, failed, peel, pass}
-use Rattle.theory.proofs.TestLists.{answered-e, other-answer, one-more, first-failed}
+use Rattle.theory.proofs.Replies.{all-passed, passed, failed, peel, pass, behind, in-front}
+use Rattle.theory.proofs.TestLists.{answered-e, one-more, first-failed}
 use Rattle.theory.proofs.Tests.{and-l, and-r, and-i, true-T, false-T, eq-T, same?}
 use Rattle.theory.proofs.Writes.{update-same, update-other}
 use Rattle.history.proofs.PlainLaws.{noPair, places-more, in-round}
@@ -63,16 +62,7 @@ pair-at (t ∷ e ∷ rest) (suc k) l = pair-at rest k (omega arith) ∙ rw (even
     event : 2 * suc k + 1 ≡ suc (suc (2 * k + 1))
     event = omega arith
 
--- ---- the loop
-
--- k pairs are passed: their tests are, and the places and the counts are those after them
-pub record Passed (n : ℕ) (bytes a : List ℕ) (shared exclusive k : ℕ) : Type 0 where
-  pub within : k ≤ length bytes / 2
-  pub size : length a ≡ 256
-  pub places : placesIn a ≡ placesAfter atStart (take k (pairsOf bytes))
-  pub in-shared : shared ≡ howManyAt n (placesIn a) 2
-  pub in-exclusive : exclusive ≡ howManyAt n (placesIn a) 6
-  pub tested : T (passesAll (gather k (testsOf n (pairsOf bytes))))
+-- ---- a pass
 
 pub passed-none : (n : ℕ) (bytes : List ℕ) → Passed n bytes (replicate 256 0) 0 0 0
 unfolding placesAfter gather passesAll
@@ -80,21 +70,20 @@ passed-none n bytes =
     record {
       within = omega arith;
       size = length-replicate {A = ℕ} 256 0;
-      places = fun-ext (zeros 256);
+      after = fun-ext (zeros 256);
       in-shared = sym (howMany-none (λ t. eqb (placesIn (replicate 256 0) t) 2) n (λ t l. rw (zeros 256 t) tt));
       in-exclusive = sym (howMany-none (λ t. eqb (placesIn (replicate 256 0) t) 6) n (λ t l. rw (zeros 256 t) tt));
       tested = tt;
     }
 
--- past the last pair: all have passed, and what was counted is the length of the plan
-pub passed-all : (n : ℕ) (bytes a : List ℕ) (shared exclusive k moves : ℕ) → Passed n bytes a shared exclusive k → length bytes / 2 ≤ k → moves ≡ length (plan n (pairsOf bytes))
-    → accepted moves ≡ pairsReply n bytes
-passed-all n bytes a shared exclusive k moves s l m =
+-- past the last pair all have passed
+pub passed-all : (n : ℕ) (bytes places : List ℕ) (shared exclusive k : ℕ) → Passed n bytes places shared exclusive k → length bytes / 2 ≤ k
+    → (answer : ℕ) → accepted answer ≡ answered (pairsTests n bytes) answer
+passed-all n bytes places shared exclusive k s l answer =
     let e : k ≡ length (pairsOf bytes) = omega (arith, s .within, pairs-length bytes) in
-    let tests = gather (length (pairsOf bytes)) (testsOf n (pairsOf bytes)) in
-    ap accepted m ∙ sym (all-passed (length (plan n (pairsOf bytes))) tests (subst (λ (j : ℕ). T (passesAll (gather j (testsOf n (pairsOf bytes))))) e (s .tested)))
+    sym (all-passed answer (pairsTests n bytes) (subst (λ (j : ℕ). T (passesAll (gather j (testsOf n (pairsOf bytes))))) e (s .tested)))
 
--- pair k, as a turn of the loop judges it
+-- pair k, as a turn of the pass judges it
 module _ (n : ℕ) (bytes a : List ℕ) (shared exclusive k : ℕ) (s : Passed n bytes a shared exclusive k) (l : k < length bytes / 2) where
   abbrev x : Pair
   x = pairAt bytes k
@@ -109,18 +98,18 @@ module _ (n : ℕ) (bytes a : List ℕ) (shared exclusive k : ℕ) (s : Passed n
   counted-here few =
       subst (Counted n (x .thread)) (sym standing-is)
       (is-counted n (placesIn a) (x .thread) few
-      (λ e. in-round atStart (take k (pairsOf bytes)) (λ t z. omega arith) (x .thread) (sym (ap (λ (p : Places). p (x .thread)) (s .places)) ∙ e)))
+      (λ e. in-round atStart (take k (pairsOf bytes)) (λ t z. omega arith) (x .thread) (sym (ap (λ (p : Places). p (x .thread)) (s .after)) ∙ e)))
 
   tests-here : testsOf n (pairsOf bytes) k ≡ pairTests n (placesIn a) k x
   unfolding testsOf
   tests-here =
-      ap (λ (p : Places). pairTests n p k (getD (pairsOf bytes) k noPair)) (sym (s .places)) ∙ ap (pairTests n (placesIn a) k) (pair-at bytes k l)
+      ap (λ (p : Places). pairTests n p k (getD (pairsOf bytes) k noPair)) (sym (s .after)) ∙ ap (pairTests n (placesIn a) k) (pair-at bytes k l)
 
   -- a bad pair is the answer
-  pub bad-here : (v : Verdict) (r : Refusal) → v ≡ Bad r → VerdictOf n x standing v → refused (numberOf r) k ≡ pairsReply n bytes
-  bad-here v r w judged =
+  pub bad-here : (v : Verdict) (r : Refusal) → v ≡ Bad r → VerdictOf n x standing v → (answer : ℕ) → refused (numberOf r) k ≡ answered (pairsTests n bytes) answer
+  bad-here v r w judged answer =
       let after = standingAfter standing (x .event) in
-      sym (first-failed (testsOf n (pairsOf bytes)) (length (plan n (pairsOf bytes))) after k (length (pairsOf bytes)) (numberOf r) k
+      sym (first-failed (testsOf n (pairsOf bytes)) answer after k (length (pairsOf bytes)) (numberOf r) k
       (omega (arith, pairs-length bytes)) (s .tested)
       (ap (λ (ts : List Test). answered ts after) tests-here ∙ bad-verdict n (placesIn a) x standing standing-is v r w judged k))
 
@@ -134,8 +123,8 @@ module _ (n : ℕ) (bytes a : List ℕ) (shared exclusive k : ℕ) (s : Passed n
       record {
         within = omega arith;
         size = length-set a (x .thread) (z .place) ∙ s .size;
-        places = m
-            ∙ (ap (λ (p : Places). advanced p x) (s .places)
+        after = m
+            ∙ (ap (λ (p : Places). advanced p x) (s .after)
             ∙ (ap (advanced (placesAfter atStart (take k h))) (sym (pair-at bytes k l)) ∙ sym (places-more h k (omega (arith, pairs-length bytes)))));
         in-shared = ap (λ (y : Standing). y .shared) (fit .after) ∙ ap (λ (p : Places). howManyAt n p 2) (sym m);
         in-exclusive = ap (λ (y : Standing). y .exclusive) (fit .after) ∙ ap (λ (p : Places). howManyAt n p 6) (sym m);
@@ -155,12 +144,6 @@ module _ (n : ℕ) (bytes : List ℕ) where
   abbrev pub formed : Bool
   formed = eqb (length bytes % 2) 0 && leb (length bytes) mostHistory
 
-  abbrev events : ℕ
-  events = length (pairsOf bytes)
-
-  abbrev pairs : List Test
-  pairs = gather events (testsOf n (pairsOf bytes))
-
   abbrev size : Test
   size = test 1 (countFits n)
 
@@ -168,21 +151,30 @@ module _ (n : ℕ) (bytes : List ℕ) where
   form = test 8 formed
 
   -- whatever is answered where all are passed
-  module _ (a : ℕ) where
-    pub bad-size : countFits n ≡ false → refused 1 0 ≡ answered (checkTests n bytes) a
-    bad-size e = sym (failed size (form ∷ pairs) a (false-T (countFits n) e))
+  module _ (answer : ℕ) where
+    pub bad-size : countFits n ≡ false → refused 1 0 ≡ answered (formTests n bytes) answer
+    bad-size e = sym (failed size (form ∷ []) answer (false-T (countFits n) e))
 
-    pub bad-form : countFits n ≡ true → formed ≡ false → refused 8 0 ≡ answered (checkTests n bytes) a
-    bad-form e f = sym (passed size (form ∷ pairs) a (true-T (countFits n) e) ∙ failed form pairs a (false-T formed f))
+    pub bad-form : countFits n ≡ true → formed ≡ false → refused 8 0 ≡ answered (formTests n bytes) answer
+    bad-form e f = sym (passed size (form ∷ []) answer (true-T (countFits n) e) ∙ failed form [] answer (false-T formed f))
 
-    pub by-pairs : countFits n ≡ true → formed ≡ true → answered (gather (length (pairsOf bytes)) (testsOf n (pairsOf bytes))) a ≡ answered (checkTests n bytes) a
-    by-pairs e f = sym (passed size (form ∷ pairs) a (true-T (countFits n) e) ∙ passed form pairs a (true-T formed f))
+    pub good-form : countFits n ≡ true → formed ≡ true → accepted answer ≡ answered (formTests n bytes) answer
+    unfolding answered
+    good-form e f = sym (passed size (form ∷ []) answer (true-T (countFits n) e) ∙ passed form [] answer (true-T formed f))
+
+    -- a refusal by 1 or 8 is the check's; else the pairs decide
+    module _ (other : ℕ) where
+      pub form-refused : (number place : ℕ) → answered (formTests n bytes) other ≡ refused number place → answered (checkTests n bytes) answer ≡ refused number place
+      form-refused = in-front answer other (formTests n bytes) (pairsTests n bytes)
+
+      pub by-pairs : (given : ℕ) → answered (formTests n bytes) other ≡ accepted given → answered (checkTests n bytes) answer ≡ answered (pairsTests n bytes) answer
+      by-pairs given e = behind answer (formTests n bytes) (pairsTests n bytes) (answered-e (formTests n bytes) other given e .0)
 
   -- all tests, as numbers and the pairs' tests
-  pub tests-e : T (passesAll (checkTests n bytes)) → Formed n bytes × T (passesAll (gather (length (pairsOf bytes)) (testsOf n (pairsOf bytes))))
+  pub tests-e : T (passesAll (checkTests n bytes)) → Formed n bytes × T (passesAll (pairsTests n bytes))
   tests-e t =
-      let a = peel size (form ∷ pairs) t in
-      let b = peel form pairs (a .1) in (
+      let a = peel size (form ∷ pairsTests n bytes) t in
+      let b = peel form (pairsTests n bytes) (a .1) in (
         record {
           least = leb→le 1 n (and-l (leb 1 n) (leb n mostThreads) (a .0));
           most = leb→le n mostThreads (and-r (leb 1 n) (leb n mostThreads) (a .0));
@@ -192,23 +184,33 @@ module _ (n : ℕ) (bytes : List ℕ) where
         b .1,
       )
 
-  pub tests-i : Formed n bytes → T (passesAll (gather (length (pairsOf bytes)) (testsOf n (pairsOf bytes)))) → T (passesAll (checkTests n bytes))
+  pub tests-i : Formed n bytes → T (passesAll (pairsTests n bytes)) → T (passesAll (checkTests n bytes))
   tests-i f t =
-      pass size (form ∷ pairs) (and-i (leb 1 n) (leb n mostThreads) (le→leb 1 n (f .least)) (le→leb n mostThreads (f .most)))
-      (pass form pairs (and-i (eqb (length bytes % 2) 0) (leb (length bytes) mostHistory) (eq-T (length bytes % 2) 0 (f .even)) (le→leb (length bytes) mostHistory (f .short))) t)
+      pass size (form ∷ pairsTests n bytes) (and-i (leb 1 n) (leb n mostThreads) (le→leb 1 n (f .least)) (le→leb n mostThreads (f .most)))
+      (pass form (pairsTests n bytes) (and-i (eqb (length bytes % 2) 0) (leb (length bytes) mostHistory) (eq-T (length bytes % 2) 0 (f .even)) (le→leb (length bytes) mostHistory (f .short))) t)
 
--- ---- the check by the plan's length
+-- ---- what `count_pairs` answers, for whoever goes on to the pairs
 
-module _ (n : ℕ) (bytes : List ℕ) (r : Answer) (e : answerReply r ≡ planLengthReply n bytes) where
-  -- what turns the one down turns the other down
-  pub length-refused : (reason : Refusal) (place : ℕ) → r ≡ Refused reason place → answerReply r ≡ checkReply n bytes
-  unfolding planLengthReply checkReply
-  length-refused reason place q =
-      ap answerReply q
-      ∙ sym (other-answer (length (pairsOf bytes)) (checkTests n bytes) (length (plan n (pairsOf bytes))) (numberOf reason) place (sym e ∙ ap answerReply q))
+-- the tests for 1 and 8 are passed, so that the pairs decide
+pub record Told (n : ℕ) (bytes : List ℕ) (events : ℕ) : Type 0 where
+  pub few : n ≤ mostThreads
+  pub short : length bytes ≤ mostHistory
+  pub whole : events ≡ length bytes / 2
+  pub pairs : (answer : ℕ) → answered (pairsTests n bytes) answer ≡ answered (checkTests n bytes) answer
 
-  pub length-told : (moves : ℕ) → r ≡ Done moves → accepted (length bytes / 2) ≡ checkReply n bytes
-  unfolding planLengthReply checkReply
-  length-told moves q =
-      let passes = answered-e (checkTests n bytes) (length (plan n (pairsOf bytes))) moves (sym e ∙ ap answerReply q) .0 in
-      ap accepted (sym (pairs-length bytes)) ∙ sym (all-passed (length (pairsOf bytes)) (checkTests n bytes) passes)
+module _ (n : ℕ) (bytes : List ℕ) (r : Answer) (e : answerReply r ≡ answered (formTests n bytes) (length bytes / 2)) where
+  -- its refusal is the check's, whatever is answered where all tests are passed
+  pub form-turned : (reason : Refusal) (place : ℕ) → r ≡ Refused reason place → (answer : ℕ) → answerReply r ≡ answered (checkTests n bytes) answer
+  form-turned reason place q answer = ap answerReply q ∙ sym (form-refused n bytes answer (length bytes / 2) (numberOf reason) place (sym e ∙ ap answerReply q))
+
+  pub form-told : (events : ℕ) → r ≡ Done events → Told n bytes events
+  form-told events q =
+      let f = answered-e (formTests n bytes) (length bytes / 2) events (sym e ∙ ap answerReply q) in
+      let a = peel (size n bytes) (form n bytes ∷ []) (f .0) in
+      let b = peel (form n bytes) [] (a .1) in
+      record {
+        few = leb→le n mostThreads (and-r (leb 1 n) (leb n mostThreads) (a .0));
+        short = leb→le (length bytes) mostHistory (and-r (eqb (length bytes % 2) 0) (leb (length bytes) mostHistory) (b .0));
+        whole = sym (f .1);
+        pairs = λ answer. sym (behind answer (formTests n bytes) (pairsTests n bytes) (f .0));
+      }

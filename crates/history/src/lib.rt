@@ -1,22 +1,20 @@
-// The check of a history, pair by pair, and the length of its plan. One pass keeps each thread's place in its round and how
-// many threads are in shared and in exclusive; `judge` decides an event from these plain counts alone, and answers what they
-// are after it. The pass also adds up how many moves the plan takes for the events.
+// The check of a history, pair by pair. A pass keeps each thread's place in its round and how many threads are in shared and
+// in exclusive; `judge` decides an event from these plain counts alone, and answers what they are after it. `take_pair` is one
+// turn of such a pass, whatever else the pass counts.
 use definitions::Answer;
 use definitions::Event;
 use definitions::MOST_HISTORY;
 use definitions::Refusal;
 use definitions::count_fits;
-use shares::share_of;
-ghost use Prim.Native.Nat.{ℕ, _+_, _%_, _^_, _≤_};
+ghost use Prim.Native.Nat.{ℕ, _+_, _/_, _%_, _^_, _≤_, _<_};
 ghost use mathlib.Core.Bool.{cond};
 ghost use mathlib.Core.Path.{_≡_};
 ghost use lib.ListN.{length};
 ghost use Rattle.definitions.specs.Answers.{numberOf, answered, answerReply};
-ghost use Rattle.definitions.specs.Bounds.{mostThreads, mostHistory};
+ghost use Rattle.definitions.specs.Bounds.{mostThreads};
 ghost use Rattle.definitions.specs.PlainLock.{checkReply};
-ghost use Rattle.definitions.specs.Plan.{planLengthReply};
 ghost use Rattle.history.specs.Counts.{Counted, countTests, standingAfter, verdictReply};
-ghost use Rattle.history.specs.Pairs.{pairsReply};
+ghost use Rattle.history.specs.Pairs.{formTests, pairsTests, Passed, Taken};
 ghost use Rattle.history.specs.Rows.{eventRow};
 
 // Where a thread stands: its place in its round, and how many threads are in shared and in exclusive.
@@ -125,54 +123,68 @@ pub fn judge(threads: u16, thread: u16, code: u16, before: Standing) -> Verdict
     Verdict::Bad(reason(known, next))
 }
 
-// One pass, which judges each pair and adds up the shares of its event in the plan's length. Any byte is an index of the 256
-// places, so a thread's place is looked up before the thread is judged; those below N are the only ones written. The shares
-// are added up apart: a product in the loop would be compiled to branches.
-fn pass_pairs(threads: u16, history: &[u8]) -> Answer
+// One pair of a pass: its thread's place is looked up, the pair judged, and the thread's place after it written. Any byte is an
+// index of the 256 places, so a place is looked up before the thread is judged; those below N are the only ones written.
+pub fn take_pair(
+    threads: u16,
+    history: &[u8],
+    k: usize,
+    places: &mut [u8],
+    shared: u16,
+    exclusive: u16,
+) -> Verdict
     requires { ⌜ threads ≤ mostThreads ⌝ }
-    requires { ⌜ length (now history) ≤ mostHistory ⌝ }
-    ensures { λ r. ⌜ answerReply r ≡ pairsReply threads (now (history .entry)) ⌝ }
+    requires { ⌜ k < length (now history) / 2 ⌝ }
+    requires { ⌜ Passed threads (now history) (now places) shared exclusive k ⌝ }
+    ensures { λ r. ⌜ Taken threads (now (history .entry)) k (now (places .exit)) r ⌝ }
+{
+    let at = 2 * k;
+    let thread = history[at];
+    let code = history[at + 1];
+    let t = thread as usize;
+    let place = places[t];
+    let before = Standing {
+        place,
+        shared,
+        exclusive,
+    };
+    let verdict = judge(threads, thread as u16, code as u16, before);
+    match verdict {
+        Verdict::Fits(after) => {
+            places[t] = after.place;
+            Verdict::Fits(after)
+        }
+        Verdict::Bad(refusal) => Verdict::Bad(refusal),
+    }
+}
+
+// One pass over the pairs.
+fn check_pairs(threads: u16, history: &[u8], events: usize) -> Answer
+    requires { ⌜ threads ≤ mostThreads ⌝ }
+    requires { ⌜ events ≡ length (now history) / 2 ⌝ }
+    ensures { λ r. ⌜ answerReply r ≡ answered (pairsTests threads (now (history .entry))) events ⌝ }
 {
     let mut places = [0u8; 256];
     let mut shared: u16 = 0;
     let mut exclusive: u16 = 0;
-    let mut once: usize = 0;
-    let mut each: usize = 0;
-    let events = history.len() / 2;
     let mut k: usize = 0;
     while k < events {
-        let at = 2 * k;
-        let thread = history[at];
-        let code = history[at + 1];
-        let t = thread as usize;
-        let place = places[t];
-        let before = Standing {
-            place,
-            shared,
-            exclusive,
-        };
-        let verdict = judge(threads, thread as u16, code as u16, before);
+        let verdict = take_pair(threads, history, k, &mut places, shared, exclusive);
         match verdict {
             Verdict::Fits(after) => {
-                places[t] = after.place;
                 shared = after.shared;
                 exclusive = after.exclusive;
             }
             Verdict::Bad(refusal) => return Answer::Refused(refusal, k),
         }
-        let share = share_of(code);
-        once += share.once;
-        each += share.each;
         k += 1;
     }
-    let moves = once + each * threads as usize;
-    Answer::Done(moves)
+    Answer::Done(events)
 }
 
-// How many moves the plan for a history makes. Refusals 1 and 8; then pair by pair 9, 10, 11, with the index of the first bad
-// pair.
-pub fn plan_length(threads: u16, history: &[u8]) -> Answer
-    ensures { λ r. ⌜ answerReply r ≡ planLengthReply threads (now (history .entry)) ⌝ }
+// Refusals 1 and 8; where neither fits, the number of pairs.
+pub fn count_pairs(threads: u16, history: &[u8]) -> Answer
+    ensures { λ r. ⌜ answerReply r ≡ answered (formTests threads (now (history .entry))) (length (now (history .entry)) / 2) ⌝ }
 {
     let count = threads as usize;
     if !count_fits(count) {
@@ -182,16 +194,17 @@ pub fn plan_length(threads: u16, history: &[u8]) -> Answer
     if !formed {
         return Answer::Refused(Refusal::BadForm, 0);
     }
-    pass_pairs(threads, history)
+    Answer::Done(history.len() / 2)
 }
 
-// The check: the same pass, whose count of moves is not used. An accepted history answers its number of events.
+// Refusals 1 and 8; then pair by pair 9, 10, 11, with the index of the first bad pair. An accepted history answers its number
+// of events.
 pub fn check(threads: u16, history: &[u8]) -> Answer
     ensures { λ r. ⌜ answerReply r ≡ checkReply threads (now (history .entry)) ⌝ }
 {
-    let passed = plan_length(threads, history);
-    let Answer::Done(_) = passed else {
-        return passed;
+    let formed = count_pairs(threads, history);
+    let Answer::Done(events) = formed else {
+        return formed;
     };
-    Answer::Done(history.len() / 2)
+    check_pairs(threads, history, events)
 }

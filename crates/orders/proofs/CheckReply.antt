@@ -13,7 +13,8 @@ use Rattle.definitions.specs.PlainLock.{Pair, pairsOf, testsOf, permitted, chec
 use Rattle.definitions.specs.Table.{countFits}
 use Rattle.definitions.specs.Threads.{gather}
 use Rattle.orders.specs.Histories.{Passes, FirstBad}
-use Rattle.history.proofs.CheckLaws.{formed, bad-size, bad-form, by-pairs, tests-e, tests-i}
+use Rattle.history.specs.Pairs.{formTests}
+use Rattle.history.proofs.CheckLaws.{formed, bad-size, bad-form, good-form, form-refused, by-pairs, tests-e, tests-i}
 use Rattle.theory.proofs.Lengths.{pairs-length}
 use Rattle.theory.proofs.Quantifiers.{every-at}
 use Rattle.theory.proofs.Replies.{all-passed}
@@ -79,11 +80,14 @@ pub check-refused : (n : ℕ) (bytes : List ℕ) (number place : ℕ) → checkR
 unfolding checkReply
 check-refused n bytes number place e l = by (countFits n) (formed n bytes) refl refl
   where
+    count : ℕ
+    count = length (pairsOf bytes)
+
     -- not by 1 or 8
-    low : (k : ℕ) → k < 9 → refused k 0 ≡ checkReply n bytes → FirstBad n (pairsOf bytes) number place
-    low k few d = absurd (let z : k ≡ number = cc in omega arith)
+    low : (k : ℕ) → k < 9 → refused k 0 ≡ answered (formTests n bytes) count → FirstBad n (pairsOf bytes) number place
+    low k few d = absurd (let f = form-refused n bytes count count k 0 (sym d) in let z : k ≡ number = cc in omega arith)
 
     by : (a b : Bool) → countFits n ≡ a → formed n bytes ≡ b → FirstBad n (pairsOf bytes) number place
-    by false b p q = low 1 (omega arith) (bad-size n bytes (length (pairsOf bytes)) p)
-    by true false p q = low 8 (omega arith) (bad-form n bytes (length (pairsOf bytes)) p q)
-    by true true p q = first-bad n (pairsOf bytes) number place (by-pairs n bytes (length (pairsOf bytes)) p q ∙ e)
+    by false b p q = low 1 (omega arith) (bad-size n bytes count p)
+    by true false p q = low 8 (omega arith) (bad-form n bytes count p q)
+    by true true p q = first-bad n (pairsOf bytes) number place (sym (by-pairs n bytes count count count (sym (good-form n bytes count p q))) ∙ e)

@@ -11,7 +11,7 @@ use Rattle.definitions.specs.PlainLock.{pairsOf}
 use Rattle.definitions.specs.Plan.{planOf, plan, bytesOf}
 use Rattle.definitions.specs.declared.Request.{Request}
 use Rattle.theory.specs.Outputs.{RoomAt, PutAt}
-use Rattle.shares.proofs.Counting.{planFrom, from-next, from-end}
+use Rattle.plan.proofs.Counting.{planFrom, from-next, from-end}
 use Rattle.theory.proofs.Outputs.{same-size, filled-up}
 use Rattle.theory.proofs.Pairs.{pairAt, pairs-next, pairs-end}
 use Rattle.triples.proofs.RequestBytes.{room-front, room-behind, put-both, put-none}

@@ -1,11 +1,91 @@
-// The plan for a history: the check with the plan's length, then the triples written event by event.
+// The plan for a history: its length, counted in the pass that checks it; then the triples written event by event.
 use definitions::Answer;
 use definitions::Refusal;
+use history::Verdict;
+use history::take_pair;
+ghost use Prim.Native.Nat.{_/_, _≤_};
 ghost use mathlib.Core.Path.{_≡_};
-ghost use Rattle.definitions.specs.Answers.{answerReply, filled};
+ghost use lib.ListN.{length};
+ghost use Rattle.definitions.specs.Answers.{answered, answerReply, filled};
+ghost use Rattle.definitions.specs.Bounds.{mostThreads, mostHistory};
 ghost use Rattle.definitions.specs.PlainLock.{pairsOf};
-ghost use Rattle.definitions.specs.Plan.{plan, bytesOf, planEntry};
+ghost use Rattle.definitions.specs.Plan.{plan, bytesOf, planEntry, planLengthReply};
+ghost use Rattle.history.specs.Pairs.{pairsTests};
 ghost use Rattle.theory.specs.Outputs.{RoomAt, Delivered};
+ghost use Rattle.plan.specs.Shares.{ShareOf};
+
+// How many moves an event takes: those made once, and those made again for each thread.
+struct Share {
+    once: usize,
+    each: usize,
+}
+
+fn values(once: usize, each: usize) -> Share
+    ensures { λ r. ⌜ r ≡ record { once = once; each = each } ⌝ }
+{
+    Share { once, each }
+}
+
+// Shares are constants: they are compiled to tables, and not to branches, which are often mispredicted.
+fn share_of(code: u8) -> Share
+    ensures { λ r. ⌜ ShareOf code r ⌝ }
+{
+    match code {
+        1 => values(1, 0),
+        2 => values(3, 0),
+        3 => values(2, 0),
+        4 => values(1, 0),
+        5 => values(1, 0),
+        6 => values(2, 2),
+        7 => values(2, 1),
+        8 => values(1, 0),
+        _ => values(0, 0),
+    }
+}
+
+// One pass over the pairs, which checks them and adds up their events' shares. The shares are added up apart: a product in the
+// loop would be compiled to branches.
+fn count_moves(threads: u16, history: &[u8], events: usize) -> Answer
+    requires { ⌜ threads ≤ mostThreads ⌝ }
+    requires { ⌜ length (now history) ≤ mostHistory ⌝ }
+    requires { ⌜ events ≡ length (now history) / 2 ⌝ }
+    ensures { λ r. ⌜ answerReply r ≡ answered (pairsTests threads (now (history .entry))) (length (plan threads (pairsOf (now (history .entry))))) ⌝ }
+{
+    let mut places = [0u8; 256];
+    let mut shared: u16 = 0;
+    let mut exclusive: u16 = 0;
+    let mut once: usize = 0;
+    let mut each: usize = 0;
+    let mut k: usize = 0;
+    while k < events {
+        let verdict = take_pair(threads, history, k, &mut places, shared, exclusive);
+        match verdict {
+            Verdict::Fits(after) => {
+                shared = after.shared;
+                exclusive = after.exclusive;
+            }
+            Verdict::Bad(refusal) => return Answer::Refused(refusal, k),
+        }
+        let code = history[2 * k + 1];
+        let share = share_of(code);
+        once += share.once;
+        each += share.each;
+        k += 1;
+    }
+    let moves = once + each * threads as usize;
+    Answer::Done(moves)
+}
+
+// How many moves the plan for a history makes, without the plan. Refusals and places are the check's.
+pub fn plan_length(threads: u16, history: &[u8]) -> Answer
+    ensures { λ r. ⌜ answerReply r ≡ planLengthReply threads (now (history .entry)) ⌝ }
+{
+    let formed = history::count_pairs(threads, history);
+    let Answer::Done(events) = formed else {
+        return formed;
+    };
+    count_moves(threads, history, events)
+}
 
 // The triples of all pairs, from the front of the output.
 fn write_pairs(out: &mut [u8], threads: u8, history: &[u8])
@@ -29,7 +109,7 @@ fn write_pairs(out: &mut [u8], threads: u8, history: &[u8])
 pub fn plan(threads: u16, history: &[u8], out: &mut [u8]) -> Answer
     ensures { λ r. ⌜ Delivered (planEntry threads (now (history .entry))) (now (out .entry)) (now (out .exit)) (answerReply r) ⌝ }
 {
-    let checked = history::plan_length(threads, history);
+    let checked = plan_length(threads, history);
     let Answer::Done(moves) = checked else {
         return checked;
     };

@@ -87,7 +87,7 @@ pub extern "C" fn wospinzo_check(threads: u16, history: &[u8]) -> u64
 pub extern "C" fn wospinzo_plan_length(threads: u16, history: &[u8]) -> u64
     ensures { λ r. ⌜ r ≡ countNumber (planLengthReply threads (now (history .entry))) ⌝ }
 {
-    let answer = history::plan_length(threads, history);
+    let answer = plan::plan_length(threads, history);
     answer_number(answer)
 }
 

@@ -9,8 +9,8 @@ use Rattle.definitions.specs.Bounds.{mostThreads}
 use Rattle.definitions.specs.PlainLock.{pairsOf}
 use Rattle.definitions.specs.Plan.{planOf, plan}
 use Rattle.definitions.specs.declared.Request.{Request}
-use Rattle.shares.specs.Shares.{ShareOf}
-use Rattle.shares.specs.declared.Share.{Share}
+use Rattle.plan.specs.Shares.{ShareOf}
+use Rattle.plan.specs.declared.Share.{Share}
 use Rattle.theory.proofs.Pairs.{pairAt, pairs-next, pairs-end}
 
 -- ---- the plan of the pairs from index k on

@@ -3,7 +3,7 @@ use Prim.Native.Nat.{ℕ, _+_, _*_, _≤_}
 use mathlib.Core.Path.{_≡_}
 use lib.ListN.{length}
 use Rattle.definitions.specs.Plan.{planOf}
-use Rattle.shares.specs.declared.Share.{Share}
+use Rattle.plan.specs.declared.Share.{Share}
 
 -- its plan's moves for any number of threads, few of either kind
 pub record ShareOf (event : ℕ) (s : Share) : Type 0 where

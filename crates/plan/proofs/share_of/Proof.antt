@@ -6,12 +6,12 @@ use mathlib.Core.Path.{_≡_, sym, ap, _∙_}
 use borrow.Author.Needs.{needs}
 use lib.ListN.{length, getD}
 use Rattle.definitions.specs.Threads.{every, among}
-use Rattle.shares.specs.Shares.{ShareOf}
-use Rattle.shares.specs.declared.Share.{Share}
+use Rattle.plan.specs.Shares.{ShareOf}
+use Rattle.plan.specs.declared.Share.{Share}
 use Rattle.theory.proofs.Matches.{NoneOf, left-over}
 use Rattle.theory.proofs.PlanLengths.{eventLengths, event-length, plan-past}
-use Rattle.shares.proofs.share_of.Statement.{statement}
-use Rattle.shares.proofs.share_of.Tie as tie
+use Rattle.plan.proofs.share_of.Statement.{statement}
+use Rattle.plan.proofs.share_of.Tie as tie
 
 -- that of the arm for code k, by its two numbers
 at : (k code once each : ℕ) (r : Share) → code ≡ k → r ≡ record { once = once; each = each } → once ≤ 3 → each ≤ 2

@@ -1,2 +1,0 @@
--- The plan of the pairs that are left, and what is counted of those before them.
-pub mod Counting
