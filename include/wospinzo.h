@@ -89,6 +89,12 @@ extern "C" {
 /* The longest history and the longest script, in bytes. */
 #define WOSPINZO_MAX_HISTORY 60000
 #define WOSPINZO_MAX_SCRIPT 30000
+/* The bytes of a plan of so many moves, and the moves and bytes of the longest
+ * plan: that of the longest history for 200 threads, rounds of exclusive and
+ * then each thread's events 5, 6 and 7. */
+#define WOSPINZO_PLAN_SIZE(moves) (3u * (moves))
+#define WOSPINZO_MAX_PLAN_MOVES 4575100
+#define WOSPINZO_MAX_PLAN_SIZE 13725300
 /* Bytes in which the output of every run fits. */
 #define WOSPINZO_RUN_ROOM 65536
 /* Bytes in which the moves of every script fit: behind the 12 bytes of its
@@ -279,9 +285,9 @@ static inline unsigned wospinzo_forbidden(const uint8_t *table, uint16_t thread)
     return table[5u + 3u * thread];
 }
 
-/* Of this header: the largest table, that an answer's parts fit, the room for a
- * script's moves, and the layout of a watcher's record. Its size is odd, so that
- * its alignment is 1. */
+/* Of this header: the largest table, that an answer's parts fit, the longest
+ * plan, the room for a script's moves, and the layout of a watcher's record. Its
+ * size is odd, so that its alignment is 1. */
 #if defined(__cplusplus)
 #define WOSPINZO_ASSERT(name, condition) static_assert(condition, "wospinzo.h: " #name)
 #elif defined(__STDC_VERSION__) && __STDC_VERSION__ >= 201112L
@@ -291,6 +297,10 @@ static inline unsigned wospinzo_forbidden(const uint8_t *table, uint16_t thread)
 #endif
 WOSPINZO_ASSERT(table, WOSPINZO_TABLE_SIZE(WOSPINZO_MAX_THREADS) == WOSPINZO_MAX_TABLE_SIZE);
 WOSPINZO_ASSERT(byte, WOSPINZO_MAX_THREADS < WOSPINZO_NO_TARGET && WOSPINZO_NO_TARGET <= UINT8_MAX);
+WOSPINZO_ASSERT(moves, (3 * WOSPINZO_MAX_THREADS + 6) * (WOSPINZO_MAX_HISTORY / 2) +
+                               (3 * WOSPINZO_MAX_THREADS + 2) * WOSPINZO_MAX_THREADS ==
+                           4 * WOSPINZO_MAX_PLAN_MOVES);
+WOSPINZO_ASSERT(plan, WOSPINZO_PLAN_SIZE(WOSPINZO_MAX_PLAN_MOVES) == WOSPINZO_MAX_PLAN_SIZE);
 WOSPINZO_ASSERT(room, WOSPINZO_READ_ROOM == (WOSPINZO_MAX_SCRIPT - 12) / 9 * 3);
 WOSPINZO_ASSERT(watcher, sizeof(wospinzo_watcher) == WOSPINZO_WATCHER_SIZE);
 WOSPINZO_ASSERT(places, offsetof(wospinzo_watcher, places) == 3);
@@ -368,11 +378,26 @@ WOSPINZO_USE_ANSWER
 uint64_t wospinzo_check(uint16_t threads, const uint8_t *history, size_t history_len);
 
 /*
+ * Counts the moves of the plan for a history without making the plan, so that
+ * memory for it can be reserved: with WOSPINZO_PLAN_SIZE of the answer as output
+ * wospinzo_plan is not refused by 12, with a byte less it is. A full round of
+ * shared counts 7 moves and one of exclusive 3N + 6, whatever stands between its
+ * events. A round that isn't finished counts 1, 4 or 6 after its event 1, 2 or
+ * 3, and 1, 2N + 3 or 3N + 5 after its event 5, 6 or 7.
+ * Answers the number of moves, the one that wospinzo_plan answers, at most
+ * WOSPINZO_MAX_PLAN_MOVES. Writes nothing.
+ * Refusals: those of wospinzo_check, with the same place.
+ */
+WOSPINZO_USE_ANSWER
+uint64_t wospinzo_plan_length(uint16_t threads, const uint8_t *history, size_t history_len);
+
+/*
  * Writes a plan for a history: byte triples, thread, move and target, which as
  * requests to wospinzo_move from a fresh table are all accepted and show
  * exactly that history. Events 1, 4, 5 and 8 take one move, 2 takes three, 3
  * two, 6 takes 2N + 2 and 7 takes N + 2.
- * Answers the number of moves; three times as many bytes are written.
+ * Answers the number of moves, the one that wospinzo_plan_length answers; three
+ * times as many bytes are written, WOSPINZO_PLAN_SIZE of it.
  * Refusals: those of wospinzo_check, then 12.
  */
 WOSPINZO_USE_ANSWER

@@ -22,6 +22,34 @@ static bool watches()
     return good;
 }
 
+// The history with the longest plan: rounds of exclusive, then each thread's events 5, 6 and 7.
+static uint64_t longest_plan()
+{
+    static uint8_t history[WOSPINZO_MAX_HISTORY];
+    const size_t events = sizeof history / 2, rounds = events - 3 * WOSPINZO_MAX_THREADS;
+
+    for (size_t i = 0; i < events; i++) {
+        const size_t last = i < rounds ? 0 : i - rounds;
+        history[2 * i] = static_cast<uint8_t>(last / 3);
+        history[2 * i + 1] = static_cast<uint8_t>(5 + (i < rounds ? i % 4 : last % 3));
+    }
+    return wospinzo_plan_length(WOSPINZO_MAX_THREADS, history, sizeof history);
+}
+
+// How long a plan will be: the plan's own count, its bytes, the longest plan, and a refusal's place.
+static bool plans()
+{
+    const uint8_t history[] = {1, 5, 0, 1, 1, 6, 1, 7, 0, 2}, bad[] = {0, 1, 0, 3};
+    uint8_t triples[WOSPINZO_PLAN_SIZE(15)];
+
+    bool good = wospinzo_value(wospinzo_plan_length(2, history, sizeof history)) == 15;
+    good = good && wospinzo_value(wospinzo_plan(2, history, sizeof history, triples, sizeof triples)) == 15;
+    good = good && wospinzo_plan(2, history, sizeof history, triples, sizeof triples - 1) == WOSPINZO_NO_ROOM;
+    good = good && wospinzo_accepted(longest_plan()) && wospinzo_value(longest_plan()) == WOSPINZO_MAX_PLAN_MOVES;
+    const uint64_t bad_pair = wospinzo_plan_length(1, bad, sizeof bad);
+    return good && wospinzo_refusal(bad_pair) == WOSPINZO_NOT_NEXT && wospinzo_value(bad_pair) == 1;
+}
+
 // A plan written as a script, and read back: each part of the answer, and a refusal's place.
 static bool scripts()
 {
@@ -63,5 +91,5 @@ int main()
     good = good && wospinzo_value(wospinzo_plan(2, history, sizeof history, out, sizeof out)) == 4;
     good = good && wospinzo_value(wospinzo_run(script, sizeof script, out, sizeof out)) == 10;
     good = good && wospinzo_refusal(wospinzo_check(201, history, sizeof history)) == WOSPINZO_BAD_SIZE;
-    return good && watches() && scripts() ? 0 : 1;
+    return good && watches() && plans() && scripts() ? 0 : 1;
 }
