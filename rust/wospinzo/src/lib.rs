@@ -109,6 +109,7 @@
 //! | [`nodes`] | where every thread is | 1, 2, 12 |
 //! | [`open_moves`] | the moves that a thread has now | 1, 2, 3, 12 |
 //! | [`check`] | judges a history of events | 1, 8 to 11 |
+//! | [`plan_length`] | how many moves the plan will have | 1, 8 to 11 |
 //! | [`plan`] | moves that show a given history | 1, 8 to 12 |
 //! | [`run`] | runs a script | 8, 12 |
 //! | [`write_script`] | writes moves as a script | 1, 3 to 5, 8, 12 |
@@ -134,8 +135,8 @@
 //! The functions are in the archive `libwospinzo.a`. The build looks for it in
 //! the folder that the environment variable `WOSPINZO_LIB_DIR` names, else in
 //! `target/staticlib` of the repository. The features `history` ([`check`],
-//! [`plan`]) and `script` ([`run`], [`write_script`], [`read_script`]) are on by
-//! default.
+//! [`plan_length`], [`plan`]) and `script` ([`run`], [`write_script`],
+//! [`read_script`]) are on by default.
 //!
 //! No function panics, as long as the archive is the one described here.
 
@@ -168,6 +169,10 @@ pub const NO_TARGET: u8 = 255;
 pub const MAX_HISTORY: usize = 60_000;
 /// The longest script, in bytes.
 pub const MAX_SCRIPT: usize = 30_000;
+/// The moves of the longest plan.
+pub const MAX_PLAN_MOVES: usize = 4_575_100;
+/// The bytes of the longest plan.
+pub const MAX_PLAN_SIZE: usize = plan_size(MAX_PLAN_MOVES);
 /// Bytes in which the output of every run fits.
 pub const RUN_ROOM: usize = 65_536;
 /// Bytes in which the moves of every script fit.
@@ -189,6 +194,11 @@ pub const fn table_size(threads: u16) -> usize {
 /// Bytes in which a thread's open moves always fit, for so many threads.
 pub const fn open_moves_room(threads: u16) -> usize {
     4 * threads as usize
+}
+
+/// The bytes of a plan of so many moves.
+pub const fn plan_size(moves: usize) -> usize {
+    3 * moves
 }
 
 /// The version of the archive, as [`VERSION`].
@@ -399,9 +409,42 @@ pub fn check(threads: u16, history: &[u8]) -> Result<usize, Rejected> {
     counted(unsafe { raw::wospinzo_check(threads, history.as_ptr(), history.len()) })
 }
 
+/// Counts the moves of the plan for a history without making the plan, so that
+/// memory for it can be reserved: [`plan`] answers the same number and fills
+/// [`plan_size`] bytes. It is at most [`MAX_PLAN_MOVES`].
+///
+/// A full round of shared counts 7 moves and one of exclusive 3N + 6, whatever
+/// stands between its events. A round that isn't finished counts 1, 4 or 6
+/// after its event 1, 2 or 3, and 1, 2N + 3 or 3N + 5 after its event 5, 6 or 7.
+///
+/// # Errors
+///
+/// Those of [`check`], with the same place.
+///
+/// ```
+/// use wospinzo::{plan, plan_length, plan_size, Refusal, Rejected};
+///
+/// // Thread 0 is in exclusive, thread 1 has called shared.
+/// let history = [0, 5, 1, 1, 0, 6];
+/// let moves = plan_length(2, &history)?;
+/// assert_eq!(moves, 8);
+/// let mut out = vec![0; plan_size(moves)];
+/// assert_eq!(plan(2, &history, &mut out), Ok(moves));
+///
+/// let rejected = Rejected { refusal: Refusal::UnknownPair, place: 1 };
+/// assert_eq!(plan_length(1, &history), Err(rejected));
+/// # Ok::<(), Rejected>(())
+/// ```
+#[cfg(feature = "history")]
+pub fn plan_length(threads: u16, history: &[u8]) -> Result<usize, Rejected> {
+    // SAFETY: as in `check`.
+    counted(unsafe { raw::wospinzo_plan_length(threads, history.as_ptr(), history.len()) })
+}
+
 /// Writes a plan for a history: byte triples, thread, move and target, which
 /// from a fresh table [`make_move`] accepts one by one, showing exactly that
-/// history. Answers the number of moves, a third of the bytes written.
+/// history. Answers the number of moves, that of [`plan_length`] and a third of
+/// the bytes written.
 ///
 /// Events 1, 4, 5 and 8 take one move, 2 takes three, 3 two, 6 takes 2N + 2
 /// and 7 takes N + 2.

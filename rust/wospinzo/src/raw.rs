@@ -34,6 +34,9 @@ extern "C" {
     /// See [`check`](crate::check).
     #[cfg(feature = "history")]
     pub fn wospinzo_check(threads: u16, history: *const u8, history_len: usize) -> u64;
+    /// See [`plan_length`](crate::plan_length).
+    #[cfg(feature = "history")]
+    pub fn wospinzo_plan_length(threads: u16, history: *const u8, history_len: usize) -> u64;
     /// See [`plan`](crate::plan).
     #[cfg(feature = "history")]
     pub fn wospinzo_plan(

@@ -80,6 +80,8 @@ fn codes_are_those_of_the_header() {
     same("NO_TARGET".into(), wospinzo::NO_TARGET.into());
     same("MAX_HISTORY".into(), wospinzo::MAX_HISTORY as u32);
     same("MAX_SCRIPT".into(), wospinzo::MAX_SCRIPT as u32);
+    same("MAX_PLAN_MOVES".into(), wospinzo::MAX_PLAN_MOVES as u32);
+    same("MAX_PLAN_SIZE".into(), wospinzo::MAX_PLAN_SIZE as u32);
     same("RUN_ROOM".into(), wospinzo::RUN_ROOM as u32);
     same("READ_ROOM".into(), wospinzo::READ_ROOM as u32);
     same("STACK".into(), wospinzo::STACK as u32);
