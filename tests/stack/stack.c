@@ -22,8 +22,7 @@ static uint8_t script[WOSPINZO_MAX_SCRIPT];
 static uint8_t triples[WOSPINZO_READ_ROOM];
 static size_t triples_len;
 static uint8_t spelled[WOSPINZO_MAX_SCRIPT];
-/* The plan of the longest history fits: a round of a writer, four events, takes 3N + 6 moves. */
-static uint8_t out[3 * (WOSPINZO_MAX_HISTORY / 8 + 1) * (3 * WOSPINZO_MAX_THREADS + 6)];
+static uint8_t out[WOSPINZO_MAX_PLAN_SIZE];
 static uint64_t answer;
 
 static void nothing(void) { answer = 0; }
@@ -33,6 +32,7 @@ static void move(void) { answer = wospinzo_move(table, sizeof table, 199, WOSPIN
 static void nodes(void) { answer = wospinzo_nodes(table, sizeof table, out, sizeof out); }
 static void open_moves(void) { answer = wospinzo_open_moves(table, sizeof table, 199, out, sizeof out); }
 static void check(void) { answer = wospinzo_check(WOSPINZO_MAX_THREADS, history, sizeof history); }
+static void plan_length(void) { answer = wospinzo_plan_length(WOSPINZO_MAX_THREADS, history, sizeof history); }
 static void plan(void) { answer = wospinzo_plan(WOSPINZO_MAX_THREADS, history, sizeof history, out, sizeof out); }
 static void run(void) { answer = wospinzo_run(script, sizeof script, out, WOSPINZO_RUN_ROOM); }
 static void write_script(void) { answer = wospinzo_write_script(WOSPINZO_MAX_THREADS, triples, triples_len, out, WOSPINZO_MAX_SCRIPT); }
@@ -133,6 +133,7 @@ int main(void)
         {"wospinzo_nodes", nodes, WOSPINZO_STACK},
         {"wospinzo_open_moves", open_moves, WOSPINZO_STACK},
         {"wospinzo_check", check, WOSPINZO_STACK},
+        {"wospinzo_plan_length", plan_length, WOSPINZO_STACK},
         {"wospinzo_plan", plan, WOSPINZO_STACK},
         {"wospinzo_run", run, WOSPINZO_RUN_STACK},
         {"wospinzo_write_script", write_script, WOSPINZO_STACK},

@@ -10,10 +10,10 @@
 
 #include "wospinzo.h"
 
-enum { MOST_PLAN = 13725300, PAST_LAST_MOVE = WOSPINZO_HOLD + 1, LONG_LIST = 100000 };
+enum { PAST_LAST_MOVE = WOSPINZO_HOLD + 1, LONG_LIST = 100000 };
 
 static uint8_t table[WOSPINZO_MAX_TABLE_SIZE], kept[WOSPINZO_MAX_TABLE_SIZE];
-static uint8_t history[WOSPINZO_MAX_HISTORY], script[WOSPINZO_MAX_SCRIPT], triples[WOSPINZO_READ_ROOM], out[MOST_PLAN];
+static uint8_t history[WOSPINZO_MAX_HISTORY], script[WOSPINZO_MAX_SCRIPT], triples[WOSPINZO_READ_ROOM], out[WOSPINZO_MAX_PLAN_SIZE];
 static wospinzo_watcher watcher;
 static uint64_t answer;
 static uint32_t version;
@@ -168,6 +168,7 @@ static void bad_last(unsigned expected, uint16_t n, size_t events, uint8_t threa
     last[0] = thread;
     last[1] = event;
     COUNT(expected, wospinzo_check(n, history, 2 * events), "check %u %zu the last pair is refused by %u", n, events, expected);
+    COUNT(expected, wospinzo_plan_length(n, history, 2 * events), "plan_length %u %zu the last pair is refused by %u", n, events, expected);
     COUNT(expected, wospinzo_plan(n, history, 2 * events, out, sizeof out), "plan %u %zu 0 the last pair is refused by %u", n, events, expected);
     memcpy(last, was, 2);
 }
@@ -182,10 +183,13 @@ static void histories(uint16_t n, size_t events)
         history[2 * k + 1] = (uint8_t)(1 + k % 4);
     }
     COUNT(WOSPINZO_ACCEPTED, wospinzo_check(n, history, 2 * events), "check %u %zu shared", n, events);
+    COUNT(WOSPINZO_ACCEPTED, wospinzo_plan_length(n, history, 2 * events), "plan_length %u %zu shared", n, events);
     COUNT(WOSPINZO_ACCEPTED, wospinzo_plan(n, history, 2 * events, out, sizeof out), "plan %u %zu %zu shared", n, events, events / 4 * 7);
     COUNT(WOSPINZO_NO_ROOM, wospinzo_plan(n, history, 2 * events, out, 0), "plan %u %zu 0 refused by 12", n, events);
     COUNT(WOSPINZO_BAD_FORM, wospinzo_check(n, history, 2 * events - 1), "check %u %zu refused by 8", n, events);
     COUNT(WOSPINZO_BAD_SIZE, wospinzo_check(0, history, 2 * events), "check 0 %zu refused by 1", events);
+    COUNT(WOSPINZO_BAD_FORM, wospinzo_plan_length(n, history, 2 * events - 1), "plan_length %u %zu refused by 8", n, events);
+    COUNT(WOSPINZO_BAD_SIZE, wospinzo_plan_length(0, history, 2 * events), "plan_length 0 %zu refused by 1", events);
     bad_last(WOSPINZO_UNKNOWN_PAIR, n, events, 0, 9);
     bad_last(WOSPINZO_UNKNOWN_PAIR, n, events, (uint8_t)n, 1);
     bad_last(WOSPINZO_NOT_NEXT, n, events, 0, 8);
@@ -201,6 +205,7 @@ static void histories(uint16_t n, size_t events)
         history[2 * k + 1] = (uint8_t)(5 + k % 4);
     }
     COUNT(WOSPINZO_ACCEPTED, wospinzo_check(n, history, 2 * events), "check %u %zu exclusive", n, events);
+    COUNT(WOSPINZO_ACCEPTED, wospinzo_plan_length(n, history, 2 * events), "plan_length %u %zu exclusive", n, events);
     COUNT(WOSPINZO_ACCEPTED, wospinzo_plan(n, history, 2 * events, out, sizeof out), "plan %u %zu %zu exclusive", n, events, events / 4 * (3u * n + 6u));
 }
 
