@@ -2,7 +2,7 @@
 
 use std::fmt;
 
-use wospinzo::{check, plan, write_script, Refusal, Rejected, MAX_SCRIPT};
+use wospinzo::{check, plan, plan_length, plan_size, write_script, Refusal, Rejected, MAX_SCRIPT};
 
 use crate::events::{self, ThreadEvent};
 use crate::explain::explain;
@@ -60,12 +60,12 @@ pub fn script(threads: u16, file: &[u8]) -> Result<Vec<u8>, Refused> {
     written(threads, &triples).map_err(|rejected| refused_script(rejected, events.len()))
 }
 
-/// The plan's triples. An event takes 2N + 2 moves at most, or three.
+/// The plan's triples.
 fn triples(threads: u16, events: &[ThreadEvent]) -> Result<Vec<u8>, Rejected> {
-    let moves = 2 * usize::from(threads) + 2;
-    let mut triples = vec![0; 3 * events.len() * moves];
-    let moves = plan(threads, &events::history(events), &mut triples)?;
-    triples.truncate(3 * moves);
+    let history = events::history(events);
+    let moves = plan_length(threads, &history)?;
+    let mut triples = vec![0; plan_size(moves)];
+    plan(threads, &history, &mut triples)?;
     Ok(triples)
 }
 
