@@ -1,6 +1,7 @@
 -- Shared facts first, then the theorems; each file says what it shows.
 pub mod Numbers
 pub mod Lines
+pub mod Sums
 pub mod Potential
 pub mod LastLine
 -- the theorems

@@ -1,11 +1,9 @@
 -- The amortised cost of a move: the bytes that it prints and the potential after it are at most twice the bytes of its line and the potential before it.
 -- The potential of a table is the sum of its threads' credits, and a thread's credit goes by its phase.
-use Prim.Native.Nat.{ℕ, zero, suc, _+_, _*_, _≤_, _<_}
-use native.Mathlib.Nat.{not-suc-le-zero}
+use Prim.Native.Nat.{ℕ, suc, _+_, _*_, _≤_, _<_}
 use native.Mathlib.Omega.{arith}
 use mathlib.Core.List.{List}
-use mathlib.Core.Logic.{⊎-elim}
-use mathlib.Core.Path.{_≡_, refl, sym, subst, ap, _∙_}
+use mathlib.Core.Path.{_≡_, sym, subst, ap, _∙_}
 use lib.Dec.{T}
 use lib.ListN.{length}
 use Rattle.definitions.specs.Answers.{Reply, accepted, isAccepted, Seen, shown}
@@ -21,46 +19,20 @@ use Rattle.runs.specs.Length.{credit}
 use Rattle.theory.proofs.Bytes.{byte-keeps, fresh-table}
 use Rattle.theory.proofs.Lengths.{event-size}
 use Rattle.theory.proofs.Numbers.{decimal-some}
-use Rattle.theory.proofs.Quantifiers.{below-suc, every-at}
+use Rattle.theory.proofs.Quantifiers.{every-at}
 use Rattle.theory.proofs.Storages.{accepts-e, accepted-reply, accepted-table}
 use Rattle.theory.proofs.Tests.{implies-e}
 use Rattle.theory.proofs.Ways.{accepted-e, Way, way}
 use Rattle.theory.proofs.Ways.{call-shared, raise-busy, find-open, find-forbidden, back-off, try-again, hold-mutex, give-back, enter-shared, leave-shared, lower-busy, return-shared}
 use Rattle.theory.proofs.Ways.{call-exclusive, take-mutex, set-flag, find-busy, last-flag, next-flag, relents, give-up, enter-exclusive, leave-exclusive}
 use Rattle.theory.proofs.Ways.{set-again, clear-flag, clear-last, release-mutex, return-exclusive}
-use Rattle.theory.proofs.Writes.{update-same, update-other}
 use Rattle.runs.proofs.Lines.{isCall, LineFits}
-
--- ---- sums over the threads
-
--- f 0 + f 1 + .. up to n - 1
-abbrev pub sumOf : ℕ → (ℕ → ℕ) → ℕ
-sumOf zero f = 0
-sumOf (suc n) f = sumOf n f + f n
-
-sum-same : (n : ℕ) (f g : ℕ → ℕ) → ((j : ℕ) → j < n → g j ≡ f j) → sumOf n g ≡ sumOf n f
-sum-same zero f g h = refl
-sum-same (suc n) f g h = let rest = sum-same n f g (λ j l. h j (omega arith)) in let here = h n (omega arith) in omega arith
-
--- g is f but at i
-sum-but : (n : ℕ) (f g : ℕ → ℕ) (i : ℕ) → i < n → ((j : ℕ) → (j ≡ i → ⊥) → g j ≡ f j) → sumOf n g + f i ≡ sumOf n f + g i
-sum-but zero f g i l others = absurd (not-suc-le-zero l)
-sum-but (suc n) f g i l others =
-    ⊎-elim
-    (λ e.
-    let rest = sum-same n f g (λ j k. others j (λ z. omega arith)) in
-    subst (λ (k : ℕ). sumOf n g + g n + f k ≡ sumOf n f + f n + g k) (sym e) (omega arith))
-    (λ k. let rest = sum-but n f g i k others in let last = others n (λ z. omega arith) in omega arith)
-    (below-suc i n l)
+use Rattle.runs.proofs.Sums.{sumOf, sum-update, sum-zero}
 
 -- ---- the potential
 
 abbrev pub potential : Table → ℕ
 potential s = sumOf (s .threads) (λ j. credit (s .phase j))
-
-sum-zero : (n : ℕ) → sumOf n (λ j. 0) ≡ 0
-sum-zero zero = refl
-sum-zero (suc n) = let rest = sum-zero n in omega arith
 
 pub fresh-potential : (n : ℕ) → potential (tableOf (fresh n)) ≡ 0
 unfolding credit
@@ -68,12 +40,7 @@ fresh-potential n = ap potential (fresh-table n) ∙ sum-zero n
 
 -- a thread goes from phase p to phase q
 moved : (s : Table) (i p q : ℕ) → i < s .threads → s .phase i ≡ p → sumOf (s .threads) (λ j. credit (update (s .phase) i q j)) + credit p ≡ potential s + credit q
-moved s i p q l e =
-    let g : ℕ → ℕ = λ j. credit (update (s .phase) i q j) in
-    let change = sum-but (s .threads) (λ j. credit (s .phase j)) g i l (λ j h. ap credit (update-other (s .phase) i q j h)) in
-    let before = ap credit e in
-    let after = ap credit (update-same (s .phase) i q i refl) in
-    omega arith
+moved s i p q l e = let change = sum-update (s .threads) credit (s .phase) i q l in let before = ap credit e in omega arith
 
 -- ---- what a move prints
 
