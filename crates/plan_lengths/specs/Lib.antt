@@ -1,0 +1,2 @@
+-- What the theorems on how long a plan will be speak of besides the definitions.
+pub mod Rounds
