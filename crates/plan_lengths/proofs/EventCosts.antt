@@ -9,6 +9,7 @@ use Rattle.definitions.specs.Moves.{ask}
 use Rattle.definitions.specs.PlainLock.{Pair}
 use Rattle.definitions.specs.Plan.{planRows, planOf, plan}
 use Rattle.definitions.specs.Threads.{gather}
+use Rattle.definitions.specs.declared.Request.{Request}
 use Rattle.theory.proofs.Lengths.{gather-length}
 
 -- the moves of an event's plan, by its code
@@ -19,15 +20,17 @@ module _ (n : ℕ) where
   pub event-moves : (x : Pair) → length (planOf n x) ≡ movesFor n (x .event)
   unfolding planOf movesFor
   event-moves x =
-      let i = x .thread in
       sym (List·getD-map length (planRows n i) (x .event) [])
-      ∙ ap₂ (λ (enter leave : ℕ). getD (0 ∷ 1 ∷ 3 ∷ 2 ∷ 1 ∷ 1 ∷ enter ∷ leave ∷ 1 ∷ []) (x .event) 0) (enters i) (leaves i)
+      ∙ ap₂ (λ (enter leave : ℕ). getD (0 ∷ 1 ∷ 3 ∷ 2 ∷ 1 ∷ 1 ∷ enter ∷ leave ∷ 1 ∷ []) (x .event) 0)
+      (around (λ t. ask i setMove t ∷ ask i go 0 ∷ []) 2 (λ t. refl))
+      (around (λ t. ask i clearMove t ∷ []) 1 (λ t. refl) ∙ omega arith)
     where
-      enters : (i : ℕ) → length ((ask i go 0 ∷ []) ++ (gather n (λ t. ask i setMove t ∷ ask i go 0 ∷ []) ++ (ask i go 0 ∷ []))) ≡ 2 * n + 2
-      enters i = simp length-append (omega (arith, gather-length (λ t. ask i setMove t ∷ ask i go 0 ∷ []) 2 n (λ t. refl)))
+      i : ℕ
+      i = x .thread
 
-      leaves : (i : ℕ) → length ((ask i go 0 ∷ []) ++ (gather n (λ t. ask i clearMove t ∷ []) ++ (ask i go 0 ∷ []))) ≡ n + 2
-      leaves i = simp length-append (omega (arith, gather-length (λ t. ask i clearMove t ∷ []) 1 n (λ t. refl)))
+      -- so many for each thread between one and one
+      around : (f : ℕ → List Request) (m : ℕ) → ((t : ℕ) → length (f t) ≡ m) → length ((ask i go 0 ∷ []) ++ (gather n f ++ (ask i go 0 ∷ []))) ≡ m * n + 2
+      around f m e = simp length-append (omega (arith, gather-length f m n e))
 
   -- one event in front
   pub moves-more : (x : Pair) (h : List Pair) → length (plan n (x ∷ h)) ≡ movesFor n (x .event) + length (plan n h)

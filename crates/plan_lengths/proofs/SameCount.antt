@@ -1,6 +1,6 @@
--- "The answer is the very count that the plan then reports": the number that is answered of a plan's length is the one that the plan entry answers (`same-count`, `counted-somewhere`), which
--- needs three bytes of output for each and no more (`enough`, `too-short`); "A history that the check turns down gets the check's number and place." (`refused-alike`, `refused-plan`,
--- `accepted-alike`, `accepted-check`). For every N and all bytes.
+-- "The answer is the very count that the plan then reports": the number that is answered of a plan's length is the one that the plan entry answers (`planned-count`, `same-count`,
+-- `counted-somewhere`), given three bytes of output a move (`enough`) and not with less (`too-short`). "A history that the check turns down gets the check's number and place.": what is
+-- answered is a number exactly where the check answers one (`accepted-alike`, `accepted-check`), and else the check's refusal (`refused-alike`, `refused-plan`). For every N and all bytes.
 use Prim.Native.Nat.{ℕ, _*_, _≤_, _<_}
 use native.Mathlib.Omega.{arith}
 use mathlib.Core.List.{List}
@@ -49,18 +49,18 @@ module _ (n : ℕ) (bytes : List ℕ) where
       let (tested, same) = length-e k e in
       no-room (planEntry n bytes) out tested (omega (arith, bytes-length moves))
 
-  -- Whatever number the plan entry answers, that is its length, and the other way where the output has room.
-  pub same-count : (out : List ℕ) (k : ℕ) → 3 * k ≤ length out → (planLengthReply n bytes ≡ accepted k) ↔ (deliveryReply (planEntry n bytes) out ≡ accepted k)
-  same-count out k room = (
-    λ e. sym (enough out k e room .0 .reply),
-    λ e. let (tested, some, same) = plan-accepted n bytes out k e in length-i k tested same,
-  )
+  -- Whatever number the plan entry answers, with whatever output, is the number answered of the length.
+  pub planned-count : (out : List ℕ) (k : ℕ) → deliveryReply (planEntry n bytes) out ≡ accepted k → planLengthReply n bytes ≡ accepted k
+  planned-count out k e = let (tested, room, same) = plan-accepted n bytes out k e in length-i k tested same
 
-  -- The number is the length exactly where the plan entry answers it for some output.
+  -- So the two numbers are the same where the output has room, and a number is answered of the length exactly where the plan entry answers it for some output.
+  pub same-count : (out : List ℕ) (k : ℕ) → 3 * k ≤ length out → (planLengthReply n bytes ≡ accepted k) ↔ (deliveryReply (planEntry n bytes) out ≡ accepted k)
+  same-count out k room = (λ e. sym (enough out k e room .0 .reply), planned-count out k)
+
   pub counted-somewhere : (k : ℕ) → (planLengthReply n bytes ≡ accepted k) ↔ ((out : List ℕ) × (deliveryReply (planEntry n bytes) out ≡ accepted k))
   counted-somewhere k = (
-    λ e. (bytesOf moves, same-count (bytesOf moves) k (omega (arith, bytes-length moves, length-e k e .1)) .0 e),
-    λ (out, e). let (tested, some, same) = plan-accepted n bytes out k e in length-i k tested same,
+    λ e. let out = bytesOf moves in (out, same-count out k (omega (arith, bytes-length moves, length-e k e .1)) .0 e),
+    λ (out, e). planned-count out k e,
   )
 
   -- A length is answered where the check passes, and only there.

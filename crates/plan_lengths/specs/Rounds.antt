@@ -23,9 +23,12 @@ sharedRound = 7
 abbrev pub exclusiveRound : ℕ → ℕ
 exclusiveRound n = 3 * n + 6
 
--- the moves of a round that has come to a place, 0 to 7, and goes no further; nobody is ever at place 4
+-- the moves of a round that has come to a place, a column for the places 0 to 7; nobody is ever at place 4
+abbrev pub begunColumn : ℕ → List ℕ
+begunColumn n = 0 ∷ 1 ∷ 4 ∷ 6 ∷ 0 ∷ 1 ∷ (2 * n + 3) ∷ (3 * n + 5) ∷ []
+
 unfoldable pub begun : ℕ → ℕ → ℕ
-begun n place = getD (0 ∷ 1 ∷ 4 ∷ 6 ∷ 0 ∷ 1 ∷ (2 * n + 3) ∷ (3 * n + 5) ∷ []) place 0
+begun n place = getD (begunColumn n) place 0
 
 -- the moves of a history by its rounds: those that end, shared ones by event 4 and exclusive ones by event 8, and the one that each thread is in at the end
 unfoldable pub byRounds : ℕ → List Pair → ℕ
@@ -33,14 +36,16 @@ byRounds n h = sharedRound * howOften 4 h + exclusiveRound n * howOften 8 h + su
 
 -- ---- the longest plan
 
--- a thread shows some events
-abbrev pub showing : List ℕ → ℕ → List Pair
-showing [] t = []
-showing (event ∷ events) t = pairOf t event ∷ showing events t
+-- a thread goes round in exclusive, or goes as far as its 7
+abbrev pub wholeRound : ℕ → List Pair
+wholeRound t = pairOf t 5 ∷ pairOf t 6 ∷ pairOf t 7 ∷ pairOf t 8 ∷ []
 
--- thread 0 goes round in exclusive so many times, then each thread goes as far as its 7 and stops
+abbrev pub unfinished : ℕ → List Pair
+unfinished t = pairOf t 5 ∷ pairOf t 6 ∷ pairOf t 7 ∷ []
+
+-- thread 0 goes round so many times, then each thread goes as far as its 7 and stops
 unfoldable pub longest : ℕ → ℕ → List Pair
-longest n rounds = gather rounds (λ k. showing (5 ∷ 6 ∷ 7 ∷ 8 ∷ []) 0) ++ gather n (showing (5 ∷ 6 ∷ 7 ∷ []))
+longest n times = gather times (λ k. wholeRound 0) ++ gather n unfinished
 
 -- the most moves of a plan for a history that the check passes, and the most bytes
 abbrev pub mostMoves : ℕ
