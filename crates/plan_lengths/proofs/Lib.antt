@@ -3,3 +3,5 @@ pub mod EventCosts
 pub mod ByRounds
 pub mod SameCount
 pub mod RoundCosts
+pub mod LongestHistory
+pub mod Longest
