@@ -11,6 +11,7 @@ use Rattle.definitions.specs.Sound.{sound}
 use Rattle.definitions.specs.Table.{Table, freshTable}
 use Rattle.definitions.specs.Threads.{listOf}
 use Rattle.orders.specs.Rounds.{restPhase}
+use Rattle.orders.specs.Histories.{pairOf}
 use Rattle.history.proofs.PlainLaws.{pairFits, permittedFrom, Next, calls-shared, calls-exclusive, goes-on, next-e, leaves-by}
 use Rattle.theory.proofs.Cases.{or-at, none-of, among-range}
 use Rattle.theory.proofs.Quantifiers.{none-i}
@@ -19,7 +20,7 @@ use Rattle.theory.proofs.Tests.{and-l, and-r, T-false, eq-T}
 use Rattle.theory.proofs.Writes.{same-table}
 use Rattle.orders.proofs.Chains.{Leads, stays, both}
 use Rattle.orders.proofs.Flags.{enters-exclusive, leaves-exclusive}
-use Rattle.orders.proofs.PairTests.{pairOf, Permits, permits-e}
+use Rattle.orders.proofs.PairTests.{Permits, permits-e}
 use Rattle.orders.proofs.RestTables.{restBusy, resting, PlanLeads, shared-call, exclusive-call, enters-shared, leaves-shared, returns-shared, returns-exclusive}
 
 -- ---- the place before an event

@@ -16,13 +16,13 @@ use Rattle.definitions.specs.Sound.{sound}
 use Rattle.definitions.specs.Table.{Table, mutex≔, target≔, phase≔, forbidden≔, update, applied}
 use Rattle.definitions.specs.Threads.{every, among, gather}
 use Rattle.orders.specs.Rounds.{restPhase}
+use Rattle.orders.specs.Histories.{pairOf}
 use Rattle.theory.proofs.Quantifiers.{below-suc, every-at, every-i, some-i, none-at, none-i}
 use Rattle.theory.proofs.Soundness.{sound-e}
 use Rattle.theory.proofs.Tests.{T-true, T-false, false-T, or-e, or-l, or-r, same-test, not-i, cond-yes, cond-no, eq-T, ne-T, same?}
 use Rattle.theory.proofs.Writes.{update-same, update-other, same-table}
 use Rattle.orders.proofs.Chains.{Leads, stays, both}
 use Rattle.orders.proofs.Columns.{along, same-column, kept, through, update-twice}
-use Rattle.orders.proofs.PairTests.{pairOf}
 use Rattle.orders.proofs.RestTables.{restBusy, resting, arrives, makes, makes-go, PlanLeads}
 
 -- ---- tests

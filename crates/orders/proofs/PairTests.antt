@@ -14,10 +14,6 @@ pub record Permits (n : ℕ) (p : Places) (x : Pair) : Type 0 where
   pub next : T (isNext (p (x .thread)) (x .event))
   pub met : T (needMet n p (x .event))
 
--- thread i shows event e
-abbrev pub pairOf : ℕ → ℕ → Pair
-pairOf i e = record { thread = i; event = e }
-
 module _ (n : ℕ) (p : Places) (x : Pair) where
   pub permits-i : Permits n p x → T (pairFits n p x)
   permits-i a =

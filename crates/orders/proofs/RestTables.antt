@@ -17,10 +17,10 @@ use Rattle.definitions.specs.Table.{Table, phase≔, busy≔, update, applied}
 use Rattle.definitions.specs.Threads.{some, among}
 use Rattle.definitions.specs.declared.Request.{Request}
 use Rattle.orders.specs.Rounds.{restPhase}
+use Rattle.orders.specs.Histories.{pairOf}
 use Rattle.theory.proofs.Writes.{update-same, same-table}
 use Rattle.orders.proofs.Chains.{pairSeen, Leads, one, both}
 use Rattle.orders.proofs.Columns.{along, kept, through, update-kept, update-twice}
-use Rattle.orders.proofs.PairTests.{pairOf}
 
 -- busy is 1 in shared alone
 abbrev pub restBusy : ℕ → ℕ

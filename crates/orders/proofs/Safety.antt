@@ -18,6 +18,7 @@ use Rattle.definitions.specs.Table.{Table, Write, phase≔, update, applied, it
 use Rattle.definitions.specs.Threads.{every, some, between, implies}
 use Rattle.definitions.specs.declared.Request.{Request}
 use Rattle.orders.specs.Rounds.{placeOf, placesOf}
+use Rattle.orders.specs.Histories.{pairOf}
 use Rattle.history.proofs.PlainLaws.{pairFits, permittedFrom}
 use Rattle.theory.proofs.Quantifiers.{every-at, none-i}
 use Rattle.theory.proofs.SoundSteps.{kept-sound}
@@ -31,7 +32,7 @@ use Rattle.theory.proofs.Ways.{set-again, clear-flag, clear-last, release-mutex
 use Rattle.theory.proofs.Writes.{applied-keeps}
 use Rattle.orders.proofs.Chains.{pairSeen, own-reply, own-step}
 use Rattle.orders.proofs.Columns.{along, kept, through}
-use Rattle.orders.proofs.PairTests.{pairOf, permits-i}
+use Rattle.orders.proofs.PairTests.{permits-i}
 
 -- ---- what a way does to the places
 

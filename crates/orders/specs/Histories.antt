@@ -15,6 +15,10 @@ use Rattle.definitions.specs.declared.Request.{Request}
 abbrev pub mostEvents : ℕ
 mostEvents = 30_000
 
+-- a thread's event
+abbrev pub pairOf : ℕ → ℕ → Pair
+pairOf thread event = record { thread = thread; event = event }
+
 -- "A history is a list of byte pairs, thread then event."
 unfoldable pub historyBytes : List Pair → List ℕ
 historyBytes [] = []

@@ -10,11 +10,11 @@ use mathlib.Core.Path.{_≡_, sym, subst, subst₂, ap, _∙_}
 use lib.Dec.{T, leb, eqb, leb→le}
 use Rattle.definitions.specs.Bounds.{firstEvent, lastEvent}
 use Rattle.definitions.specs.PlainLock.{Pair, Places, atStart, placeAfter, advanced, placesAfter, isNext, permitted}
-use Rattle.definitions.specs.Threads.{between}
+use Rattle.definitions.specs.Threads.{between, sumOf}
 use Rattle.plan_lengths.specs.Rounds.{howOften}
 use Rattle.history.proofs.PlainLaws.{pairFits, permittedFrom, permitted-is, Next, calls-shared, calls-exclusive, goes-on, next-e}
 use Rattle.orders.proofs.PairTests.{permits-e}
-use Rattle.runs.proofs.Sums.{sumOf, sum-update, sum-zero}
+use Rattle.theory.proofs.Sums.{sum-update, sum-zero}
 use Rattle.theory.proofs.Quantifiers.{below-suc}
 use Rattle.theory.proofs.Tests.{and-l, and-r}
 

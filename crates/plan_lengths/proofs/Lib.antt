@@ -1,5 +1,4 @@
 -- Shared facts first, then the theorems of 02 §4, a file each, the longest plan's last.
-pub mod EventCosts
 pub mod ByRounds
 pub mod SameCount
 pub mod RoundCosts

@@ -11,14 +11,15 @@ use Rattle.definitions.specs.Plan.{plan}
 use Rattle.definitions.specs.Table.{update}
 use Rattle.definitions.specs.Threads.{some, gather, between}
 use Rattle.plan_lengths.specs.Rounds.{exclusiveRound, wholeRound, unfinished, longest}
+use Rattle.orders.specs.Histories.{pairOf}
 use Rattle.history.proofs.PlainLaws.{pairFits, permittedFrom, permitted-is}
 use Rattle.orders.proofs.Columns.{update-kept, update-twice}
-use Rattle.orders.proofs.PairTests.{pairOf, permits-i}
+use Rattle.orders.proofs.PairTests.{permits-i}
 use Rattle.theory.proofs.Lengths.{gather-length}
 use Rattle.theory.proofs.Quantifiers.{none-i}
 use Rattle.theory.proofs.Tests.{and-i, cond-either}
 use Rattle.theory.proofs.Writes.{update-same, update-other}
-use Rattle.plan_lengths.proofs.EventCosts.{movesFor, moves-more, moves-append}
+use Rattle.theory.proofs.PlanLengths.{movesFor, moves-more, moves-append}
 use Rattle.plan_lengths.proofs.RoundCosts.{exclusive-round}
 
 -- ---- permitted

@@ -10,10 +10,10 @@ use Rattle.definitions.specs.Answers.{accepted}
 use Rattle.definitions.specs.PlainLock.{Pair, pairsOf, permitted}
 use Rattle.definitions.specs.Plan.{plan, planLengthReply}
 use Rattle.plan_lengths.specs.Rounds.{sharedRound, exclusiveRound, begun, byRounds}
+use Rattle.orders.specs.Histories.{pairOf}
 use Rattle.orders.proofs.CheckReply.{passes-e}
-use Rattle.orders.proofs.PairTests.{pairOf}
 use Rattle.plan_lengths.proofs.ByRounds.{AddsUp, by-rounds}
-use Rattle.plan_lengths.proofs.EventCosts.{movesFor, moves-more, moves-append}
+use Rattle.theory.proofs.PlanLengths.{movesFor, moves-more, moves-append}
 use Rattle.plan_lengths.proofs.SameCount.{length-e}
 
 -- ---- one round

@@ -5,9 +5,8 @@ use mathlib.Core.List.{List, [], _∷_, _++_}
 use lib.Dec.{eqb}
 use lib.ListN.{getD}
 use Rattle.definitions.specs.PlainLock.{Pair, atStart, placesAfter}
-use Rattle.definitions.specs.Threads.{gather}
-use Rattle.orders.proofs.PairTests.{pairOf}
-use Rattle.runs.proofs.Sums.{sumOf}
+use Rattle.definitions.specs.Threads.{gather, sumOf}
+use Rattle.orders.specs.Histories.{pairOf}
 
 -- ---- rounds
 

@@ -1,7 +1,6 @@
 -- Shared facts first, then the theorems; each file says what it shows.
 pub mod Numbers
 pub mod Lines
-pub mod Sums
 pub mod Potential
 pub mod LastLine
 -- the theorems

@@ -13,7 +13,7 @@ use Rattle.definitions.specs.Phases.{rows, hasMove}
 use Rattle.definitions.specs.Run.{eventName, eventLine}
 use Rattle.definitions.specs.Table.{Table, update, applied, tableOf, byteTable, fresh}
 use Rattle.definitions.specs.Texts.{bytes, decimal}
-use Rattle.definitions.specs.Threads.{every, among, implies}
+use Rattle.definitions.specs.Threads.{every, sumOf, among, implies}
 use Rattle.definitions.specs.declared.Request.{Request}
 use Rattle.runs.specs.Length.{credit}
 use Rattle.theory.proofs.Bytes.{byte-keeps, fresh-table}
@@ -21,13 +21,13 @@ use Rattle.theory.proofs.Lengths.{event-size}
 use Rattle.theory.proofs.Numbers.{decimal-some}
 use Rattle.theory.proofs.Quantifiers.{every-at}
 use Rattle.theory.proofs.Storages.{accepts-e, accepted-reply, accepted-table}
+use Rattle.theory.proofs.Sums.{sum-update, sum-zero}
 use Rattle.theory.proofs.Tests.{implies-e}
 use Rattle.theory.proofs.Ways.{accepted-e, Way, way}
 use Rattle.theory.proofs.Ways.{call-shared, raise-busy, find-open, find-forbidden, back-off, try-again, hold-mutex, give-back, enter-shared, leave-shared, lower-busy, return-shared}
 use Rattle.theory.proofs.Ways.{call-exclusive, take-mutex, set-flag, find-busy, last-flag, next-flag, relents, give-up, enter-exclusive, leave-exclusive}
 use Rattle.theory.proofs.Ways.{set-again, clear-flag, clear-last, release-mutex, return-exclusive}
 use Rattle.runs.proofs.Lines.{isCall, LineFits}
-use Rattle.runs.proofs.Sums.{sumOf, sum-update, sum-zero}
 
 -- ---- the potential
 

@@ -17,6 +17,7 @@ pub mod TestLists
 pub mod RequestNumbers
 pub mod Outputs
 pub mod Writes
+pub mod Sums
 pub mod Places
 pub mod Bytes
 pub mod Ways

@@ -11,9 +11,10 @@ use Rattle.definitions.specs.PlainLock.{Pair, Places, atStart, placeAfter, plac
 use Rattle.definitions.specs.Table.{update}
 use Rattle.definitions.specs.Threads.{some, among, between}
 use Rattle.definitions.specs.Watch.{roundPlaces}
+use Rattle.orders.specs.Histories.{pairOf}
 use Rattle.history.proofs.PlainLaws.{pairFits, permittedFrom, permitted-append, places-append}
 use Rattle.orders.proofs.Columns.{same-column, update-kept, update-twice}
-use Rattle.orders.proofs.PairTests.{pairOf, permits-i}
+use Rattle.orders.proofs.PairTests.{permits-i}
 use Rattle.theory.proofs.Cases.{or-at, none-of}
 use Rattle.theory.proofs.Quantifiers.{none-i, howMany-pos, at-most-one}
 use Rattle.theory.proofs.Tests.{and-i, or-l, or-r, no-both, eq-T, ne-T, not-i, cond-yes, cond-no, cond-either, below?}

@@ -9,15 +9,16 @@ use Rattle.definitions.specs.Threads.{every, among}
 use Rattle.plan.specs.Shares.{ShareOf}
 use Rattle.plan.specs.declared.Share.{Share}
 use Rattle.theory.proofs.Matches.{NoneOf, left-over}
-use Rattle.theory.proofs.PlanLengths.{eventLengths, event-length, plan-past}
+use Rattle.theory.proofs.PlanLengths.{eventLengths, movesFor, event-moves, plan-past}
 use Rattle.plan.proofs.share_of.Statement.{statement}
 use Rattle.plan.proofs.share_of.Tie as tie
 
 -- that of the arm for code k, by its two numbers
 at : (k code once each : ℕ) (r : Share) → code ≡ k → r ≡ record { once = once; each = each } → once ≤ 3 → each ≤ 2
     → ((n : ℕ) → once + each * n ≡ getD (eventLengths n) k 0) → ShareOf code r
+unfolding movesFor
 at k code once each r e q few few′ h =
-    rw (e, q) (record { whole = λ n thread. h n ∙ sym (event-length n (record { thread = thread; event = k })); once-most = few; each-most = few′ })
+    rw (e, q) (record { whole = λ n thread. h n ∙ sym (event-moves n (record { thread = thread; event = k })); once-most = few; each-most = few′ })
 
 -- that of the `_` arm
 abbrev codes : List ℕ

@@ -5,13 +5,9 @@ use native.Mathlib.Omega.{arith}
 use mathlib.Core.Logic.{⊎-elim}
 use mathlib.Core.Path.{_≡_, refl, sym, subst, ap}
 use Rattle.definitions.specs.Table.{update}
+use Rattle.definitions.specs.Threads.{sumOf}
 use Rattle.theory.proofs.Quantifiers.{below-suc}
 use Rattle.theory.proofs.Writes.{update-same, update-other}
-
--- f 0 + f 1 + .. up to n - 1
-abbrev pub sumOf : ℕ → (ℕ → ℕ) → ℕ
-sumOf zero f = 0
-sumOf (suc n) f = sumOf n f + f n
 
 sum-same : (n : ℕ) (f g : ℕ → ℕ) → ((j : ℕ) → j < n → g j ≡ f j) → sumOf n g ≡ sumOf n f
 sum-same zero f g h = refl
