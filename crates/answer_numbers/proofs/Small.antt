@@ -6,13 +6,11 @@ use mathlib.Core.Bool.{Bool, true, false, cond, _&&_}
 use mathlib.Core.List.{List, [], _∷_, _++_}
 use mathlib.Core.Path.{_≡_, refl, sym, subst, ap}
 use lib.Dec.{T, leb, eqb, leb→le, le→leb}
-use lib.ListN.{length, getD, drop, length-append, length-drop}
+use lib.ListN.{length, drop, length-append, length-drop}
 use Rattle.definitions.specs.Answers.{Test, test, Reply, accepted, refused, answered, passesAll, Delivery, roomTest, deliveryReply}
 use Rattle.definitions.specs.Bounds.{mostThreads, mostHistory, mostScript}
 use Rattle.definitions.specs.Chains.{requestsOf}
-use Rattle.definitions.specs.Codes.{go, setMove, clearMove}
 use Rattle.definitions.specs.Forms.{Form, threads, request, note, bad, lineForm, firstForm, firstTests, threadsFirst, lineTests}
-use Rattle.definitions.specs.Moves.{ask}
 use Rattle.definitions.specs.Nodes.{nodesOf, nodesEntry}
 use Rattle.definitions.specs.OpenMoves.{openEntry}
 use Rattle.definitions.specs.Phases.{nodeOf}
@@ -29,7 +27,7 @@ use Rattle.history.proofs.CheckLaws.{tests-e}
 use Rattle.runs.proofs.Lines.{lines-count, read-few}
 use Rattle.runs.proofs.Suffices.{suffices}
 use Rattle.theory.proofs.Bytes.{sized-e}
-use Rattle.theory.proofs.Lengths.{gather-length, pairs-length, fresh-length}
+use Rattle.theory.proofs.Lengths.{pairs-length, fresh-length}
 use Rattle.theory.proofs.Lists.{length-listOf}
 use Rattle.theory.proofs.OpenMovesExact.{open-short}
 use Rattle.theory.proofs.Outputs.{answered-so}

@@ -1,19 +1,17 @@
 -- The plan's loop over the pairs: what is written of the pairs so far, and the plan of those that are left.
-use Prim.Native.Nat.{ℕ, _+_, _*_, _/_, _≤_, _<_}
-use native.Mathlib.Nat.{add-mul, mul-le-mul-left}
+use Prim.Native.Nat.{ℕ, _+_, _/_, _≤_, _<_}
 use native.Mathlib.Omega.{arith}
 use mathlib.Core.List.{List, [], _++_, append-assoc, append-nil}
 use mathlib.Core.Path.{_≡_, refl, sym, subst, ap, _∙_}
-use lib.ListN.{length, getD, drop, length-append}
+use lib.ListN.{length}
 use Rattle.definitions.specs.Answers.{filled}
-use Rattle.definitions.specs.Bounds.{mostThreads, mostHistory}
 use Rattle.definitions.specs.PlainLock.{pairsOf}
 use Rattle.definitions.specs.Plan.{planOf, plan, bytesOf}
 use Rattle.definitions.specs.declared.Request.{Request}
 use Rattle.theory.specs.Outputs.{RoomAt, PutAt}
 use Rattle.plan.proofs.Counting.{planFrom, from-next, from-end}
 use Rattle.theory.proofs.Outputs.{same-size, filled-up}
-use Rattle.theory.proofs.Pairs.{pairAt, pairs-next, pairs-end}
+use Rattle.theory.proofs.Pairs.{pairAt}
 use Rattle.triples.proofs.RequestBytes.{room-front, room-behind, put-both, put-none}
 
 -- k pairs are written

@@ -4,6 +4,9 @@ use Rattle.definitions.specs.Table.{tableOf}
 use Rattle.promises.specs.Promises.{Promises}
 use Rattle.forms.proofs.Spelling as spelled
 use Rattle.orders.proofs.EveryOrder as orders
+use Rattle.plan_lengths.proofs.Longest as long
+use Rattle.plan_lengths.proofs.RoundCosts as costs
+use Rattle.plan_lengths.proofs.SameCount as count
 use Rattle.printout.proofs.Output as output
 use Rattle.printout.proofs.print_input.Met as printing
 use Rattle.round_trips.proofs.PlanWriteRun.{plan-write-run}
@@ -30,6 +33,7 @@ use Rattle.wospinzo.proofs.wospinzo_move.Met as move
 use Rattle.wospinzo.proofs.wospinzo_nodes.Met as nodes
 use Rattle.wospinzo.proofs.wospinzo_open_moves.Met as open-moves
 use Rattle.wospinzo.proofs.wospinzo_plan.Met as plan
+use Rattle.wospinzo.proofs.wospinzo_plan_length.Met as plan-length
 use Rattle.wospinzo.proofs.wospinzo_run.Met as run
 use Rattle.wospinzo.proofs.wospinzo_read_script.Met as read-script
 use Rattle.wospinzo.proofs.wospinzo_version.Met as version
@@ -48,6 +52,7 @@ proved =
       wospinzo-nodes = nodes.met;
       wospinzo-open-moves = open-moves.met;
       wospinzo-check = check.met;
+      wospinzo-plan-length = plan-length.met;
       wospinzo-plan = plan.met;
       wospinzo-run = run.met;
       wospinzo-write-script = write-script.met;
@@ -126,4 +131,15 @@ proved =
       finished-reads = alike.finished-reads;
       run-refused = alike.run-refused;
       plan-write-run = plan-write-run;
+      length-same = count.same-count;
+      length-enough = count.enough;
+      length-short = count.too-short;
+      length-refused = count.refused-alike;
+      shared-round = costs.shared-round;
+      exclusive-round = costs.exclusive-round;
+      length-rounds = costs.length-by-rounds;
+      plan-bound = long.length-bound;
+      bound-reached = long.bound-reached;
+      longest-plan = long.longest-plan;
+      longest-reached = long.longest-reached;
     }

@@ -1,4 +1,4 @@
--- Everything that is promised and proved of the part, in the order of the three demands, then of the watcher (02 §2) and of scripts written out and read (02 §3).
+-- Everything that is promised and proved of the part, in the order of the three demands, then of the watcher (02 §2), of scripts written out and read (02 §3) and of the length of a plan (02 §4).
 -- proofs/Citations.antt proves it, each line by citing.
 -- The words are those of crates/definitions/specs and of the specs/ of the crates named below. `statement` is the contract of a function as it stands in its source, for every model `M` of memory.
 use Prim.Native.Nat.{ℕ, _+_, _*_, _≤_, _<_}
@@ -16,7 +16,7 @@ use Rattle.definitions.specs.Moves.{ask, stepReply, step, accepts, replyIn, ste
 use Rattle.definitions.specs.Nodes.{nodesOf, nodesEntry}
 use Rattle.definitions.specs.OpenMoves.{openMoves, openEntry}
 use Rattle.definitions.specs.PlainLock.{Pair, pairsOf, placesIn, atStart, placesAfter, permitted, checkReply}
-use Rattle.definitions.specs.Plan.{plan, bytesOf, planEntry}
+use Rattle.definitions.specs.Plan.{plan, bytesOf, planEntry, planLengthReply}
 use Rattle.definitions.specs.Run.{eventLines, stepsLine, refusedLine, runOutputOf, runEntry, programOutput}
 use Rattle.definitions.specs.Scripts.{scriptOf, writeEntry, Listed, requestsIn, threadsOf, moveLines, readingReply, readEntry}
 use Rattle.definitions.specs.Sound.{sound}
@@ -32,8 +32,9 @@ use Rattle.definitions.specs.declared.Request.{Request}
 use Rattle.definitions.specs.declared.Watched.{Watched}
 use Rattle.definitions.specs.declared.Watcher.{Watcher}
 use Rattle.forms.specs.Grammar.{numberBound, Spellable, Spells}
-use Rattle.orders.specs.Histories.{mostEvents, historyBytes, AllBytes, Passes, FirstBad, Makes}
+use Rattle.orders.specs.Histories.{mostEvents, pairOf, historyBytes, AllBytes, Passes, FirstBad, Makes}
 use Rattle.orders.specs.Rounds.{placesOf}
+use Rattle.plan_lengths.specs.Rounds.{sharedRound, exclusiveRound, byRounds, longest, mostMoves, mostPlanBytes}
 use Rattle.round_trips.specs.Exchange.{Writable, Readable, withoutNotes, readReply, ReadRefusal, stopOf, RunRefused}
 use Rattle.runs.specs.Requests.{Closes, movesOf}
 use Rattle.soundness.specs.Pass.{foundOf, passes}
@@ -49,6 +50,7 @@ use Rattle.wospinzo.proofs.wospinzo_move.Statement as move
 use Rattle.wospinzo.proofs.wospinzo_nodes.Statement as nodes
 use Rattle.wospinzo.proofs.wospinzo_open_moves.Statement as open-moves
 use Rattle.wospinzo.proofs.wospinzo_plan.Statement as plan-bytes
+use Rattle.wospinzo.proofs.wospinzo_plan_length.Statement as plan-length
 use Rattle.wospinzo.proofs.wospinzo_run.Statement as run
 use Rattle.wospinzo.proofs.wospinzo_read_script.Statement as read-script
 use Rattle.wospinzo.proofs.wospinzo_version.Statement as version
@@ -61,7 +63,7 @@ pub record Promises (M : Type 1) : Type 2 where
   -- ---- 1. Nothing breaks an entry
 
   -- The entries (crates/wospinzo/src/lib.rt). Each may be called with any numbers and any lent bytes, and says what it answers and what it leaves in every lent byte, refused or not.
-  -- The version answers `version`. The move, asked r, answers `moveNumber (moveReply table r)` and leaves `moveTable table r`. The check answers `countNumber (checkReply n history)`.
+  -- The version answers `version`. The move, asked r, answers `moveNumber (moveReply table r)` and leaves `moveTable table r`. The check answers `countNumber (checkReply n history)`, and the length of a plan is answered by `countNumber (planLengthReply n history)`.
   -- The others write: they answer `countNumber (deliveryReply d out)` and leave `deliveryOutput d out`, where d is
   -- `freshEntry n`, `nodesEntry table`, `openEntry table thread`, `planEntry n history` or `runEntry script`. Lent bytes that are only read stay.
   -- Writing answers `countNumber (held (deliveryReply (writeEntry n triples) out))`, `held` since the index of a triple may be any number;
@@ -74,6 +76,7 @@ pub record Promises (M : Type 1) : Type 2 where
   pub wospinzo-nodes : nodes.statement M
   pub wospinzo-open-moves : open-moves.statement M
   pub wospinzo-check : check.statement M
+  pub wospinzo-plan-length : plan-length.statement M
   pub wospinzo-plan : plan-bytes.statement M
   pub wospinzo-run : run.statement M
   pub wospinzo-write-script : write-script.statement M
@@ -234,3 +237,22 @@ pub record Promises (M : Type 1) : Type 2 where
       → Delivered (planEntry n bytes) plan-out (filled plan-out (bytesOf moves)) (accepted (length moves))
       × Delivered (writeEntry n (bytesOf moves)) script-out (filled script-out script) (accepted (length script))
       × Delivered (runEntry script) run-out (filled run-out text) (accepted (length text))
+  -- ---- 6. How long the plan will be
+
+  -- A number is answered exactly if the plan entry, with three bytes of output a move, answers it; with less it refuses by 12. The check's refusals are refused alike.
+  pub length-same : (n : ℕ) (bytes out : List ℕ) (k : ℕ) → 3 * k ≤ length out → (planLengthReply n bytes ≡ accepted k) ↔ (deliveryReply (planEntry n bytes) out ≡ accepted k)
+  pub length-enough : (n : ℕ) (bytes out : List ℕ) (k : ℕ) → planLengthReply n bytes ≡ accepted k → 3 * k ≤ length out
+      → Delivered (planEntry n bytes) out (filled out (bytesOf (plan n (pairsOf bytes)))) (accepted k) × (length (bytesOf (plan n (pairsOf bytes))) ≡ 3 * k)
+  pub length-short : (n : ℕ) (bytes out : List ℕ) (k : ℕ) → planLengthReply n bytes ≡ accepted k → length out < 3 * k → Delivered (planEntry n bytes) out out (refused 12 0)
+  pub length-refused : (n : ℕ) (bytes : List ℕ) (number place : ℕ) → (planLengthReply n bytes ≡ refused number place) ↔ (checkReply n bytes ≡ refused number place)
+  -- A full shared round takes 7 moves and a full exclusive one 3N + 6, whatever stands between its events. So the length is that of the rounds that end, and of the round that each thread is in.
+  pub shared-round : (n t : ℕ) (a b c d e : List Pair) → length (plan n (a ++ (pairOf t 1 ∷ b) ++ (pairOf t 2 ∷ c) ++ (pairOf t 3 ∷ d) ++ (pairOf t 4 ∷ e)))
+      ≡ sharedRound + length (plan n (a ++ b ++ c ++ d ++ e))
+  pub exclusive-round : (n t : ℕ) (a b c d e : List Pair) → length (plan n (a ++ (pairOf t 5 ∷ b) ++ (pairOf t 6 ∷ c) ++ (pairOf t 7 ∷ d) ++ (pairOf t 8 ∷ e)))
+      ≡ exclusiveRound n + length (plan n (a ++ b ++ c ++ d ++ e))
+  pub length-rounds : (n : ℕ) (bytes : List ℕ) (k : ℕ) → planLengthReply n bytes ≡ accepted k → k ≡ byRounds n (pairsOf bytes)
+  -- A bound by N and the number of events, which some histories come to for every N; and the longest plan there is.
+  pub plan-bound : (n : ℕ) (bytes : List ℕ) (k : ℕ) → planLengthReply n bytes ≡ accepted k → 4 * k ≤ (3 * n + 6) * length (pairsOf bytes) + (3 * n + 2) * n
+  pub bound-reached : (n times : ℕ) → 1 ≤ n → let h = longest n times in T (permitted n h) × (4 * length (plan n h) ≡ (3 * n + 6) * length h + (3 * n + 2) * n)
+  pub longest-plan : (n : ℕ) (bytes : List ℕ) (k : ℕ) → planLengthReply n bytes ≡ accepted k → (k ≤ mostMoves) × (3 * k ≤ mostPlanBytes)
+  pub longest-reached : (bytes : List ℕ) × AllBytes bytes × (planLengthReply 200 bytes ≡ accepted mostMoves) × (length (bytesOf (plan 200 (pairsOf bytes))) ≡ mostPlanBytes)

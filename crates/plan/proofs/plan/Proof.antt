@@ -1,12 +1,6 @@
 -- `plan` meets its contract: refused by the check, no room, or written.
-use Prim.Native.Nat.{ℕ}
 use native.Mathlib.Omega.{arith}
-use mathlib.Core.Path.{_≡_}
 use borrow.Author.Needs.{needs}
-use Rattle.definitions.specs.Answers.{answerReply}
-use Rattle.definitions.specs.Plan.{planLengthReply}
-use Rattle.definitions.specs.declared.Answer.{Answer}
-use Rattle.definitions.specs.declared.Answer.the-variants.{Done}
 use Rattle.plan.proofs.EntryLaws.{refused-plan, few, no-room-plan, room-plan, written-plan}
 use Rattle.plan.proofs.plan.Statement.{statement}
 use Rattle.plan.proofs.plan.Tie as tie
