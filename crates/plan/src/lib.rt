@@ -72,8 +72,8 @@ fn count_moves(threads: u16, history: &[u8], events: usize) -> Answer
         each += share.each;
         k += 1;
     }
-    let moves = once + each * threads as usize;
-    Answer::Done(moves)
+    let total = once + each * threads as usize;
+    Answer::Done(total)
 }
 
 // How many moves the plan for a history makes, without the plan. Refusals and places are the check's.
@@ -94,13 +94,13 @@ fn write_pairs(out: &mut [u8], threads: u8, history: &[u8])
 {
     let events = history.len() / 2;
     let mut next: usize = 0;
-    let mut k: usize = 0;
-    while k < events {
-        let at = 2 * k;
+    let mut j: usize = 0;
+    while j < events {
+        let at = 2 * j;
         let thread = history[at];
         let code = history[at + 1];
         next = triples::write_pair(out, next, threads, thread, code);
-        k += 1;
+        j += 1;
     }
 }
 

@@ -63,7 +63,8 @@ pub record Promises (M : Type 1) : Type 2 where
   -- ---- 1. Nothing breaks an entry
 
   -- The entries (crates/wospinzo/src/lib.rt). Each may be called with any numbers and any lent bytes, and says what it answers and what it leaves in every lent byte, refused or not.
-  -- The version answers `version`. The move, asked r, answers `moveNumber (moveReply table r)` and leaves `moveTable table r`. The check answers `countNumber (checkReply n history)`, and the length of a plan is answered by `countNumber (planLengthReply n history)`.
+  -- The version answers `version`. The move, asked r, answers `moveNumber (moveReply table r)` and leaves `moveTable table r`.
+  -- The check answers `countNumber (checkReply n history)`, and of the length of a plan `countNumber (planLengthReply n history)` is answered.
   -- The others write: they answer `countNumber (deliveryReply d out)` and leave `deliveryOutput d out`, where d is
   -- `freshEntry n`, `nodesEntry table`, `openEntry table thread`, `planEntry n history` or `runEntry script`. Lent bytes that are only read stay.
   -- Writing answers `countNumber (held (deliveryReply (writeEntry n triples) out))`, `held` since the index of a triple may be any number;

@@ -42,7 +42,8 @@ returns c =
     let called = c .before .before .before .before in
     let at = called .before .before .before in
     let a = at .before .before .args in
-    subst (Taken (a .threads) (a .history .now) (at .loop .k) (called .take-pair .last .1 .1 .1 .0)) (c .before .verdict2 .given .1) (called .take-pair .ensures) (length (plan (a .threads) (pairsOf (a .history .now))))
+    subst (Taken (a .threads) (a .history .now) (at .loop .k) (called .take-pair .last .1 .1 .1 .0))
+    (c .before .verdict2 .given .1) (called .take-pair .ensures) (length (plan (a .threads) (pairsOf (a .history .now))))
 
 mul-code : tie.Need-mul-code Inv-loop μ-loop
 mul-code c = search needs
@@ -79,15 +80,15 @@ loop-again c =
       counting-more (a .threads) (a .history .now) (at .loop .k) (at .loop .once) (at .loop .each) (at .loop .inv .1) (share .result) (omega arith) (share .ensures),
     )
 
-mul-moves : tie.Need-mul-moves Inv-loop μ-loop
-mul-moves c =
+mul-total : tie.Need-mul-total Inv-loop μ-loop
+mul-total c =
     let at = c .before in
     let start = at .before .before in
     let a = start .args in
     omega (arith, counting-each (a .threads) (a .history .now) (at .loop .k) (at .loop .once) (at .loop .each) (at .loop .inv .1) (start .pre .0))
 
-add-moves : tie.Need-add-moves Inv-loop μ-loop
-add-moves c =
+add-total : tie.Need-add-total Inv-loop μ-loop
+add-total c =
     let at = c .before in
     let start = at .before .before in
     let a = start .args in
@@ -123,6 +124,6 @@ count-moves-spec =
     add-k
     loop-less
     loop-again
-    mul-moves
-    add-moves
+    mul-total
+    add-total
     returns-2)

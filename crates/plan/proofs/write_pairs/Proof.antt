@@ -7,10 +7,10 @@ use Rattle.plan.proofs.write_pairs.Statement.{statement}
 use Rattle.plan.proofs.write_pairs.Tie as tie
 
 abbrev Inv-loop : tie.InvT-loop
-Inv-loop out₀ threads history events next₀ k₀ out next k = Writing threads history out₀ k out next
+Inv-loop out₀ threads history events next₀ j₀ out next j = Writing threads history out₀ j out next
 
 abbrev μ-loop : tie.MeasureT-loop
-μ-loop out₀ threads history events next₀ k₀ out next k = events - k
+μ-loop out₀ threads history events next₀ j₀ out next j = events - j
 
 loop-holds : tie.Need-loop-holds Inv-loop μ-loop
 loop-holds c =
@@ -35,10 +35,10 @@ write-pair-requires c κs =
     let at = c .before .before .before .before in
     let start = at .before .before .before in
     let a = start .args in
-    writing-room (a .threads) (a .history .now) (a .out .now) (start .pre) (at .loop .k) (at .loop .out) (at .loop .next) (at .loop .inv) (omega arith)
+    writing-room (a .threads) (a .history .now) (a .out .now) (start .pre) (at .loop .j) (at .loop .out) (at .loop .next) (at .loop .inv) (omega arith)
 
-add-k : tie.Need-add-k Inv-loop μ-loop
-add-k c = search needs
+add-j : tie.Need-add-j Inv-loop μ-loop
+add-j c = search needs
 
 loop-less : tie.Need-loop-less Inv-loop μ-loop
 loop-less c = search needs
@@ -49,7 +49,7 @@ loop-again c =
     let at = c .before .before .before .before .before .before .before in
     let start = at .before .before .before in
     let a = start .args in
-    writing-more (a .threads) (a .history .now) (a .out .now) (start .pre) (at .loop .k) (at .loop .out) (at .loop .next) (at .loop .inv) (omega arith)
+    writing-more (a .threads) (a .history .now) (a .out .now) (start .pre) (at .loop .j) (at .loop .out) (at .loop .next) (at .loop .inv) (omega arith)
     (pair .last .0) (pair .result) (pair .ensures)
 
 same-length : tie.Need-same-length Inv-loop μ-loop
@@ -60,7 +60,7 @@ returns c =
     let at = c .before in
     let start = at .before .before .before in
     let a = start .args in
-    writing-end (a .threads) (a .history .now) (a .out .now) (start .pre) (at .loop .k) (at .loop .out) (at .loop .next) (at .loop .inv) (omega arith)
+    writing-end (a .threads) (a .history .now) (a .out .now) (start .pre) (at .loop .j) (at .loop .out) (at .loop .next) (at .loop .inv) (omega arith)
 
 pub write-pairs-spec : {M : Type 1} → statement M
 write-pairs-spec =
@@ -74,7 +74,7 @@ write-pairs-spec =
     add-code
     shared-slice-read-code
     write-pair-requires
-    add-k
+    add-j
     loop-less
     loop-again
     same-length
