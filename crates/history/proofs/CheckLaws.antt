@@ -25,8 +25,8 @@ use Rattle.theory.proofs.Lengths.{pairs-length}
 use Rattle.theory.proofs.Lists.{zeros}
 use Rattle.theory.proofs.Pairs.{pairAt}
 use Rattle.theory.proofs.Quantifiers.{howMany-none}
-use Rattle.theory.proofs.Replies.{all-passed, passed, failed, peel, pass, behind, in-front}
-use Rattle.theory.proofs.TestLists.{answered-e, one-more, first-failed}
+use Rattle.theory.proofs.Replies.{all-passed, passed, failed, peel, pass, no-test, behind, in-front}
+use Rattle.theory.proofs.TestLists.{passes-split, passes-join, answered-e, one-more, first-failed}
 use Rattle.theory.proofs.Tests.{and-l, and-r, and-i, true-T, false-T, eq-T, same?}
 use Rattle.theory.proofs.Writes.{update-same, update-other}
 use Rattle.history.proofs.PlainLaws.{noPair, places-more, in-round}
@@ -133,7 +133,7 @@ module _ (n : ℕ) (bytes a : List ℕ) (shared exclusive k : ℕ) (s : Passed n
 
 -- ---- the tests for 1 and 8
 
--- what a history that passes all tests of the check shows
+-- what a history that passes them shows
 pub record Formed (n : ℕ) (bytes : List ℕ) : Type 0 where
   pub least : 1 ≤ n
   pub most : n ≤ mostThreads
@@ -150,7 +150,30 @@ module _ (n : ℕ) (bytes : List ℕ) where
   abbrev form : Test
   form = test 8 formed
 
-  -- whatever is answered where all are passed
+  formed-e : T (passesAll (formTests n bytes)) → Formed n bytes
+  formed-e t =
+      let a = peel size (form ∷ []) t in
+      let b = peel form [] (a .1) in
+      record {
+        least = leb→le 1 n (and-l (leb 1 n) (leb n mostThreads) (a .0));
+        most = leb→le n mostThreads (and-r (leb 1 n) (leb n mostThreads) (a .0));
+        even = eqb→eq (length bytes % 2) 0 (and-l (eqb (length bytes % 2) 0) (leb (length bytes) mostHistory) (b .0));
+        short = leb→le (length bytes) mostHistory (and-r (eqb (length bytes % 2) 0) (leb (length bytes) mostHistory) (b .0));
+      }
+
+  formed-i : Formed n bytes → T (passesAll (formTests n bytes))
+  formed-i f =
+      pass size (form ∷ []) (and-i (leb 1 n) (leb n mostThreads) (le→leb 1 n (f .least)) (le→leb n mostThreads (f .most)))
+      (pass form [] (and-i (eqb (length bytes % 2) 0) (leb (length bytes) mostHistory) (eq-T (length bytes % 2) 0 (f .even)) (le→leb (length bytes) mostHistory (f .short))) no-test)
+
+  -- all tests of the check: these, and the pairs'
+  pub tests-e : T (passesAll (checkTests n bytes)) → Formed n bytes × T (passesAll (pairsTests n bytes))
+  tests-e t = let p = passes-split (formTests n bytes) (pairsTests n bytes) t in (formed-e (p .0), p .1)
+
+  pub tests-i : Formed n bytes → T (passesAll (pairsTests n bytes)) → T (passesAll (checkTests n bytes))
+  tests-i f t = passes-join (formTests n bytes) (pairsTests n bytes) (formed-i f) t
+
+  -- what they answer, whatever is answered where all are passed
   module _ (answer : ℕ) where
     pub bad-size : countFits n ≡ false → refused 1 0 ≡ answered (formTests n bytes) answer
     bad-size e = sym (failed size (form ∷ []) answer (false-T (countFits n) e))
@@ -162,55 +185,25 @@ module _ (n : ℕ) (bytes : List ℕ) where
     unfolding answered
     good-form e f = sym (passed size (form ∷ []) answer (true-T (countFits n) e) ∙ passed form [] answer (true-T formed f))
 
-    -- a refusal by 1 or 8 is the check's; else the pairs decide
-    module _ (other : ℕ) where
-      pub form-refused : (number place : ℕ) → answered (formTests n bytes) other ≡ refused number place → answered (checkTests n bytes) answer ≡ refused number place
-      form-refused = in-front answer other (formTests n bytes) (pairsTests n bytes)
+    -- a refusal of theirs is the check's
+    pub form-refused : (other number place : ℕ) → answered (formTests n bytes) other ≡ refused number place → answered (checkTests n bytes) answer ≡ refused number place
+    form-refused other = in-front answer other (formTests n bytes) (pairsTests n bytes)
 
-      pub by-pairs : (given : ℕ) → answered (formTests n bytes) other ≡ accepted given → answered (checkTests n bytes) answer ≡ answered (pairsTests n bytes) answer
-      by-pairs given e = behind answer (formTests n bytes) (pairsTests n bytes) (answered-e (formTests n bytes) other given e .0)
-
-  -- all tests, as numbers and the pairs' tests
-  pub tests-e : T (passesAll (checkTests n bytes)) → Formed n bytes × T (passesAll (pairsTests n bytes))
-  tests-e t =
-      let a = peel size (form ∷ pairsTests n bytes) t in
-      let b = peel form (pairsTests n bytes) (a .1) in (
-        record {
-          least = leb→le 1 n (and-l (leb 1 n) (leb n mostThreads) (a .0));
-          most = leb→le n mostThreads (and-r (leb 1 n) (leb n mostThreads) (a .0));
-          even = eqb→eq (length bytes % 2) 0 (and-l (eqb (length bytes % 2) 0) (leb (length bytes) mostHistory) (b .0));
-          short = leb→le (length bytes) mostHistory (and-r (eqb (length bytes % 2) 0) (leb (length bytes) mostHistory) (b .0));
-        },
-        b .1,
-      )
-
-  pub tests-i : Formed n bytes → T (passesAll (pairsTests n bytes)) → T (passesAll (checkTests n bytes))
-  tests-i f t =
-      pass size (form ∷ pairsTests n bytes) (and-i (leb 1 n) (leb n mostThreads) (le→leb 1 n (f .least)) (le→leb n mostThreads (f .most)))
-      (pass form (pairsTests n bytes) (and-i (eqb (length bytes % 2) 0) (leb (length bytes) mostHistory) (eq-T (length bytes % 2) 0 (f .even)) (le→leb (length bytes) mostHistory (f .short))) t)
-
--- ---- what `count_pairs` answers, for whoever goes on to the pairs
-
--- the tests for 1 and 8 are passed, so that the pairs decide
+-- they are passed, so that the pairs decide
 pub record Told (n : ℕ) (bytes : List ℕ) (events : ℕ) : Type 0 where
-  pub few : n ≤ mostThreads
-  pub short : length bytes ≤ mostHistory
+  pub form : Formed n bytes
   pub whole : events ≡ length bytes / 2
   pub pairs : (answer : ℕ) → answered (pairsTests n bytes) answer ≡ answered (checkTests n bytes) answer
 
+pub told : (n : ℕ) (bytes : List ℕ) (events : ℕ) → accepted events ≡ answered (formTests n bytes) (length bytes / 2) → Told n bytes events
+told n bytes events e =
+    let f = answered-e (formTests n bytes) (length bytes / 2) events (sym e) in
+    record { form = formed-e n bytes (f .0); whole = sym (f .1); pairs = λ answer. sym (behind answer (formTests n bytes) (pairsTests n bytes) (f .0)) }
+
+-- what `count_pairs` answers, for whoever goes on to the pairs
 module _ (n : ℕ) (bytes : List ℕ) (r : Answer) (e : answerReply r ≡ answered (formTests n bytes) (length bytes / 2)) where
-  -- its refusal is the check's, whatever is answered where all tests are passed
   pub form-turned : (reason : Refusal) (place : ℕ) → r ≡ Refused reason place → (answer : ℕ) → answerReply r ≡ answered (checkTests n bytes) answer
   form-turned reason place q answer = ap answerReply q ∙ sym (form-refused n bytes answer (length bytes / 2) (numberOf reason) place (sym e ∙ ap answerReply q))
 
   pub form-told : (events : ℕ) → r ≡ Done events → Told n bytes events
-  form-told events q =
-      let f = answered-e (formTests n bytes) (length bytes / 2) events (sym e ∙ ap answerReply q) in
-      let a = peel (size n bytes) (form n bytes ∷ []) (f .0) in
-      let b = peel (form n bytes) [] (a .1) in
-      record {
-        few = leb→le n mostThreads (and-r (leb 1 n) (leb n mostThreads) (a .0));
-        short = leb→le (length bytes) mostHistory (and-r (eqb (length bytes % 2) 0) (leb (length bytes) mostHistory) (b .0));
-        whole = sym (f .1);
-        pairs = λ answer. sym (behind answer (formTests n bytes) (pairsTests n bytes) (f .0));
-      }
+  form-told events q = told n bytes events (sym (ap answerReply q) ∙ e)

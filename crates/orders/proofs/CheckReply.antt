@@ -1,5 +1,5 @@
 -- What the check answers: a number exactly for the bytes that pass it (`Passes`), and a refusal by 9 or above exactly as the first bad pair fails (`FirstBad`).
-use Prim.Native.Nat.{ℕ, _%_, _≤_, _<_}
+use Prim.Native.Nat.{ℕ, _/_, _%_, _≤_, _<_}
 use native.Mathlib.Nat.{mul-mod-right}
 use native.Mathlib.Omega.{arith}
 use mathlib.Core.Bool.{Bool, true, false}
@@ -14,7 +14,7 @@ use Rattle.definitions.specs.Table.{countFits}
 use Rattle.definitions.specs.Threads.{gather}
 use Rattle.orders.specs.Histories.{Passes, FirstBad}
 use Rattle.history.specs.Pairs.{formTests}
-use Rattle.history.proofs.CheckLaws.{formed, bad-size, bad-form, good-form, form-refused, by-pairs, tests-e, tests-i}
+use Rattle.history.proofs.CheckLaws.{formed, bad-size, bad-form, good-form, form-refused, told, tests-e, tests-i}
 use Rattle.theory.proofs.Lengths.{pairs-length}
 use Rattle.theory.proofs.Quantifiers.{every-at}
 use Rattle.theory.proofs.Replies.{all-passed}
@@ -90,4 +90,4 @@ check-refused n bytes number place e l = by (countFits n) (formed n bytes) refl 
     by : (a b : Bool) → countFits n ≡ a → formed n bytes ≡ b → FirstBad n (pairsOf bytes) number place
     by false b p q = low 1 (omega arith) (bad-size n bytes count p)
     by true false p q = low 8 (omega arith) (bad-form n bytes count p q)
-    by true true p q = first-bad n (pairsOf bytes) number place (sym (by-pairs n bytes count count count (sym (good-form n bytes count p q))) ∙ e)
+    by true true p q = first-bad n (pairsOf bytes) number place (told n bytes (length bytes / 2) (good-form n bytes (length bytes / 2) p q) .pairs count ∙ e)

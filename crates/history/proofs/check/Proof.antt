@@ -34,7 +34,7 @@ told c =
     form-told (a .threads) (a .history .now) (called .count-pairs .result) (called .count-pairs .ensures) (c .before .formed .given .0 .0) (c .before .formed .given .1)
 
 check-pairs-requires : tie.Need-check-pairs-requires
-check-pairs-requires c κs = let t = told c in (t .few, t .whole)
+check-pairs-requires c κs = let t = told c in (t .form .most, t .whole)
 
 returns-2 : tie.Need-returns-2
 unfolding checkReply

@@ -33,7 +33,7 @@ told c =
     form-told (a .threads) (a .history .now) (called .count-pairs .result) (called .count-pairs .ensures) (c .before .formed .given .0 .0) (c .before .formed .given .1)
 
 count-moves-requires : tie.Need-count-moves-requires
-count-moves-requires c κs = let t = told c in (t .few, (t .short, t .whole))
+count-moves-requires c κs = let t = told c in (t .form .most, (t .form .short, t .whole))
 
 returns-2 : tie.Need-returns-2
 unfolding planLengthReply
