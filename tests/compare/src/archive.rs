@@ -26,6 +26,8 @@ extern "C" {
         out: *mut u8,
         out_len: usize,
     ) -> u64;
+    #[cfg(feature = "history")]
+    fn wospinzo_plan_length(threads: u16, history: *const u8, history_len: usize) -> u64;
     #[cfg(feature = "script")]
     fn wospinzo_run(script: *const u8, script_len: usize, out: *mut u8, out_len: usize) -> u64;
     #[cfg(feature = "watch")]
@@ -89,6 +91,10 @@ impl Part for Archive {
                 out.len(),
             )
         }
+    }
+    #[cfg(feature = "history")]
+    fn plan_length(&self, threads: u16, history: &[u8]) -> u64 {
+        unsafe { wospinzo_plan_length(threads, history.as_ptr(), history.len()) }
     }
     #[cfg(feature = "script")]
     fn run(&self, script: &[u8], out: &mut [u8]) -> u64 {

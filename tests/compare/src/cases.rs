@@ -135,6 +135,11 @@ fn plan(r: &mut Random) -> Call {
     Call::plan(threads, history, output(r, needed.min(14_000_000)))
 }
 
+fn plan_length(r: &mut Random) -> Call {
+    let (threads, history) = history(r);
+    Call::plan_length(threads, history)
+}
+
 /// A script, in order two times of three.
 fn script(r: &mut Random) -> Vec<u8> {
     let mut script = match r.below(400) {
@@ -245,6 +250,7 @@ pub fn any(r: &mut Random, entry: Entry) -> Call {
         Entry::OpenMoves => open_moves(r),
         Entry::Check => check(r),
         Entry::Plan => plan(r),
+        Entry::PlanLength => plan_length(r),
         Entry::Run => run(r),
         Entry::WatchStart => watch_start(r),
         Entry::WatchEvent => watch_event(r),

@@ -198,17 +198,18 @@ fn lengths(c: &mut Comparison) {
     let round = [0, 1, 0, 2, 0, 3, 0, 4].repeat(MAX_HISTORY / 8 + 1);
     for size in MAX_HISTORY - 2..=MAX_HISTORY + 2 {
         let long = size > MAX_HISTORY || size % 2 == 1;
-        let answer = if long {
-            refused(8, 0)
+        let history = &round[..size];
+        let [events, moves] = if long {
+            [refused(8, 0); 2]
         } else {
-            done(size as u64 / 2)
+            [size / 2, histories::plan_moves(1, history)].map(|count| done(count as u64))
         };
-        c.expect(
-            "length of a history",
-            &Call::check(1, round[..size].to_vec()),
-            answer,
-            &[],
-        );
+        for (call, answer) in [
+            (Call::check(1, history.to_vec()), events),
+            (Call::plan_length(1, history.to_vec()), moves),
+        ] {
+            c.expect("length of a history", &call, answer, &[]);
+        }
     }
     let full = [199, 5, 199, 6, 199, 7, 199, 8].repeat(MAX_HISTORY / 8);
     let room = 3 * histories::plan_moves(200, &full);

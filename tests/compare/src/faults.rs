@@ -2,6 +2,7 @@
 
 use std::cell::Cell;
 
+use crate::length_faults;
 use crate::model::{
     Record, EXCLUSIVE_TOTAL, GO, HOLD, MAX_THREADS, PLACES, READER_HOLDS, SET, SHARED_TOTAL,
 };
@@ -174,9 +175,43 @@ pub enum Fault {
     ReadClearsTail,
     /// A refused output is written by reading.
     ReadWritesRefused,
+    /// A plan's length cuts N to 8 bits.
+    LengthThreadsCut,
+    /// The events of a round that isn't finished aren't counted.
+    LengthOfFinished,
+    /// A history with a bad pair has length 0.
+    LengthZeroForBad,
+    /// A history with a bad pair is counted up to that pair.
+    LengthBeforeBad,
+    /// A plan's length answers events and not moves.
+    LengthCountsEvents,
+    /// A plan's length answers bytes and not moves.
+    LengthCountsBytes,
+    /// A full exclusive round has 3N + 5 moves.
+    LengthExclusiveLess,
+    /// A full shared round has 4 moves.
+    LengthSharedOfFour,
+    /// A round that ends behind another thread's event has a move less.
+    LengthMixedLess,
+    /// The moves are counted in 16 bits.
+    LengthWraps,
+    /// The 2N moves that set the flags are counted in 8 bits.
+    LengthProductCut,
+    /// The place of a bad pair is 0.
+    LengthPlaceZero,
+    /// The place of a bad pair is that of its byte.
+    LengthPlaceOfByte,
+    /// A bad pair is refused before an odd length.
+    LengthPairFirst,
+    /// A bad length is refused before a bad N.
+    LengthFormFirst,
+    /// The longest history whose plan has a length has 59,998 bytes.
+    LengthBoundLess,
+    /// The longest history whose plan has a length has 60,002 bytes.
+    LengthBoundMore,
 }
 
-pub const FAULTS: [Fault; 85] = [
+pub const FAULTS: [Fault; 102] = [
     Fault::ThreadsCut,
     Fault::ThreadCut,
     Fault::MoveCut,
@@ -262,6 +297,23 @@ pub const FAULTS: [Fault; 85] = [
     Fault::ReadRoomFirst,
     Fault::ReadClearsTail,
     Fault::ReadWritesRefused,
+    Fault::LengthThreadsCut,
+    Fault::LengthOfFinished,
+    Fault::LengthZeroForBad,
+    Fault::LengthBeforeBad,
+    Fault::LengthCountsEvents,
+    Fault::LengthCountsBytes,
+    Fault::LengthExclusiveLess,
+    Fault::LengthSharedOfFour,
+    Fault::LengthMixedLess,
+    Fault::LengthWraps,
+    Fault::LengthProductCut,
+    Fault::LengthPlaceZero,
+    Fault::LengthPlaceOfByte,
+    Fault::LengthPairFirst,
+    Fault::LengthFormFirst,
+    Fault::LengthBoundLess,
+    Fault::LengthBoundMore,
 ];
 
 /// A line `(T (hold K))` without its target.
@@ -449,6 +501,11 @@ impl Part for Faulty {
             }
         }
         answer
+    }
+
+    fn plan_length(&self, threads: u16, history: &[u8]) -> u64 {
+        let threads = self.cut(Fault::LengthThreadsCut, threads);
+        length_faults::length(self.fault, threads, history)
     }
 
     fn run(&self, script: &[u8], out: &mut [u8]) -> u64 {

@@ -6,6 +6,17 @@ use crate::random::Random;
 /// `careless`, an event's need is now and then passed over.
 pub fn history(r: &mut Random, threads: usize, pairs: usize, careless: bool) -> Vec<u8> {
     let active = 1 + r.below(threads.min(6));
+    of_active(r, threads, active, pairs, careless)
+}
+
+/// The same, with events of so many of the threads.
+pub fn of_active(
+    r: &mut Random,
+    threads: usize,
+    active: usize,
+    pairs: usize,
+    careless: bool,
+) -> Vec<u8> {
     let first = r.below(threads);
     let mut last = vec![0u8; active];
     let mut history = Vec::with_capacity(2 * pairs);

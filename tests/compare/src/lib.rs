@@ -7,6 +7,8 @@ pub mod comparison;
 pub mod examples;
 pub mod faults;
 pub mod histories;
+mod length_faults;
+pub mod lengths;
 pub mod lists;
 pub mod model;
 pub mod part;

@@ -15,7 +15,7 @@ use std::process::ExitCode;
 
 use compare::comparison::Comparison;
 use compare::part::{Entry, Model, Part, ENTRIES};
-use compare::{examples, faults, sections, vectors, written};
+use compare::{examples, faults, lengths, sections, vectors, written};
 
 const SEED: u64 = 0x5eed_0f10_c4ed_2026;
 
@@ -23,7 +23,7 @@ const SEED: u64 = 0x5eed_0f10_c4ed_2026;
 fn archive_entries() -> Vec<Entry> {
     let mut entries = ENTRIES.to_vec();
     if !cfg!(feature = "history") {
-        entries.retain(|entry| !matches!(entry, Entry::Check | Entry::Plan));
+        entries.retain(|entry| !entry.is_of_history());
     }
     if !cfg!(feature = "script") {
         entries.retain(|&entry| entry != Entry::Run);
@@ -44,7 +44,7 @@ struct Section {
     run: fn(&mut Comparison, &[vectors::Vector]),
 }
 
-const SECTIONS: [Section; 22] = [
+const SECTIONS: [Section; 28] = [
     Section {
         name: "vectors",
         needs: None,
@@ -54,6 +54,11 @@ const SECTIONS: [Section; 22] = [
         name: "marked examples of the scope paper",
         needs: None,
         run: |c, _| examples::marked(c),
+    },
+    Section {
+        name: "examples of a plan's length",
+        needs: Some(Entry::PlanLength),
+        run: |c, _| lengths::examples(c),
     },
     Section {
         name: "other examples and bounds of the scope paper",
@@ -74,6 +79,11 @@ const SECTIONS: [Section; 22] = [
         name: "examples of writing and reading a script",
         needs: Some(Entry::WriteScript),
         run: |c, _| written::examples(c),
+    },
+    Section {
+        name: "the vectors' histories and the lengths of their plans",
+        needs: Some(Entry::PlanLength),
+        run: |c, vectors| lengths::vectors_measured(c, vectors),
     },
     Section {
         name: "the vectors' scripts read and written again",
@@ -116,6 +126,11 @@ const SECTIONS: [Section; 22] = [
         run: |c, _| sections::small_histories(c),
     },
     Section {
+        name: "lengths of the plans of all short permitted histories, each with any pair more",
+        needs: Some(Entry::PlanLength),
+        run: |c, _| lengths::short(c),
+    },
+    Section {
         name: "all small records of a watcher of one and two threads, consistent or not",
         needs: Some(Entry::WatchEvent),
         run: |c, _| sections::small_records(c),
@@ -144,6 +159,21 @@ const SECTIONS: [Section; 22] = [
         name: "plans written as scripts and run",
         needs: Some(Entry::WriteScript),
         run: |c, _| written::plans_run(c, SEED),
+    },
+    Section {
+        name: "lengths of the plans of histories cut anywhere, and with a full round less",
+        needs: Some(Entry::PlanLength),
+        run: |c, _| lengths::long(c, SEED),
+    },
+    Section {
+        name: "lengths of the plans of histories with a bad pair, and of random ones",
+        needs: Some(Entry::PlanLength),
+        run: |c, _| lengths::bad_pairs(c, SEED),
+    },
+    Section {
+        name: "lengths of the longest plans",
+        needs: Some(Entry::PlanLength),
+        run: |c, _| lengths::longest(c),
     },
     Section {
         name: "random scripts run and read",

@@ -1,6 +1,6 @@
 //! Every entry of the part in plain Rust over slices: the table and its moves,
-//! the nodes, the open moves, histories, plans, scripts and the watcher. The
-//! entries that write and read a script stand in `spelling.rs`.
+//! the nodes, the open moves, histories, plans and their lengths, scripts and
+//! the watcher. The entries that write and read a script stand in `spelling.rs`.
 //!
 //! It shares no code with the part. It makes the same tests in the same order,
 //! and judges a table or a watcher's record in one pass over its threads. Its
@@ -441,16 +441,25 @@ impl PlainLock {
     }
 }
 
+/// Refusals 1 and 8: N, then the history's length. Gives N.
+fn inspect_history(threads: u16, history: &[u8]) -> Result<usize, Refusal> {
+    let threads = usize::from(threads);
+    if threads == 0 || threads > MAX_THREADS {
+        return Err(Refusal::BadSize);
+    }
+    if history.len() % 2 == 1 || history.len() > MAX_HISTORY {
+        return Err(Refusal::BadForm);
+    }
+    Ok(threads)
+}
+
 /// Judges a history by the plain lock's rules.
 #[inline(never)]
 pub fn check(threads: u16, history: &[u8]) -> Answer {
-    let threads = usize::from(threads);
-    if threads == 0 || threads > MAX_THREADS {
-        return refused(Refusal::BadSize);
-    }
-    if history.len() % 2 == 1 || history.len() > MAX_HISTORY {
-        return refused(Refusal::BadForm);
-    }
+    let threads = match inspect_history(threads, history) {
+        Ok(threads) => threads,
+        Err(refusal) => return refused(refusal),
+    };
     let mut lock = PlainLock::new();
     for (place, pair) in history.chunks_exact(2).enumerate() {
         if let Err(refusal) = lock.take(threads, pair[0], pair[1]) {
@@ -458,6 +467,35 @@ pub fn check(threads: u16, history: &[u8]) -> Answer {
         }
     }
     Answer::Done(history.len() / 2)
+}
+
+/// Judges a history as the check does, and answers the number of moves of its
+/// plan: those of each full round that is finished, and for each thread that
+/// stopped in the middle of one, those up to its last event.
+#[inline(never)]
+pub fn plan_length(threads: u16, history: &[u8]) -> Answer {
+    let threads = match inspect_history(threads, history) {
+        Ok(threads) => threads,
+        Err(refusal) => return refused(refusal),
+    };
+    let mut lock = PlainLock::new();
+    let (mut shared, mut exclusive) = (0, 0);
+    for (place, pair) in history.chunks_exact(2).enumerate() {
+        if let Err(refusal) = lock.take(threads, pair[0], pair[1]) {
+            return Answer::Refused(refusal, place);
+        }
+        shared += usize::from(pair[1] == 4);
+        exclusive += usize::from(pair[1] == 8);
+    }
+    let begun = lock.last[..threads].iter().map(|&event| match event {
+        1 | 5 => 1,
+        2 => 4,
+        3 => 6,
+        6 => 2 * threads + 3,
+        7 => 3 * threads + 5,
+        _ => 0,
+    });
+    Answer::Done(7 * shared + (3 * threads + 6) * exclusive + begun.sum::<usize>())
 }
 
 /// Writes the plan of a history as triples of thread, move and target.

@@ -21,6 +21,9 @@ pub trait Part {
     fn plan(&self, _threads: u16, _history: &[u8], _out: &mut [u8]) -> u64 {
         panic!("the part has no plan")
     }
+    fn plan_length(&self, _threads: u16, _history: &[u8]) -> u64 {
+        panic!("the part has no plan's length")
+    }
     fn run(&self, _script: &[u8], _out: &mut [u8]) -> u64 {
         panic!("the part has no run")
     }
@@ -104,6 +107,9 @@ impl Part for Model {
     fn plan(&self, threads: u16, history: &[u8], out: &mut [u8]) -> u64 {
         encoded(model::plan(threads, history, out))
     }
+    fn plan_length(&self, threads: u16, history: &[u8]) -> u64 {
+        encoded(model::plan_length(threads, history))
+    }
     fn run(&self, script: &[u8], out: &mut [u8]) -> u64 {
         encoded(model::run(script, out))
     }
@@ -135,6 +141,7 @@ pub enum Entry {
     OpenMoves,
     Check,
     Plan,
+    PlanLength,
     Run,
     WatchStart,
     WatchEvent,
@@ -143,13 +150,14 @@ pub enum Entry {
     ReadScript,
 }
 
-pub const ENTRIES: [Entry; 12] = [
+pub const ENTRIES: [Entry; 13] = [
     Entry::Fresh,
     Entry::Move,
     Entry::Nodes,
     Entry::OpenMoves,
     Entry::Check,
     Entry::Plan,
+    Entry::PlanLength,
     Entry::Run,
     Entry::WatchStart,
     Entry::WatchEvent,
@@ -167,6 +175,7 @@ impl Entry {
             "open_moves",
             "check",
             "plan",
+            "plan_length",
             "run",
             "watch_start",
             "watch_event",
@@ -174,6 +183,10 @@ impl Entry {
             "write_script",
             "read_script",
         ][self as usize]
+    }
+
+    pub fn is_of_history(self) -> bool {
+        matches!(self, Entry::Check | Entry::Plan | Entry::PlanLength)
     }
 
     pub fn is_of_watcher(self) -> bool {
@@ -194,7 +207,7 @@ impl Entry {
             Entry::Move => &[1, 2, 3, 4, 5, 6, 7],
             Entry::Nodes => &[1, 2, 12],
             Entry::OpenMoves => &[1, 2, 3, 12],
-            Entry::Check => &[1, 8, 9, 10, 11],
+            Entry::Check | Entry::PlanLength => &[1, 8, 9, 10, 11],
             Entry::Plan => &[1, 8, 9, 10, 11, 12],
             Entry::Run => &[8, 12],
             Entry::WatchStart => &[1],
@@ -208,7 +221,8 @@ impl Entry {
 
 /// One call: the entry, its numbers (0 where it has fewer), what is read and
 /// what may be written. The move's table and the record of a watcher's start
-/// and event stand in `lent`; the check and the watcher's question lend nothing.
+/// and event stand in `lent`; the check, a plan's length and the watcher's
+/// question lend nothing.
 #[derive(Clone, PartialEq, Eq, Debug)]
 pub struct Call {
     pub entry: Entry,
@@ -264,6 +278,14 @@ impl Call {
             numbers: [threads, 0, 0],
             read: history,
             lent: out,
+        }
+    }
+    pub fn plan_length(threads: u16, history: Vec<u8>) -> Call {
+        Call {
+            entry: Entry::PlanLength,
+            numbers: [threads, 0, 0],
+            read: history,
+            lent: vec![],
         }
     }
     pub fn run(script: Vec<u8>, out: Vec<u8>) -> Call {
@@ -325,7 +347,7 @@ impl Call {
             Entry::Move => format!("{name} {lent} {first} {second} {third}"),
             Entry::Nodes | Entry::Run | Entry::ReadScript => format!("{name} {read} {lent}"),
             Entry::OpenMoves => format!("{name} {read} {first} {lent}"),
-            Entry::Check => format!("{name} {first} {read}"),
+            Entry::Check | Entry::PlanLength => format!("{name} {first} {read}"),
             Entry::Plan | Entry::WriteScript => format!("{name} {first} {read} {lent}"),
             Entry::WatchEvent => format!("{name} {lent} {first} {second}"),
             Entry::WatchInside => format!("{name} {read}"),
@@ -406,6 +428,7 @@ impl<'a> Caller<'a> {
             Entry::OpenMoves => self.part.open_moves(read, numbers[0], lent),
             Entry::Check => self.part.check(numbers[0], read),
             Entry::Plan => self.part.plan(numbers[0], read, lent),
+            Entry::PlanLength => self.part.plan_length(numbers[0], read),
             Entry::Run => self.part.run(read, lent),
             Entry::WatchStart => self.part.watch_start(numbers[0], record(lent)),
             Entry::WatchEvent => self.part.watch_event(record(lent), numbers[0], numbers[1]),

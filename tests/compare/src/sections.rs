@@ -3,6 +3,7 @@
 use crate::cases;
 use crate::comparison::Comparison;
 use crate::histories;
+use crate::lengths;
 use crate::model::{self, LAST_MOVE, LAST_PHASE};
 use crate::model::{Record, EXCLUSIVE_TOTAL, RECORD_SIZE, SHARED_TOTAL};
 use crate::part::{done, hex, number_of, refused, value_of};
@@ -258,7 +259,7 @@ fn refusal_printed(output: &[u8]) -> usize {
 }
 
 /// Every list of up to four pairs for one and two threads, events and threads
-/// one past the range too: checked and planned.
+/// one past the range too: checked, measured and planned.
 pub fn small_histories(c: &mut Comparison) {
     let before = c.passed;
     for (threads, pairs) in [(1, 4), (2, 3)] {
@@ -273,7 +274,7 @@ pub fn small_histories(c: &mut Comparison) {
                     rest /= choices;
                 }
                 let out = vec![0x5a; 3 * histories::plan_moves(threads, &history) + 1];
-                c.compare(&Call::check(threads as u16, history.clone()));
+                lengths::measure(c, threads as u16, &history);
                 c.compare(&Call::plan(threads as u16, history, out));
             }
             if c.stopped() {
@@ -414,13 +415,14 @@ fn request(r: &mut Random, table: &[u8], thread: u16) -> (u16, u16) {
 }
 
 /// The check accepts a history with its number of events, as long as it takes
-/// histories of this length.
+/// histories of this length; its plan is measured.
 fn permitted(c: &mut Comparison, threads: usize, history: &[u8]) {
     let history = &history[..history.len().min(model::MAX_HISTORY)];
     let answer = c.compare(&Call::check(threads as u16, history.to_vec()));
     c.claim(answer == done(history.len() as u64 / 2), || {
         format!("the check turned down what {threads} threads showed")
     });
+    lengths::measure(c, threads as u16, history);
 }
 
 /// Plans of random histories, made move by move from a fresh table: each move
@@ -441,6 +443,7 @@ pub fn plans(c: &mut Comparison, seed: u64) {
             format!("a plan answered {answer}")
         });
         let plan = c.lent().to_vec();
+        lengths::measure(c, threads as u16, &history);
         moves += replay(c, threads, &plan, &history);
         if c.stopped() {
             return;

@@ -10,11 +10,13 @@ use crate::scripts::map_lines;
 use crate::tables::phases_mut;
 
 /// The entries that the vectors call. They were made before 02 §2: there are
-/// none of the watcher, and none that write or read a script.
+/// none of the watcher, none that write or read a script, and none of a plan's
+/// length.
 pub fn entries() -> impl Iterator<Item = Entry> {
     ENTRIES
         .into_iter()
         .filter(|entry| !entry.is_of_watcher() && !entry.is_of_writing())
+        .filter(|&entry| entry != Entry::PlanLength)
 }
 
 /// A call with its answer and the lent bytes after it.

@@ -3,6 +3,7 @@
 
 use crate::comparison::Comparison;
 use crate::histories;
+use crate::lengths;
 use crate::lists;
 use crate::model::{MAX_SCRIPT, RUN_ROOM};
 use crate::part::{done, done_reading, number_of, refused, value_of, Call, Entry};
@@ -568,6 +569,10 @@ pub fn plans_run(c: &mut Comparison, seed: u64) {
             vec![FILL; room],
         ));
         let plan = c.lent().to_vec();
+        let length = lengths::measure(c, threads as u16, &history);
+        c.claim(length == done(plan.len() as u64 / 3), || {
+            format!("a plan of {} bytes, its length {length}", plan.len())
+        });
         let script = scripts::spelled(threads, &plan);
         if script.len() > MAX_SCRIPT {
             too_long += 1;
