@@ -299,6 +299,13 @@ fn history_rows() {
         assert_eq!(number_of(Archive.check(n, &history)), 0);
         times(|part| part.check(n, black_box(&history)))
     });
+    row("plan length", |threads| {
+        let history = history(threads);
+        let n = threads as u16;
+        let moves = histories::plan_moves(threads, &history);
+        assert_eq!(Archive.plan_length(n, &history), done(moves as u64));
+        times(|part| part.plan_length(n, black_box(&history)))
+    });
     row("plan, all of it written", |threads| {
         let history = history(threads);
         let n = threads as u16;
