@@ -379,11 +379,12 @@ uint64_t wospinzo_check(uint16_t threads, const uint8_t *history, size_t history
 
 /*
  * Counts the moves of the plan for a history without making the plan, so that
- * memory for it can be reserved: with WOSPINZO_PLAN_SIZE(wospinzo_value(answer))
- * bytes of output wospinzo_plan is not refused by 12, with a byte less it is. A
- * full round of shared counts 7 moves and one of exclusive 3N + 6, whatever
- * stands between its events. A round that isn't finished counts 1, 4 or 6 after
- * its event 1, 2 or 3, and 1, 2N + 3 or 3N + 5 after its event 5, 6 or 7.
+ * memory for it can be reserved, three bytes a move: with
+ * WOSPINZO_PLAN_SIZE(wospinzo_value(answer)) bytes of output wospinzo_plan is not
+ * refused by 12, with a byte less it is. A full round of shared counts 7 moves
+ * and one of exclusive 3N + 6, whatever stands between its events. A round that
+ * isn't finished counts 1, 4 or 6 after its event 1, 2 or 3, and 1, 2N + 3 or
+ * 3N + 5 after its event 5, 6 or 7.
  * Answers the number of moves, the one that wospinzo_plan answers, at most
  * WOSPINZO_MAX_PLAN_MOVES. Writes nothing.
  * Refusals: those of wospinzo_check, with the same place.
