@@ -2,7 +2,7 @@
 -- A thread's place is its last event's code, 0 before the first and after a 4 or 8. A pair is judged by the pairs before it alone.
 use Prim.Native.Nat.{ℕ, _+_, _%_}
 use mathlib.Core.Bool.{Bool, true, cond, not, _&&_, _||_}
-use mathlib.Core.List.{List, [], _∷_}
+use mathlib.Core.List.{List, [], _∷_, _++_}
 use lib.Dec.{leb, ltb, eqb}
 use lib.ListN.{length, getD, take}
 use Rattle.definitions.specs.Answers.{Reply, Test, test, testAt, passesAll, answered}
@@ -84,11 +84,14 @@ unfoldable pub permitted : ℕ → List Pair → Bool
 permitted n history = every (length history) (λ k. passesAll (testsOf n history k))
 
 -- the refusals of the check: 1; 8, "The history has an odd length or exceeds 60,000 bytes"; then "each pair tried for all three before the next"
+abbrev pub formTests : ℕ → List ℕ → List Test
+formTests n bytes = test 1 (countFits n) ∷ test 8 (eqb (length bytes % 2) 0 && leb (length bytes) mostHistory) ∷ []
+
+abbrev pub pairsTests : ℕ → List ℕ → List Test
+pairsTests n bytes = gather (length (pairsOf bytes)) (testsOf n (pairsOf bytes))
+
 abbrev pub checkTests : ℕ → List ℕ → List Test
-checkTests n bytes =
-    test 1 (countFits n)
-    ∷ test 8 (eqb (length bytes % 2) 0 && leb (length bytes) mostHistory)
-    ∷ gather (length (pairsOf bytes)) (testsOf n (pairsOf bytes))
+checkTests n bytes = formTests n bytes ++ pairsTests n bytes
 
 -- "An accepted history answers its number of events"
 unfoldable pub checkReply : ℕ → List ℕ → Reply ℕ

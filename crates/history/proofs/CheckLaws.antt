@@ -10,14 +10,14 @@ use lib.ListN.{length, getD, set, take, replicate, length-set, length-replicate}
 use lib.Seq.{getD-set-same, getD-set-other}
 use Rattle.definitions.specs.Answers.{numberOf, answerReply, accepted, refused, Test, test, answered, passesAll}
 use Rattle.definitions.specs.Bounds.{mostThreads, mostHistory}
-use Rattle.definitions.specs.PlainLock.{Pair, pairsOf, Places, placesIn, atStart, placeAfter, advanced, placesAfter, pairTests, testsOf, checkTests, howManyAt}
+use Rattle.definitions.specs.PlainLock.{Pair, pairsOf, Places, placesIn, atStart, placeAfter, advanced, placesAfter, pairTests, testsOf, formTests, pairsTests, checkTests, howManyAt}
 use Rattle.definitions.specs.Table.{countFits}
 use Rattle.definitions.specs.Threads.{gather}
 use Rattle.definitions.specs.declared.Answer.{Answer}
 use Rattle.definitions.specs.declared.Answer.the-variants.{Done, Refused}
 use Rattle.definitions.specs.declared.Refusal.{Refusal}
 use Rattle.history.specs.Counts.{standingOf, standingAfter, Counted}
-use Rattle.history.specs.Pairs.{formTests, pairsTests, Passed}
+use Rattle.history.specs.Pairs.{Passed}
 use Rattle.history.specs.declared.Standing.{Standing}
 use Rattle.history.specs.declared.Verdict.{Verdict}
 use Rattle.history.specs.declared.Verdict.the-variants.{Fits, Bad}

@@ -1,4 +1,4 @@
--- An event judged by plain counts, what remains of the check behind its first tests, and the rows that the code looks events up in.
+-- An event judged by plain counts, what a pass over the pairs keeps, and the rows that the code looks events up in.
 pub mod Counts
 pub mod Pairs
 pub mod Rows

@@ -1,25 +1,14 @@
--- The check's tests in two lists, those of the whole and those of the pairs; what a pass over the pairs keeps between two of them, and what one turn of it promises.
-use Prim.Native.Nat.{ℕ, _+_, _/_, _%_, _≤_}
-use mathlib.Core.Bool.{_&&_}
-use mathlib.Core.List.{List, [], _∷_}
+-- What a pass over the pairs of a history keeps between two of them, and what one turn of it promises.
+use Prim.Native.Nat.{ℕ, _+_, _/_, _≤_}
+use mathlib.Core.List.{List}
 use mathlib.Core.Path.{_≡_}
-use lib.Dec.{T, leb, eqb}
+use lib.Dec.{T}
 use lib.ListN.{length, take}
-use Rattle.definitions.specs.Answers.{numberOf, refused, Test, test, answered, passesAll}
-use Rattle.definitions.specs.Bounds.{mostHistory}
-use Rattle.definitions.specs.PlainLock.{pairsOf, placesIn, atStart, placesAfter, testsOf, howManyAt}
-use Rattle.definitions.specs.Table.{countFits}
+use Rattle.definitions.specs.Answers.{numberOf, refused, answered, passesAll}
+use Rattle.definitions.specs.PlainLock.{pairsOf, placesIn, atStart, placesAfter, testsOf, howManyAt, pairsTests}
 use Rattle.definitions.specs.Threads.{gather}
 use Rattle.history.specs.declared.Verdict.{Verdict}
 use Rattle.history.specs.declared.Verdict.the-variants.{Fits, Bad}
-
--- 1; 8, "The history has an odd length or exceeds 60,000 bytes"
-abbrev pub formTests : ℕ → List ℕ → List Test
-formTests n bytes = test 1 (countFits n) ∷ test 8 (eqb (length bytes % 2) 0 && leb (length bytes) mostHistory) ∷ []
-
--- "each pair tried for all three before the next"
-abbrev pub pairsTests : ℕ → List ℕ → List Test
-pairsTests n bytes = gather (length (pairsOf bytes)) (testsOf n (pairsOf bytes))
 
 -- k pairs are passed: their tests are, and the places and the counts are those after them
 pub record Passed (n : ℕ) (bytes places : List ℕ) (shared exclusive k : ℕ) : Type 0 where
@@ -30,7 +19,12 @@ pub record Passed (n : ℕ) (bytes places : List ℕ) (shared exclusive k : ℕ)
   pub in-exclusive : exclusive ≡ howManyAt n (placesIn places) 6
   pub tested : T (passesAll (gather k (testsOf n (pairsOf bytes))))
 
--- pair k is taken: where it fits it is passed too, and where it is bad its refusal and its index are what the pairs' tests answer, whatever is answered where all are passed
-abbrev pub Taken : ℕ → List ℕ → ℕ → List ℕ → Verdict → Type 0
-Taken n bytes k places (Fits s) = Passed n bytes places (s .shared) (s .exclusive) (k + 1)
-Taken n bytes k places (Bad r) = (answer : ℕ) → refused (numberOf r) k ≡ answered (pairsTests n bytes) answer
+-- a bad pair of index k: the places stay, and its refusal and its index are what the pairs' tests answer, whatever is answered where all are passed
+pub record Turned (n : ℕ) (bytes : List ℕ) (k : ℕ) (before after : List ℕ) (number : ℕ) : Type 0 where
+  pub kept : after ≡ before
+  pub answers : (answer : ℕ) → refused number k ≡ answered (pairsTests n bytes) answer
+
+-- pair k is taken: where it fits it is passed too
+abbrev pub Taken : ℕ → List ℕ → ℕ → List ℕ → List ℕ → Verdict → Type 0
+Taken n bytes k before after (Fits s) = Passed n bytes after (s .shared) (s .exclusive) (k + 1)
+Taken n bytes k before after (Bad r) = Turned n bytes k before after (numberOf r)

@@ -12,9 +12,9 @@ ghost use mathlib.Core.Path.{_≡_};
 ghost use lib.ListN.{length};
 ghost use Rattle.definitions.specs.Answers.{numberOf, answered, answerReply};
 ghost use Rattle.definitions.specs.Bounds.{mostThreads};
-ghost use Rattle.definitions.specs.PlainLock.{checkReply};
+ghost use Rattle.definitions.specs.PlainLock.{formTests, pairsTests, checkReply};
 ghost use Rattle.history.specs.Counts.{Counted, countTests, standingAfter, verdictReply};
-ghost use Rattle.history.specs.Pairs.{formTests, pairsTests, Passed, Taken};
+ghost use Rattle.history.specs.Pairs.{Passed, Taken};
 ghost use Rattle.history.specs.Rows.{eventRow};
 
 // Where a thread stands: its place in its round, and how many threads are in shared and in exclusive.
@@ -136,7 +136,7 @@ pub fn take_pair(
     requires { ⌜ threads ≤ mostThreads ⌝ }
     requires { ⌜ k < length (now history) / 2 ⌝ }
     requires { ⌜ Passed threads (now history) (now places) shared exclusive k ⌝ }
-    ensures { λ r. ⌜ Taken threads (now (history .entry)) k (now (places .exit)) r ⌝ }
+    ensures { λ r. ⌜ Taken threads (now (history .entry)) k (now (places .entry)) (now (places .exit)) r ⌝ }
 {
     let at = 2 * k;
     let thread = history[at];

@@ -9,11 +9,10 @@ use mathlib.Core.Path.{_≡_, refl, sym, subst, ap, _∙_}
 use lib.Dec.{T}
 use lib.ListN.{length}
 use Rattle.definitions.specs.Answers.{accepted, refused, Test, testAt, answered, passesAll}
-use Rattle.definitions.specs.PlainLock.{Pair, pairsOf, testsOf, permitted, checkTests, checkReply}
+use Rattle.definitions.specs.PlainLock.{Pair, pairsOf, testsOf, permitted, formTests, pairsTests, checkTests, checkReply}
 use Rattle.definitions.specs.Table.{countFits}
 use Rattle.definitions.specs.Threads.{gather}
 use Rattle.orders.specs.Histories.{Passes, FirstBad}
-use Rattle.history.specs.Pairs.{formTests}
 use Rattle.history.proofs.CheckLaws.{formed, bad-size, bad-form, good-form, form-refused, told, tests-e, tests-i}
 use Rattle.theory.proofs.Lengths.{pairs-length}
 use Rattle.theory.proofs.Quantifiers.{every-at}
@@ -23,11 +22,8 @@ use Rattle.theory.proofs.TestLists.{answered-e, gathered, failed-first}
 -- ---- accepted
 
 module _ (n : ℕ) (bytes : List ℕ) where
-  abbrev pairs : List Test
-  pairs = gather (length (pairsOf bytes)) (testsOf n (pairsOf bytes))
-
   -- permitted as the tests of all pairs
-  permitted-tests : passesAll pairs ≡ permitted n (pairsOf bytes)
+  permitted-tests : passesAll (pairsTests n bytes) ≡ permitted n (pairsOf bytes)
   unfolding permitted
   permitted-tests = gathered (testsOf n (pairsOf bytes)) (length (pairsOf bytes))
 

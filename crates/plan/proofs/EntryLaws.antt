@@ -5,42 +5,38 @@ use mathlib.Core.List.{List}
 use mathlib.Core.Path.{_≡_, refl, sym, ap, _∙_}
 use lib.Dec.{T}
 use lib.ListN.{length}
-use Rattle.definitions.specs.Answers.{numberOf, answerReply, accepted, refused, passesAll, filled}
+use Rattle.definitions.specs.Answers.{numberOf, answerReply, accepted, refused, filled}
 use Rattle.definitions.specs.Bounds.{mostThreads}
-use Rattle.definitions.specs.PlainLock.{pairsOf, checkTests}
+use Rattle.definitions.specs.PlainLock.{pairsOf}
 use Rattle.definitions.specs.Plan.{plan, bytesOf, planEntry, planLengthReply}
 use Rattle.definitions.specs.declared.Answer.{Answer}
 use Rattle.definitions.specs.declared.Answer.the-variants.{Done, Refused}
 use Rattle.definitions.specs.declared.Refusal.{Refusal}
 use Rattle.theory.specs.Outputs.{RoomAt, Delivered}
 use Rattle.history.proofs.CheckLaws.{tests-e}
-use Rattle.theory.proofs.Lengths.{bytes-length}
-use Rattle.theory.proofs.Outputs.{turned-down, no-room, whole, delivered-as}
-use Rattle.theory.proofs.TestLists.{answered-e}
+use Rattle.theory.proofs.Outputs.{delivered-as}
+use Rattle.theory.proofs.SameCount.{length-e, enough, too-short, refused-plan}
 
 module _ (n : ℕ) (bytes out : List ℕ) (a : Answer) (e : answerReply a ≡ planLengthReply n bytes) where
   -- the length's refusal is the plan's
-  pub refused-plan : (r : Refusal) (place : ℕ) → a ≡ Refused r place → Delivered (planEntry n bytes) out out (answerReply a)
-  unfolding planLengthReply
-  refused-plan r place q =
-      delivered-as (turned-down (planEntry n bytes) out (length (plan n (pairsOf bytes))) (numberOf r) place (sym e ∙ ap answerReply q)) refl (ap answerReply q)
+  pub turned-plan : (r : Refusal) (place : ℕ) → a ≡ Refused r place → Delivered (planEntry n bytes) out out (answerReply a)
+  turned-plan r place q = delivered-as (refused-plan n bytes (numberOf r) place (sym e ∙ ap answerReply q) out) refl (ap answerReply q)
 
   module _ (moves : ℕ) (q : a ≡ Done moves) where
-    counted : T (passesAll (checkTests n bytes)) × (length (plan n (pairsOf bytes)) ≡ moves)
-    unfolding planLengthReply
-    counted = answered-e (checkTests n bytes) (length (plan n (pairsOf bytes))) moves (sym e ∙ ap answerReply q)
+    counted : planLengthReply n bytes ≡ accepted moves
+    counted = sym e ∙ ap answerReply q
 
     pub few : n ≤ mostThreads
-    few = tests-e n bytes (counted .0) .0 .most
+    few = tests-e n bytes (length-e n bytes moves counted .0) .0 .most
 
     -- the output is too short, and stays
     pub no-room-plan : length out / 3 < moves → Delivered (planEntry n bytes) out out (refused 12 0)
-    no-room-plan l = no-room (planEntry n bytes) out (counted .0) (omega (arith, counted .1, bytes-length (plan n (pairsOf bytes))))
+    no-room-plan l = too-short n bytes out moves counted (omega arith)
 
     -- it has room for the plan's bytes
     pub room-plan : moves ≤ length out / 3 → RoomAt out 0 (bytesOf (plan n (pairsOf bytes)))
-    room-plan l = record { ends = omega (arith, counted .1, bytes-length (plan n (pairsOf bytes))) }
+    room-plan l = let long = enough n bytes out moves counted (omega arith) .1 in record { ends = omega arith }
 
     -- which are written
     pub written-plan : (left : List ℕ) → moves ≤ length out / 3 → left ≡ filled out (bytesOf (plan n (pairsOf bytes))) → Delivered (planEntry n bytes) out left (accepted moves)
-    written-plan left l w = delivered-as (whole (planEntry n bytes) out (counted .0) (let r = room-plan l in omega arith)) w (ap accepted (sym (counted .1)))
+    written-plan left l w = delivered-as (enough n bytes out moves counted (omega arith) .0) w refl

@@ -8,9 +8,8 @@ ghost use mathlib.Core.Path.{_≡_};
 ghost use lib.ListN.{length};
 ghost use Rattle.definitions.specs.Answers.{answered, answerReply, filled};
 ghost use Rattle.definitions.specs.Bounds.{mostThreads, mostHistory};
-ghost use Rattle.definitions.specs.PlainLock.{pairsOf};
+ghost use Rattle.definitions.specs.PlainLock.{pairsOf, pairsTests};
 ghost use Rattle.definitions.specs.Plan.{plan, bytesOf, planEntry, planLengthReply};
-ghost use Rattle.history.specs.Pairs.{pairsTests};
 ghost use Rattle.theory.specs.Outputs.{RoomAt, Delivered};
 ghost use Rattle.plan.specs.Shares.{ShareOf};
 
@@ -20,26 +19,20 @@ struct Share {
     each: usize,
 }
 
-fn values(once: usize, each: usize) -> Share
-    ensures { λ r. ⌜ r ≡ record { once = once; each = each } ⌝ }
-{
-    Share { once, each }
-}
-
 // Shares are constants: they are compiled to tables, and not to branches, which are often mispredicted.
 fn share_of(code: u8) -> Share
     ensures { λ r. ⌜ ShareOf code r ⌝ }
 {
     match code {
-        1 => values(1, 0),
-        2 => values(3, 0),
-        3 => values(2, 0),
-        4 => values(1, 0),
-        5 => values(1, 0),
-        6 => values(2, 2),
-        7 => values(2, 1),
-        8 => values(1, 0),
-        _ => values(0, 0),
+        1 => Share { once: 1, each: 0 },
+        2 => Share { once: 3, each: 0 },
+        3 => Share { once: 2, each: 0 },
+        4 => Share { once: 1, each: 0 },
+        5 => Share { once: 1, each: 0 },
+        6 => Share { once: 2, each: 2 },
+        7 => Share { once: 2, each: 1 },
+        8 => Share { once: 1, each: 0 },
+        _ => Share { once: 0, each: 0 },
     }
 }
 

@@ -1,6 +1,5 @@
 -- Shared facts first, then the theorems of 02 §4, a file each, the longest plan's last.
 pub mod ByRounds
-pub mod SameCount
 pub mod RoundCosts
 pub mod LongestHistory
 pub mod Longest

@@ -23,7 +23,7 @@ use Rattle.theory.proofs.Tests.{below?}
 use Rattle.plan_lengths.proofs.ByRounds.{below-at, by-rounds}
 use Rattle.plan_lengths.proofs.LongestHistory.{longest-permitted, longest-events, longest-moves}
 use Rattle.plan_lengths.proofs.RoundCosts.{rounds}
-use Rattle.plan_lengths.proofs.SameCount.{length-e, accepted-alike}
+use Rattle.theory.proofs.SameCount.{length-e, accepted-alike}
 
 -- ---- the events of a history by its rounds
 

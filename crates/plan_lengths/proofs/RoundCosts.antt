@@ -14,7 +14,7 @@ use Rattle.orders.specs.Histories.{pairOf}
 use Rattle.orders.proofs.CheckReply.{passes-e}
 use Rattle.plan_lengths.proofs.ByRounds.{AddsUp, by-rounds}
 use Rattle.theory.proofs.PlanLengths.{movesFor, moves-more, moves-append}
-use Rattle.plan_lengths.proofs.SameCount.{length-e}
+use Rattle.theory.proofs.SameCount.{length-e}
 
 -- ---- one round
 

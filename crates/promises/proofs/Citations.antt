@@ -6,7 +6,6 @@ use Rattle.forms.proofs.Spelling as spelled
 use Rattle.orders.proofs.EveryOrder as orders
 use Rattle.plan_lengths.proofs.Longest as long
 use Rattle.plan_lengths.proofs.RoundCosts as costs
-use Rattle.plan_lengths.proofs.SameCount as count
 use Rattle.printout.proofs.Output as output
 use Rattle.printout.proofs.print_input.Met as printing
 use Rattle.round_trips.proofs.PlanWriteRun.{plan-write-run}
@@ -22,6 +21,7 @@ use Rattle.theory.proofs.Bytes.{byte-keeps}
 use Rattle.theory.proofs.Discipline as discipline
 use Rattle.theory.proofs.Figure1 as figure
 use Rattle.theory.proofs.OpenMovesExact as exact
+use Rattle.theory.proofs.SameCount as count
 use Rattle.theory.proofs.SoundKept as kept
 use Rattle.theory.proofs.Storages as storages
 use Rattle.watching.proofs.EveryEvent as watching

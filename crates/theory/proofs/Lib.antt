@@ -32,3 +32,4 @@ pub mod LineTurns
 pub mod Figure1
 pub mod Discipline
 pub mod OpenMovesExact
+pub mod SameCount

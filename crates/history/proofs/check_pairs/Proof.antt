@@ -36,8 +36,8 @@ returns c =
     let called = c .before .before .before .before in
     let at = called .before .before .before in
     let a = at .before .before .args in
-    subst (Taken (a .threads) (a .history .now) (at .loop .k) (called .take-pair .last .1 .1 .1 .0))
-    (c .before .verdict2 .given .1) (called .take-pair .ensures) (a .events)
+    subst (Taken (a .threads) (a .history .now) (at .loop .k) (at .loop .places) (called .take-pair .last .1 .1 .1 .0))
+    (c .before .verdict2 .given .1) (called .take-pair .ensures) .answers (a .events)
 
 add-k : tie.Need-add-k Inv-loop μ-loop
 add-k c = search needs
@@ -50,7 +50,7 @@ loop-again c =
     let called = c .before .before .before .before in
     let at = called .before .before .before in
     let a = at .before .before .args in
-    subst (Taken (a .threads) (a .history .now) (at .loop .k) (called .take-pair .last .1 .1 .1 .0))
+    subst (Taken (a .threads) (a .history .now) (at .loop .k) (at .loop .places) (called .take-pair .last .1 .1 .1 .0))
     (c .before .verdict .given .1) (called .take-pair .ensures)
 
 returns-2 : tie.Need-returns-2 Inv-loop μ-loop

@@ -1,6 +1,7 @@
 -- `take_pair` meets its contract: the pair is judged as the plain lock judges it, and the place after it written.
 use Prim.Native.Nat.{_*_, _+_}
 use native.Mathlib.Omega.{arith}
+use mathlib.Core.Path.{refl}
 use borrow.Author.Needs.{needs}
 use Rattle.history.proofs.CheckLaws.{counted-here, bad-here, goes-on}
 use Rattle.history.proofs.take_pair.Statement.{statement}
@@ -65,8 +66,12 @@ returns-2 c =
     let judge = c .before .before .before .judge in
     let start = c .before .before .before .before .before .before .before .before .before in
     let a = start .args in
-    bad-here (a .threads) (a .history .now) (a .places .now) (a .shared) (a .exclusive) (a .k) (start .pre .1 .1) (start .pre .1 .0)
-    (judge .result) (c .before .verdict2 .given .0 .0) (c .before .verdict2 .given .1) (judge .ensures)
+    record {
+      kept = refl;
+      answers =
+          bad-here (a .threads) (a .history .now) (a .places .now) (a .shared) (a .exclusive) (a .k) (start .pre .1 .1) (start .pre .1 .0)
+          (judge .result) (c .before .verdict2 .given .0 .0) (c .before .verdict2 .given .1) (judge .ensures);
+    }
 
 pub take-pair-spec : {M : Type 1} → statement M
 take-pair-spec =

@@ -42,8 +42,8 @@ returns c =
     let called = c .before .before .before .before in
     let at = called .before .before .before in
     let a = at .before .before .args in
-    subst (Taken (a .threads) (a .history .now) (at .loop .k) (called .take-pair .last .1 .1 .1 .0))
-    (c .before .verdict2 .given .1) (called .take-pair .ensures) (length (plan (a .threads) (pairsOf (a .history .now))))
+    subst (Taken (a .threads) (a .history .now) (at .loop .k) (at .loop .places) (called .take-pair .last .1 .1 .1 .0))
+    (c .before .verdict2 .given .1) (called .take-pair .ensures) .answers (length (plan (a .threads) (pairsOf (a .history .now))))
 
 mul-code : tie.Need-mul-code Inv-loop μ-loop
 mul-code c = search needs
@@ -76,7 +76,7 @@ loop-again c =
     let called = told .before .before .before in
     let at = called .before .before .before in
     let a = at .before .before .args in (
-      subst (Taken (a .threads) (a .history .now) (at .loop .k) (called .take-pair .last .1 .1 .1 .0)) (told .verdict .given .1) (called .take-pair .ensures),
+      subst (Taken (a .threads) (a .history .now) (at .loop .k) (at .loop .places) (called .take-pair .last .1 .1 .1 .0)) (told .verdict .given .1) (called .take-pair .ensures),
       counting-more (a .threads) (a .history .now) (at .loop .k) (at .loop .once) (at .loop .each) (at .loop .inv .1) (share .result) (omega arith) (share .ensures),
     )
 

@@ -1,7 +1,7 @@
 -- `plan` meets its contract: refused by the check, no room, or written.
 use native.Mathlib.Omega.{arith}
 use borrow.Author.Needs.{needs}
-use Rattle.plan.proofs.EntryLaws.{refused-plan, few, no-room-plan, room-plan, written-plan}
+use Rattle.plan.proofs.EntryLaws.{turned-plan, few, no-room-plan, room-plan, written-plan}
 use Rattle.plan.proofs.plan.Statement.{statement}
 use Rattle.plan.proofs.plan.Tie as tie
 
@@ -18,7 +18,7 @@ returns : tie.Need-returns
 returns c =
     let called = c .before .before in
     let a = called .before .before .before .args in
-    refused-plan (a .threads) (a .history .now) (a .out .now) (called .plan-length .result) (called .plan-length .ensures)
+    turned-plan (a .threads) (a .history .now) (a .out .now) (called .plan-length .result) (called .plan-length .ensures)
     (c .enum-told .given .0 .0) (c .enum-told .given .0 .1 .0) (c .enum-told .given .1)
 
 returns-2 : tie.Need-returns-2

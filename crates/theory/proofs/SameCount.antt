@@ -12,12 +12,11 @@ use Rattle.definitions.specs.Answers.{accepted, refused, passesAll, filled, del
 use Rattle.definitions.specs.PlainLock.{pairsOf, checkTests, checkReply}
 use Rattle.definitions.specs.Plan.{plan, bytesOf, planEntry, planLengthReply}
 use Rattle.definitions.specs.declared.Request.{Request}
 use Rattle.theory.specs.Outputs.{Delivered}
-use Rattle.orders.proofs.PlanEntry.{plan-accepted}
 use Rattle.theory.proofs.Lengths.{bytes-length}
-use Rattle.theory.proofs.Outputs.{turned-down, no-room, whole}
+use Rattle.theory.proofs.Outputs.{turned-down, no-room, whole, answered-so}
 use Rattle.theory.proofs.Replies.{all-passed}
 use Rattle.theory.proofs.TestLists.{answered-e, other-answer}
 
 module _ (n : ℕ) (bytes : List ℕ) where
   abbrev moves : List Request
@@ -51,7 +50,7 @@ module _ (n : ℕ) (bytes : List ℕ) where
 
   -- Whatever number the plan entry answers, with whatever output, is the number answered of the length.
   pub planned-count : (out : List ℕ) (k : ℕ) → deliveryReply (planEntry n bytes) out ≡ accepted k → planLengthReply n bytes ≡ accepted k
-  planned-count out k e = let (tested, room, same) = plan-accepted n bytes out k e in length-i k tested same
+  planned-count out k e = let s = answered-so (planEntry n bytes) out k e in length-i k (s .tested) (s .answer)
 
   -- So the two numbers are the same where the output has room, and a number is answered of the length exactly where the plan entry answers it for some output.
   pub same-count : (out : List ℕ) (k : ℕ) → 3 * k ≤ length out → (planLengthReply n bytes ≡ accepted k) ↔ (deliveryReply (planEntry n bytes) out ≡ accepted k)
