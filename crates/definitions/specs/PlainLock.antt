@@ -83,13 +83,15 @@ testsOf n history k =
 unfoldable pub permitted : ℕ → List Pair → Bool
 permitted n history = every (length history) (λ k. passesAll (testsOf n history k))
 
--- the refusals of the check: 1; 8, "The history has an odd length or exceeds 60,000 bytes"; then "each pair tried for all three before the next"
+-- refusal 1, and 8: "The history has an odd length or exceeds 60,000 bytes"
 abbrev pub formTests : ℕ → List ℕ → List Test
 formTests n bytes = test 1 (countFits n) ∷ test 8 (eqb (length bytes % 2) 0 && leb (length bytes) mostHistory) ∷ []
 
+-- "each pair tried for all three before the next"
 abbrev pub pairsTests : ℕ → List ℕ → List Test
 pairsTests n bytes = gather (length (pairsOf bytes)) (testsOf n (pairsOf bytes))
 
+-- the refusals of the check, in their order
 abbrev pub checkTests : ℕ → List ℕ → List Test
 checkTests n bytes = formTests n bytes ++ pairsTests n bytes
 
