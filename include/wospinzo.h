@@ -10,7 +10,8 @@
  * A readers-writer lock for N threads (tasks of an executive) kept in one
  * table of bytes that the caller owns. Every step of a thread through the lock
  * is one call of wospinzo_move. The functions start no threads, take no
- * memory, keep no state between calls and call nothing back.
+ * memory, keep no state between calls and call nothing back; none calls itself,
+ * directly or through others, and none is called through a pointer (tests/calls).
  *
  * The table: 3 + 3N bytes.
  *   byte 0           N, 1 to 200

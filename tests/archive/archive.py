@@ -33,58 +33,86 @@ def sections(archive=ARCHIVE):
     return found
 
 
-class Function:
-    def __init__(self, name):
-        self.name, self.frame, self.calls, self.indirect = name, 0, [], []
+def function_of(symbol):
+    """The function that a relocation means: a local one is named by its section."""
+    return re.sub(r"^\.text\.", "", symbol)
 
 
-def functions(archive=ARCHIVE):
-    """Each function by name: the bytes that it takes on the stack (its pushes and what it subtracts from rsp), the functions
-    that it calls or jumps to, and the calls through a register or memory. A jump through a table of its own is none."""
-    found, f = {}, None
-    last_jump = None
+def instructions(archive=ARCHIVE):
+    """Each function's instructions: (word, operands, the symbol of its relocation or None)."""
+    found, code = {}, []
     for line in tool("objdump", "--disassemble", "--reloc", "--demangle=none", "--no-show-raw-insn", "-M", "intel", str(archive)).splitlines():
         head = re.match(r"[0-9a-f]+ <(.+)>:$", line)
+        relocation = re.match(r"\s+[0-9a-f]+: R_X86_64_\S+\s+(\S+?)(?:[-+]0x[0-9a-f]+)?$", line)
+        step = re.match(r"\s+[0-9a-f]+:\s+(?:(?:bnd|notrack|data16|rex\.\w+|cs) )*(\S+)\s*(.*)$", line)
         if head:
-            f = found.setdefault(head[1], Function(head[1]))
-            continue
-        reloc = re.match(r"\s+[0-9a-f]+: (R_X86_64_\S+)\s+(\S+?)([-+]0x[0-9a-f]+)?$", line)
-        if reloc and last_jump:
-            f.calls.append(re.sub(r"^\.text\.", "", reloc[2]))
-            last_jump = None
-            continue
-        code = re.match(r"\s+[0-9a-f]+:\s+(?:(?:bnd|notrack|data16|rex\.\w+|cs) )*(\S+)\s*(.*)$", line)
-        if not code or f is None:
-            continue
-        last_jump = None
-        word, rest = code[1], code[2].strip()
-        if word == "push":
-            f.frame += 8
-        elif word == "sub" and rest.startswith("rsp,"):
-            f.frame += int(rest.split(",")[1], 0)
-        elif word == "call" or word.startswith("jmp"):
-            inside = re.search(r"<(.+?)(?:\+0x[0-9a-f]+)?>", rest)
-            if inside and inside[1] == f.name:
-                # a jump within the function, or a call with a relocation on the next line
-                if word == "call":
-                    last_jump = True
-                else:
-                    last_jump = rest if re.match(r"[0-9a-f]+ <", rest) else None
-            elif re.match(r"[0-9a-f]+ <", rest):
-                last_jump = True
-            elif word == "call":
-                f.indirect.append(line.strip())
+            code = found.setdefault(head[1], [])
+        elif relocation:
+            code[-1] = code[-1][:2] + (relocation[1],)
+        elif step:
+            code.append((step[1], step[2].strip(), None))
     return found
 
 
-def deepest(found, start, seen=()):
+class Function:
+    """frame: the bytes that it takes on the stack, its pushes and what it subtracts from rsp. calls: the functions that it
+    calls or jumps to, itself too. unnamed: the instructions by which it may reach a function that they do not name."""
+
+    def __init__(self, name):
+        self.name, self.frame, self.calls, self.unnamed = name, 0, [], []
+
+
+def is_switch(code, at):
+    """Whether a jump goes by a table of distances to the table itself, as a switch does."""
+    if at < 2:
+        return False
+    (load, from_table, _), (add, summands, _), (jump, register, _) = code[at - 2:at + 1]
+    entry = re.match(r"(r\w+),DWORD PTR \[(r\w+)\+r\w+\*4\]$", from_table)
+    return bool((load, add, jump) == ("movsxd", "add", "jmp") and entry and entry[1] == register and summands == f"{register},{entry[2]}")
+
+
+def functions(archive=ARCHIVE):
+    """Each function by name. A jump within a function is no call, but one to its first instruction counts as a call of it."""
+    listing, found = instructions(archive), {}
+    for name, code in listing.items():
+        f = found[name] = Function(name)
+        for at, (word, operands, symbol) in enumerate(code):
+            place = re.match(r"[0-9a-f]+ <(.+?)(\+0x[0-9a-f]+)?>$", operands)
+            if word == "push":
+                f.frame += 8
+            elif word == "sub" and operands.startswith("rsp,"):
+                f.frame += int(operands.split(",")[1], 0)
+            elif not re.match(r"call|j|loop", word):
+                if symbol and (symbol.startswith(".text") or symbol in listing):
+                    f.unnamed.append(f"{word} {operands} takes the address of {function_of(symbol)}")
+            elif place and symbol:
+                f.calls.append(function_of(symbol))
+            elif place:
+                if word == "call" or place[1] != name or not place[2]:
+                    f.calls.append(place[1])
+            elif not is_switch(code, at):
+                f.unnamed.append(f"{word} {operands}")
+    return found
+
+
+def addresses_held(archive=ARCHIVE):
+    """(section, symbol) of each address of code in data that is not in the table of a switch of that very function."""
+    held, section = [], ""
+    code = set(instructions(archive))
+    for line in tool("readelf", "--wide", "--relocs", str(archive)).splitlines():
+        head = re.match(r"Relocation section '\.rela(\S*)'", line)
+        entry = re.match(r"[0-9a-f]{16}\s+[0-9a-f]{16}\s+R_X86_64_\S+\s+[0-9a-f]{16}\s+(\S+)", line)
+        if head:
+            section = head[1]
+        elif entry and not section.startswith(".text") and (entry[1].startswith(".text") or entry[1] in code):
+            if section != f".rodata.{function_of(entry[1])}":
+                held.append((section, entry[1]))
+    return held
+
+
+def stack(found, start):
     """The chain of calls from a function that takes most stack, 8 bytes for each return address: (bytes, names). A name that
-    the archive does not define ends a chain. Raises where a function calls itself, directly or through others."""
-    if start in seen:
-        raise ValueError("calls itself: " + " -> ".join(seen[seen.index(start):] + (start,)))
-    best = (0, ())
-    for callee in found[start].calls if start in found else ():
-        if callee != start and callee in found:
-            below = deepest(found, callee, seen + (start,))
-            best = max(best, (below[0] + 8, below[1]))
-    return (best[0] + (found[start].frame if start in found else 0), (start,) + best[1])
+    the archive does not define ends a chain. For functions of which none calls itself, directly or through others."""
+    below = [stack(found, callee) for callee in found[start].calls if callee in found]
+    most, chain = max(((size + 8, chain) for size, chain in below), default=(0, ()))
+    return most + found[start].frame, (start,) + chain

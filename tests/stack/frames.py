@@ -13,5 +13,5 @@ import archive  # noqa: E402
 RED_ZONE, RETURN = 128, 8
 functions = archive.functions()
 for name in sorted(n for n in functions if n.startswith("wospinzo_")):
-    size, chain = archive.deepest(functions, name)
+    size, chain = archive.stack(functions, name)
     print(f"{name} {size + RETURN + RED_ZONE} {' '.join(chain)}")

@@ -1,6 +1,7 @@
--- The marked examples of the scope paper, and examples of 02 §1 to §4.
+-- The marked examples of the scope paper, and examples of 02 §1 to §5.
 pub mod Marked
 pub mod Waiting
 pub mod Watching
 pub mod Writing
 pub mod Measuring
+pub mod Noting

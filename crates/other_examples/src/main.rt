@@ -1,5 +1,5 @@
-// The examples of the scope paper that are not marked, through the compiled entries. The gate holds what this prints to
-// the file stdout.
+// The examples of the scope paper that are not marked, through the compiled entries; those on the depth of a note also for
+// the entry that reads a script (02 §5). The gate holds what this prints to the file stdout.
 use example_lines::say;
 use example_lines::say_answer;
 use example_lines::say_bytes;
@@ -32,18 +32,23 @@ fn show_run(name: &[u8], script: &[u8]) {
     say_bytes(&out);
 }
 
+fn show_read(name: &[u8], script: &[u8]) {
+    let mut out = [7u8; 3];
+    let answer = wospinzo::wospinzo_read_script(script, &mut out);
+    say_answer(name, answer);
+    say_bytes(&out);
+}
+
 // Scripts: the most threads and one more, the deepest note and one deeper.
 fn scripts() {
     show_run(b"threads 200", b"(threads 200)\n");
     show_run(b"threads 201", b"(threads 201)\n");
-    show_run(
-        b"depth 16",
-        b"(threads 1)\n(note (((((((((((((((()))))))))))))))))\n",
-    );
-    show_run(
-        b"depth 17",
-        b"(threads 1)\n(note ((((((((((((((((())))))))))))))))))\n",
-    );
+    let deepest = b"(threads 1)\n(note (((((((((((((((()))))))))))))))))\n";
+    show_run(b"depth 16", deepest);
+    show_read(b"depth 16, read", deepest);
+    let deeper = b"(threads 1)\n(note ((((((((((((((((())))))))))))))))))\n";
+    show_run(b"depth 17", deeper);
+    show_read(b"depth 17, read", deeper);
 }
 
 // Rounds of thread 0, 1 to 4 again and again: permitted as far as they go.

@@ -180,6 +180,12 @@ const BAD_SCRIPTS: [(&str, u64, usize); 22] = [
     ),
 ];
 
+/// A script with a note whose text has brackets of this depth, and a move.
+fn with_note(depth: usize) -> Vec<u8> {
+    let (open, close) = ("(".repeat(depth), ")".repeat(depth));
+    format!("(threads 1)\n(note {open}{close})\n(0 (go))\n").into_bytes()
+}
+
 /// Examples of writing and reading.
 pub fn examples(c: &mut Comparison) {
     for (threads, list, script) in SPELLINGS {
@@ -194,6 +200,8 @@ pub fn examples(c: &mut Comparison) {
         3,
         &[2, 3, 1, 0, 0, 0],
     );
+    read_as(c, "depth of a note", &with_note(16), 1, &[0, 0, 0]);
+    turned_down(c, "depth of a note", read(&with_note(17), 0), 8, 2);
     for threads in [0, 201, 255, 256, 257, 456, 65535] {
         for list in [&[][..], &[0], &[0, 0, 0], &[255, 7, 1]] {
             turned_down(c, "a bad N", write(threads, list, 0), 1, 0);
