@@ -5,10 +5,16 @@ from pathlib import Path
 
 TOP = Path(__file__).resolve().parent.parent.parent
 ARCHIVE = TOP / "target" / "staticlib" / "libwospinzo.a"
+HEADER = TOP / "include" / "wospinzo.h"
 
 
 def tool(*words):
     return subprocess.run(words, capture_output=True, text=True, check=True).stdout
+
+
+def declared():
+    """The entries that the header declares, in its order."""
+    return re.findall(r"(?m)^uint(?:32|64)_t (wospinzo_\w+)\(", HEADER.read_text())
 
 
 def symbols(archive=ARCHIVE):
@@ -78,19 +84,19 @@ def functions(archive=ARCHIVE):
         f = found[name] = Function(name)
         for at, (word, operands, symbol) in enumerate(code):
             place = re.match(r"[0-9a-f]+ <(.+?)(\+0x[0-9a-f]+)?>$", operands)
+            leads_on = re.match(r"call|j|loop", word)
+            if not leads_on and symbol and (symbol.startswith(".text") or symbol in listing):
+                f.unnamed.append(f"{word} {operands} takes the address of {function_of(symbol)}")
             if word == "push":
                 f.frame += 8
             elif word == "sub" and operands.startswith("rsp,"):
                 f.frame += int(operands.split(",")[1], 0)
-            elif not re.match(r"call|j|loop", word):
-                if symbol and (symbol.startswith(".text") or symbol in listing):
-                    f.unnamed.append(f"{word} {operands} takes the address of {function_of(symbol)}")
-            elif place and symbol:
+            elif leads_on and place and symbol:
                 f.calls.append(function_of(symbol))
-            elif place:
+            elif leads_on and place:
                 if word == "call" or place[1] != name or not place[2]:
                     f.calls.append(place[1])
-            elif not is_switch(code, at):
+            elif leads_on and not is_switch(code, at):
                 f.unnamed.append(f"{word} {operands}")
     return found
 

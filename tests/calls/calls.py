@@ -80,7 +80,7 @@ def functions_written(root, crate):
 
 def sources(root, crate):
     """The calls of a crate and of what it needs, as the kit's front end reads the sources, where each call has the full name
-    of the function called: (graph, the number of calls that name no function or of functions that are used as values)."""
+    of the function called: (graph, how many calls name no function and how many functions are used as values, in all)."""
     done = subprocess.run(["rt", "mir", crate], cwd=root, capture_output=True, text=True)
     if done.returncode:
         raise SystemExit(f"calls: rt mir {crate} failed\n{done.stderr[-2000:]}\n0 passed, 1 failed")

@@ -1,6 +1,7 @@
 #!/usr/bin/env python3
-"""The stack of each entry by the archive's code: the frames along the deepest chain of calls, with a return address each and
-the 128 bytes below the stack pointer that the last function may use (the red zone of the x86-64 calling convention).
+"""The stack of each entry by the archive's code: the frames along the chain of calls that takes most, with a return
+address each and the 128 bytes below the stack pointer that the last function may use (the red zone of the x86-64 calling
+convention).
 
   tests/stack/frames.py    prints a line for each entry: its name, the bytes, and the chain
 """
