@@ -9,7 +9,7 @@ use Rattle.definitions.specs.Moves.{ask, goEffect, setEffect, clearEffec
 use Rattle.definitions.specs.Phases.{rows}
 use Rattle.definitions.specs.PlainLock.{pairsOf, placesAfter, testsOf, checkReply}
 use Rattle.definitions.specs.Plan.{planOf, plan, bytesOf, planEntry}
-use Rattle.definitions.specs.Sound.{sound, phaseRule, flagRule, busyRule, holderRule, mutexRule, targetRule, openRule, rule10, rule11, rule13, rule15}
+use Rattle.definitions.specs.Sound.{sound, phaseRule, flagRule, busyRule, holderRule, mutexRule, targetRule, openRule, rule10, rule11, rule13, rule15, elsewhereRule}
 use Rattle.definitions.specs.Table.{sized, fresh, stored, freshEntry}
 use Rattle.definitions.specs.Threads.{every, some, howMany, among, allOf, gather}
 
@@ -63,7 +63,7 @@ pub record MarkedExamples : Type 0 where
       × (deliveryReply (planEntry 1 (0 ∷ 5 ∷ 0 ∷ 6 ∷ [])) lent15 ≡ accepted 5)
 
 pub marked-examples : MarkedExamples
-unfolding fresh every some howMany among allOf gather passesAll answered deliveryReply deliveryOutput sized stored rows sound phaseRule flagRule busyRule holderRule mutexRule targetRule openRule rule10 rule11 rule13 rule15 goEffect setEffect clearEffect effect replyIn stepIn historyIn afterIn pairsOf placesAfter testsOf checkReply planOf plan bytesOf
+unfolding fresh every some howMany among allOf gather passesAll answered deliveryReply deliveryOutput sized stored rows sound phaseRule flagRule busyRule holderRule mutexRule targetRule openRule rule10 rule11 rule13 rule15 elsewhereRule goEffect setEffect clearEffect effect replyIn stepIn historyIn afterIn pairsOf placesAfter testsOf checkReply planOf plan bytesOf
 marked-examples =
     record {
       M1 = (refl, refl);

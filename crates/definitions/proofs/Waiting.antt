@@ -10,7 +10,7 @@ use Rattle.definitions.specs.Moves.{ask, goEffect, setEffect, clearEffec
 use Rattle.definitions.specs.Nodes.{nodesOf}
 use Rattle.definitions.specs.OpenMoves.{openMoves}
 use Rattle.definitions.specs.Phases.{rows}
-use Rattle.definitions.specs.Sound.{sound, phaseRule, flagRule, busyRule, holderRule, mutexRule, targetRule, openRule, rule10, rule11, rule13, rule15}
+use Rattle.definitions.specs.Sound.{sound, phaseRule, flagRule, busyRule, holderRule, mutexRule, targetRule, openRule, rule10, rule11, rule13, rule15, elsewhereRule}
 use Rattle.definitions.specs.Table.{tableOf, sized, stored}
 use Rattle.definitions.specs.Texts.{bytes, same, digitsOf, valueFrom, numberRead}
 use Rattle.definitions.specs.Threads.{every, some, howMany, among, allOf, listOf, gather}
@@ -55,7 +55,7 @@ pub record WaitingExamples : Type 0 where
   pub line-with-target : formOf (bytes "(0 (hold 0))") ≡ bad
 
 pub waiting-examples : WaitingExamples
-unfolding every some howMany among allOf listOf gather passesAll answered sized stored rows sound phaseRule flagRule busyRule holderRule mutexRule targetRule openRule rule10 rule11 rule13 rule15 goEffect setEffect clearEffect effect stepReply replyIn stepIn openMoves nodesOf bytes same digitsOf valueFrom numberRead actText aimedForm plainMoves plainForm actForm formOf
+unfolding every some howMany among allOf listOf gather passesAll answered sized stored rows sound phaseRule flagRule busyRule holderRule mutexRule targetRule openRule rule10 rule11 rule13 rule15 elsewhereRule goEffect setEffect clearEffect effect stepReply replyIn stepIn openMoves nodesOf bytes same digitsOf valueFrom numberRead actText aimedForm plainMoves plainForm actForm formOf
 waiting-examples =
     record {
       holds = (refl, refl);

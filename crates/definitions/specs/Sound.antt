@@ -79,6 +79,14 @@ rule13 s =
 unfoldable pub rule15 : Table → Bool
 rule15 s = implies (holderIn 15 15 s) (some (s .threads) (λ i. eqb (s .forbidden i) 1))
 
+-- the phases of a reader that has found its forbidden 1 and hasn't begun again: it lowers busy (3), waits (4) or holds the mutex (18)
+abbrev pub backedOff : ℕ → Bool
+backedOff phase = eqb phase 3 || eqb phase 4 || eqb phase 18
+
+-- "not every thread is in phases 3, 4 and 18" (02 §6)
+unfoldable pub elsewhereRule : Table → Bool
+elsewhereRule s = not (every (s .threads) (λ i. backedOff (s .phase i)))
+
 -- all of them
 unfoldable pub sound : Table → Bool
 sound s =
@@ -94,6 +102,7 @@ sound s =
     ∷ rule11 s
     ∷ rule13 s
     ∷ rule15 s
+    ∷ elsewhereRule s
     ∷ [])
 
 -- the refusals of a table's bytes: 1, its size, and 2, "The table isn't sound."

@@ -113,7 +113,7 @@ start-rests n =
     same-table (resting n atStart) (freshTable n) refl (ap (λ (q : Bool). cond q 1 0) none) refl refl refl
     (ap (λ (q : Bool). λ (t : ℕ). cond (q && ltb t n) 1 0) none)
 
-pub plan-fresh : (n : ℕ) (h : List Pair) → T (permittedFrom n atStart h) → Leads (freshTable n) (plan n h) h (resting n (placesAfter atStart h))
-plan-fresh n h t =
+pub plan-fresh : (n : ℕ) (h : List Pair) → 1 ≤ n → T (permittedFrom n atStart h) → Leads (freshTable n) (plan n h) h (resting n (placesAfter atStart h))
+plan-fresh n h least t =
     subst (λ (s : Table). Leads s (plan n h) h (resting n (placesAfter atStart h))) (start-rests n)
-    (plan-leads n atStart h (subst (λ (s : Table). T (sound s)) (sym (start-rests n)) (fresh-fits n)) t)
+    (plan-leads n atStart h (subst (λ (s : Table). T (sound s)) (sym (start-rests n)) (fresh-fits n least)) t)

@@ -44,14 +44,14 @@ use Rattle.orders.proofs.Safety.{shown-permitted}
 pub safe : (n : ℕ) → 1 ≤ n → n ≤ mostThreads → (rs : List Request) → T (permitted n (history (fresh n) rs))
 unfolding placeOf rows
 safe n least most rs =
-    rw (permitted-is n (history (fresh n) rs), history-fresh n least most rs) (shown-permitted (freshTable n) rs (fresh-fits n))
+    rw (permitted-is n (history (fresh n) rs), history-fresh n least most rs) (shown-permitted (freshTable n) rs (fresh-fits n least))
 
 -- ---- 2. Planned
 
 -- The plan for a permitted history is accepted throughout and shows exactly that history.
 pub planned : (n : ℕ) → 1 ≤ n → n ≤ mostThreads → (h : List Pair) → T (permitted n h) → Makes n (plan n h) h
 planned n least most h t =
-    let a = plan-fresh n h (subst T (permitted-is n h) t) in
+    let a = plan-fresh n h least (subst T (permitted-is n h) t) in
     record {
       numbers = all-16 (freshTable n) (plan n h) most (a .all-accepted);
       accepted = subst T (sym (accepts-fresh n least most (plan n h))) (a .all-accepted);

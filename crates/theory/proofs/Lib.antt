@@ -23,6 +23,7 @@ pub mod Bytes
 pub mod Ways
 pub mod Soundness
 pub mod Stages
+pub mod SoundChanges
 pub mod SoundSteps
 pub mod MoveWrites
 -- the theorems

@@ -18,7 +18,7 @@ use Rattle.theory.proofs.Storages.{accepts-e, refused-stays, table-step
 use Rattle.theory.proofs.Ways.{accepted-e}
 
 pub fresh-table-sound : (n : ℕ) → 1 ≤ n → n ≤ mostThreads → SoundBytes (fresh n)
-fresh-table-sound n least most = record { is-sized = fresh-sized n least most; is-sound = fresh-sound n }
+fresh-table-sound n least most = record { is-sized = fresh-sized n least most; is-sound = fresh-sound n least }
 
 -- as the tests have it
 pub fresh-is-sound : (n : ℕ) → T (countFits n) → SoundBytes (fresh n)

@@ -8,10 +8,10 @@ use mathlib.Core.Path.{_≡_, sym, subst, _∙_}
 use lib.Dec.{T, leb, ltb, eqb, leb→le, le→leb, ltb→lt, lt→ltb, eqb→eq}
 use Rattle.definitions.specs.Bounds.{lastPhase, noTarget}
 use Rattle.definitions.specs.Phases.{rows, busyIn, holds, reading}
-use Rattle.definitions.specs.Sound.{sound, anyHolder, holderIn, opened, holderOpened, phaseRule, flagRule, busyRule, holderRule, mutexRule, targetRule, openRule, rule10, rule11, rule13, rule15}
+use Rattle.definitions.specs.Sound.{sound, anyHolder, holderIn, opened, holderOpened, phaseRule, flagRule, busyRule, holderRule, mutexRule, targetRule, openRule, rule10, rule11, rule13, rule15, backedOff, elsewhereRule}
 use Rattle.definitions.specs.Table.{Table}
 use Rattle.definitions.specs.Threads.{every, some, howMany, between, allOf, implies}
-use Rattle.theory.proofs.Quantifiers.{every-at, every-i, some-i, some-e, at-most-one, one-at-most}
+use Rattle.theory.proofs.Quantifiers.{every-at, every-i, some-i, some-e, not-every, at-most-one, one-at-most}
 use Rattle.theory.proofs.Tests.{and-l, and-r, and-i, or-e, or-l, or-r, decided, no-both, not-i, implies-e, implies-i, cond-yes, cond-no, eq-T, T-ne}
 
 -- of every thread of a table, and of some thread
@@ -34,6 +34,10 @@ Opened s j = T (opened (s .phase j))
 abbrev pub Reads : Table → ℕ → Type 0
 Reads s j = T (reading (s .phase j))
 
+-- it is in none of 3, 4 and 18
+abbrev pub Elsewhere : Table → ℕ → Type 0
+Elsewhere s j = T (not (backedOff (s .phase j)))
+
 -- the rules, each of a thread in its phases: "the holder is in a to b" is that some thread is
 pub record Sound (s : Table) : Type 0 where
   pub phases : All s (λ j. s .phase j ≤ lastPhase)
@@ -52,6 +56,7 @@ pub record Sound (s : Table) : Type 0 where
   pub all-forbidden : All s (λ i. In 13 14 s i → All s (λ j. s .forbidden j ≡ 1))
   pub no-reader : All s (λ i. In 13 14 s i → All s (λ j. Reads s j → ⊥))
   pub some-forbidden : All s (λ i. In 15 15 s i → Some s (λ j. s .forbidden j ≡ 1))
+  pub elsewhere : Some s (Elsewhere s)
 
 -- ---- rules of the form "the holder is in a to b", and tests of all threads
 
@@ -63,13 +68,13 @@ module _ (s : Table) (f : ℕ → Bool) where
   in-some : (i : ℕ) → i < s .threads → T (f (s .phase i)) → T someone
   in-some i l h = some-i (λ k. f (s .phase k)) (s .threads) i l h
 
-  some-in : T someone → Some s (λ i. T (f (s .phase i)))
+  pub some-in : T someone → Some s (λ i. T (f (s .phase i)))
   some-in t = some-e (λ k. f (s .phase k)) (s .threads) t
 
   in-none : All s (λ i. T (f (s .phase i)) → ⊥) → T (not someone)
   in-none h = not-i someone (λ t. let r = some-in t in h (r .0) (r .1) (r .2))
 
-  none-in : T (not someone) → All s (λ i. T (f (s .phase i)) → ⊥)
+  pub none-in : T (not someone) → All s (λ i. T (f (s .phase i)) → ⊥)
   none-in t i l h = no-both someone (in-some i l h) t
 
   rule-e : (q : Bool) → T (implies someone q) → All s (λ i. T (f (s .phase i)) → T q)
@@ -298,6 +303,16 @@ module _ (s : Table) where
   unfolding rule15
   rule15-i f = rule-i s (between 15 15) some-1 (λ i l h. some-column-i s (s .forbidden) 1 (f i l h))
 
+  elsewhere-e : T (elsewhereRule s) → Some s (Elsewhere s)
+  unfolding elsewhereRule
+  elsewhere-e t = not-every (λ i. backedOff (s .phase i)) (s .threads) t
+
+  elsewhere-i : Some s (Elsewhere s) → T (elsewhereRule s)
+  unfolding elsewhereRule
+  elsewhere-i r =
+      not-i (every (s .threads) (λ i. backedOff (s .phase i)))
+      (λ t. no-both (backedOff (s .phase (r .0))) (every-at (λ i. backedOff (s .phase i)) (s .threads) t (r .0) (r .1)) (r .2))
+
 -- ---- all of them
 
 -- a busy flag of the table of phases is 0 or 1, by trying the phases
@@ -323,6 +338,7 @@ sound-e s t =
     let i = take-rule _ _ (h .1) in
     let j = take-rule _ _ (i .1) in
     let k = take-rule _ _ (j .1) in
+    let m = take-rule _ _ (k .1) in
     record {
       phases = phases-e s (a .0);
       flags = flags-e s (b .0);
@@ -334,12 +350,13 @@ sound-e s t =
       no-target = target-e s (f .0) .1;
       open-free = open-e s (g .0) .0;
       open-held = open-e s (g .0) .1;
-      some-clear = λ x l m. rule10-e s (h .0) x l m .0;
-      guarded-10 = λ x l m. rule10-e s (h .0) x l m .1;
+      some-clear = λ x l y. rule10-e s (h .0) x l y .0;
+      guarded-10 = λ x l y. rule10-e s (h .0) x l y .1;
       guarded-11 = rule11-e s (i .0);
-      all-forbidden = λ x l m. rule13-e s (j .0) x l m .0;
-      no-reader = λ x l m. rule13-e s (j .0) x l m .1;
+      all-forbidden = λ x l y. rule13-e s (j .0) x l y .0;
+      no-reader = λ x l y. rule13-e s (j .0) x l y .1;
       some-forbidden = rule15-e s (k .0);
+      elsewhere = elsewhere-e s (m .0);
     }
 
 pub sound-i : (s : Table) → Sound s → T (sound s)
@@ -354,4 +371,5 @@ sound-i s z =
     (add-rule _ _ (open-i s (z .open-free) (z .open-held))
     (add-rule _ _ (rule10-i s (z .some-clear) (z .guarded-10))
     (add-rule _ _ (rule11-i s (z .guarded-11))
-    (add-rule _ _ (rule13-i s (z .all-forbidden) (z .no-reader)) (add-rule _ _ (rule15-i s (z .some-forbidden)) none-left))))))))))
+    (add-rule _ _ (rule13-i s (z .all-forbidden) (z .no-reader))
+    (add-rule _ _ (rule15-i s (z .some-forbidden)) (add-rule _ _ (elsewhere-i s (z .elsewhere)) none-left)))))))))))

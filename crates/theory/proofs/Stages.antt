@@ -1,19 +1,19 @@
 -- How a table is shown to be sound: its threads' own bytes fit (`Fits`), and either no thread is the holder (`nobody-sound`) or thread h alone is, in phase p, with what p's rule says (`held-sound`).
 use Prim.Native.Nat.{ℕ, _≤_, _<_}
 use native.Mathlib.Omega.{arith}
-use mathlib.Core.Bool.{Bool, not}
-use mathlib.Core.Logic.{⊎-elim}
+use mathlib.Core.Bool.{Bool, not, _||_}
+use mathlib.Core.Logic.{_⊎_, inl, inr, ⊎-elim}
 use mathlib.Core.Path.{_≡_, refl, sym, subst, ap, _∙_}
 use lib.Dec.{T, leb, eqb, leb→le, le→leb, eqb→eq}
 use Rattle.definitions.specs.Bounds.{mostThreads, lastPhase, noTarget}
 use Rattle.definitions.specs.Phases.{rows, busyIn, holds}
-use Rattle.definitions.specs.Sound.{sound, opened}
+use Rattle.definitions.specs.Sound.{sound, opened, backedOff}
 use Rattle.definitions.specs.Table.{Table, countFits, freshTable, tableOf, fresh}
 use Rattle.definitions.specs.Threads.{every, between, implies}
 use Rattle.theory.proofs.Bytes.{fresh-table}
 use Rattle.theory.proofs.Quantifiers.{every-at}
-use Rattle.theory.proofs.Soundness.{All, Some, In, Holds, Reads, sound-i}
-use Rattle.theory.proofs.Tests.{and-l, and-r, and-i, or-e, no-both, not-i, implies-e}
+use Rattle.theory.proofs.Soundness.{All, Some, In, Holds, Reads, Elsewhere, sound-i}
+use Rattle.theory.proofs.Tests.{and-l, and-r, and-i, or-e, decided, no-both, not-i, implies-e}
 
 -- ---- phases from a to b
 
@@ -48,6 +48,19 @@ pub opened-apart : (a b p : ℕ) → b < 16 → T (between a b p) → T (opened 
 opened-apart a b p l t u =
     let x = between-e a b p t in ⊎-elim (λ v. let e = eqb→eq p 16 v in omega arith) (λ v. let e = eqb→eq p 18 v in omega arith) (or-e (eqb p 16) (eqb p 18) u)
 
+-- 3, 4 and 18 are neither of a to b where these are from 5 to 17
+pub backed-apart : (a b p : ℕ) → 5 ≤ a → b ≤ 17 → T (between a b p) → T (backedOff p) → ⊥
+backed-apart a b p k l t u =
+    let x = between-e a b p t in
+    ⊎-elim
+    (⊎-elim (λ v. let e = eqb→eq p 3 v in omega arith) (λ v. let e = eqb→eq p 4 v in omega arith))
+    (λ v. let e = eqb→eq p 18 v in omega arith)
+    (map-or (or-e (eqb p 3 || eqb p 4) (eqb p 18) u))
+  where
+    map-or : T (eqb p 3 || eqb p 4) ⊎ T (eqb p 18) → (T (eqb p 3) ⊎ T (eqb p 4)) ⊎ T (eqb p 18)
+    map-or (inl v) = inl (or-e (eqb p 3) (eqb p 4) v)
+    map-or (inr v) = inr v
+
 -- ---- what is to be shown
 
 -- each thread's own three bytes
@@ -72,6 +85,7 @@ pub record Stage (s : Table) (p : ℕ) : Type 0 where
   pub in-13 : T (between 13 14 p) → All s (λ j. s .forbidden j ≡ 1) × All s (λ j. Reads s j → ⊥)
   pub in-15 : T (between 15 15 p) → Some s (λ j. s .forbidden j ≡ 1)
   pub in-opened : T (opened p) → All s (λ j. s .forbidden j ≡ 0)
+  pub in-backed-off : T (backedOff p) → Some s (Elsewhere s)
 
 module _ (s : Table) (h p : ℕ) (holder : Holder s h p) where
   -- a thread in phases that only the holder can be in is the holder
@@ -106,10 +120,12 @@ module _ (s : Table) (h p : ℕ) (holder : Holder s h p) where
         all-forbidden = λ i l m. stage .in-13 (at 13 14 (omega arith) (omega arith) i l m) .0;
         no-reader = λ i l m. stage .in-13 (at 13 14 (omega arith) (omega arith) i l m) .1;
         some-forbidden = λ i l m. stage .in-15 (at 15 15 (omega arith) (omega arith) i l m);
+        elsewhere = ⊎-elim (stage .in-backed-off) (λ n. (h, holder .is-thread, subst (λ (x : ℕ). T (not (backedOff x))) (sym (holder .phase-is)) n)) (decided (backedOff p));
       }
 
-pub nobody-sound : (s : Table) → Fits s → All s (λ j. Holds s j → ⊥) → s .mutex ≡ 0 → s .target ≡ noTarget → All s (λ j. s .forbidden j ≡ 0) → T (sound s)
-nobody-sound s fits none m g f =
+pub nobody-sound : (s : Table) → Fits s → All s (λ j. Holds s j → ⊥) → s .mutex ≡ 0 → s .target ≡ noTarget → All s (λ j. s .forbidden j ≡ 0) → Some s (Elsewhere s)
+    → T (sound s)
+nobody-sound s fits none m g f r =
     let no : (a b : ℕ) → 10 ≤ a → b ≤ 16 → All s (λ j. In a b s j → ⊥) = λ a b low high j l t. none j l (range-holds a b low high (s .phase j) t) in
     sound-i s
     record {
@@ -129,6 +145,7 @@ nobody-sound s fits none m g f =
       all-forbidden = λ i l t. absurd (no 13 14 (omega arith) (omega arith) i l t);
       no-reader = λ i l t. absurd (no 13 14 (omega arith) (omega arith) i l t);
       some-forbidden = λ i l t. absurd (no 15 15 (omega arith) (omega arith) i l t);
+      elsewhere = r;
     }
 
 -- ---- each stage
@@ -136,7 +153,7 @@ nobody-sound s fits none m g f =
 module _ (s : Table) where
   pub stage-10 : s .target ≡ noTarget → Some s (λ j. s .forbidden j ≡ 0) → All s (λ j. s .forbidden j ≡ 1 → Reads s j → ⊥) → Stage s 10
   stage-10 g f r =
-      record { untargeted = λ t. g; in-10 = λ t. (f, r); in-11 = λ t. absurd t; in-13 = λ t. absurd t; in-15 = λ t. absurd t; in-opened = λ t. absurd t }
+      record { untargeted = λ t. g; in-10 = λ t. (f, r); in-11 = λ t. absurd t; in-13 = λ t. absurd t; in-15 = λ t. absurd t; in-opened = λ t. absurd t; in-backed-off = λ t. absurd t }
 
   pub stage-11 : (p : ℕ) → T (between 11 12 p) → s .target < s .threads → s .forbidden (s .target) ≡ 1
       → All s (λ j. (j ≡ s .target → ⊥) → s .forbidden j ≡ 1 → Reads s j → ⊥) → Stage s p
@@ -148,6 +165,7 @@ module _ (s : Table) where
         in-13 = λ t. absurd (apart 11 12 13 14 p (omega arith) m t);
         in-15 = λ t. absurd (apart 11 12 15 15 p (omega arith) m t);
         in-opened = λ t. absurd (opened-apart 11 12 p (omega arith) m t);
+        in-backed-off = λ t. absurd (backed-apart 11 12 p (omega arith) (omega arith) m t);
       }
 
   pub stage-13 : (p : ℕ) → T (between 13 14 p) → s .target ≡ noTarget → All s (λ j. s .forbidden j ≡ 1) → All s (λ j. Reads s j → ⊥) → Stage s p
@@ -159,14 +177,15 @@ module _ (s : Table) where
         in-13 = λ t. (f, r);
         in-15 = λ t. absurd (apart 13 14 15 15 p (omega arith) m t);
         in-opened = λ t. absurd (opened-apart 13 14 p (omega arith) m t);
+        in-backed-off = λ t. absurd (backed-apart 13 14 p (omega arith) (omega arith) m t);
       }
 
   pub stage-15 : s .target ≡ noTarget → Some s (λ j. s .forbidden j ≡ 1) → Stage s 15
   stage-15 g f =
-      record { untargeted = λ t. g; in-10 = λ t. absurd t; in-11 = λ t. absurd t; in-13 = λ t. absurd t; in-15 = λ t. f; in-opened = λ t. absurd t }
+      record { untargeted = λ t. g; in-10 = λ t. absurd t; in-11 = λ t. absurd t; in-13 = λ t. absurd t; in-15 = λ t. f; in-opened = λ t. absurd t; in-backed-off = λ t. absurd t }
 
-  pub stage-opened : (p : ℕ) → T (opened p) → s .target ≡ noTarget → All s (λ j. s .forbidden j ≡ 0) → Stage s p
-  stage-opened p o g f =
+  pub stage-opened : (p : ℕ) → T (opened p) → s .target ≡ noTarget → All s (λ j. s .forbidden j ≡ 0) → (T (backedOff p) → Some s (Elsewhere s)) → Stage s p
+  stage-opened p o g f r =
       record {
         untargeted = λ t. g;
         in-10 = λ t. absurd (opened-apart 10 10 p (omega arith) t o);
@@ -174,15 +193,16 @@ module _ (s : Table) where
         in-13 = λ t. absurd (opened-apart 13 14 p (omega arith) t o);
         in-15 = λ t. absurd (opened-apart 15 15 p (omega arith) t o);
         in-opened = λ t. f;
+        in-backed-off = r;
       }
 
 -- ---- the fresh table
 
-pub fresh-fits : (n : ℕ) → T (sound (freshTable n))
+pub fresh-fits : (n : ℕ) → 1 ≤ n → T (sound (freshTable n))
 unfolding rows
-fresh-fits n =
+fresh-fits n least =
     nobody-sound (freshTable n) record { phases = λ j l. omega arith; flags = λ j l. omega arith; busies = λ j l. refl }
-    (λ j l t. t) refl refl (λ j l. refl)
+    (λ j l t. t) refl refl (λ j l. refl) (0, omega arith, tt)
 
-pub fresh-sound : (n : ℕ) → T (sound (tableOf (fresh n)))
-fresh-sound n = subst (λ (s : Table). T (sound s)) (sym (fresh-table n)) (fresh-fits n)
+pub fresh-sound : (n : ℕ) → 1 ≤ n → T (sound (tableOf (fresh n)))
+fresh-sound n least = subst (λ (s : Table). T (sound s)) (sym (fresh-table n)) (fresh-fits n least)

@@ -92,7 +92,7 @@ module _ (n : ℕ) (least : 1 ≤ n) (most : n ≤ mostThreads) where
       lock-watched rs .1
       ∙ ap (recordOf n)
       (ap (placesAfter atStart) (history-fresh n least most rs)
-      ∙ (shown-places (freshTable n) rs (fresh-fits n) ∙ ap placesOf (sym (after-fresh n least most rs))))
+      ∙ (shown-places (freshTable n) rs (fresh-fits n least) ∙ ap placesOf (sym (after-fresh n least most rs))))
 
   -- ---- 3. "Is anybody inside?"
 
