@@ -18,7 +18,7 @@ use Rattle.theory.proofs.Quantifiers.{none-i}
 use Rattle.theory.proofs.Stages.{fresh-fits}
 use Rattle.theory.proofs.Tests.{and-l, and-r, T-false, eq-T}
 use Rattle.theory.proofs.Writes.{same-table}
-use Rattle.orders.proofs.Chains.{Leads, stays, both}
+use Rattle.theory.proofs.Chains.{Leads, stays, both}
 use Rattle.orders.proofs.Flags.{enters-exclusive, leaves-exclusive}
 use Rattle.orders.proofs.PairTests.{Permits, permits-e}
 use Rattle.orders.proofs.RestTables.{restBusy, resting, PlanLeads, shared-call, exclusive-call, enters-shared, leaves-shared, returns-shared, returns-exclusive}

@@ -31,7 +31,7 @@ use Rattle.runs.proofs.StepsAndEvents.{events-printed}
 use Rattle.theory.proofs.Lengths.{bytes-length}
 use Rattle.theory.proofs.Stages.{fresh-fits}
 use Rattle.theory.proofs.Tests.{and-l, and-r, cond-either}
-use Rattle.orders.proofs.Chains.{history-fresh, accepts-fresh, all-16}
+use Rattle.theory.proofs.Chains.{history-fresh, accepts-fresh, all-16}
 use Rattle.orders.proofs.CheckReply.{passes-e, passes-count, passes-i, check-accepted, check-refused}
 use Rattle.orders.proofs.EventPlans.{plan-fresh}
 use Rattle.orders.proofs.HistoryBytes.{pairs-read, bytes-long, all-bytes}

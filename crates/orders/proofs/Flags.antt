@@ -21,9 +21,9 @@ use Rattle.theory.proofs.Quantifiers.{below-suc, every-at, every-i, some-i, non
 use Rattle.theory.proofs.Soundness.{sound-e}
 use Rattle.theory.proofs.Tests.{T-true, T-false, false-T, or-e, or-l, or-r, same-test, not-i, cond-yes, cond-no, eq-T, ne-T, same?}
 use Rattle.theory.proofs.Writes.{update-same, update-other, same-table}
-use Rattle.orders.proofs.Chains.{Leads, stays, both}
-use Rattle.orders.proofs.Columns.{along, same-column, kept, through, update-twice}
-use Rattle.orders.proofs.RestTables.{restBusy, resting, arrives, makes, makes-go, PlanLeads}
+use Rattle.theory.proofs.Chains.{Leads, stays, both, arrives, makes, makes-go}
+use Rattle.theory.proofs.Columns.{along, same-column, kept, through, update-twice}
+use Rattle.orders.proofs.RestTables.{restBusy, resting, PlanLeads}
 
 -- ---- tests
 

@@ -1,7 +1,5 @@
 -- EveryOrder holds the theorem of demand 3; the files before it hold what its proofs use.
-pub mod Columns
 pub mod PairTests
-pub mod Chains
 pub mod Safety
 pub mod RestTables
 pub mod Flags

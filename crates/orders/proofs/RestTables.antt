@@ -1,26 +1,25 @@
 -- Resting tables: for each thread's place in its round one phase, and the flags that go with them. The plan leads from one resting table to the next;
--- here are the requests that it makes, and the events 1 to 5 and 8.
+-- here are the events 1 to 5 and 8.
 use Prim.Native.Nat.{ℕ, _≤_, _<_}
 use native.Mathlib.Omega.{arith}
 use mathlib.Core.Bool.{Bool, false, cond, not, _&&_}
 use mathlib.Core.List.{List, [], _∷_}
 use mathlib.Core.Path.{_≡_, refl, sym, subst, ap, _∙_}
 use lib.Dec.{T, ltb, eqb}
-use Rattle.definitions.specs.Bounds.{lastMove, noTarget}
+use Rattle.definitions.specs.Bounds.{noTarget}
 use Rattle.definitions.specs.Codes.{go, callShared, callExclusive}
-use Rattle.definitions.specs.Moves.{ask, Effect, quietly, showing, goEffect, effect, targetFits, mustWait}
+use Rattle.definitions.specs.Moves.{ask, quietly, showing, goEffect, effect}
 use Rattle.definitions.specs.Phases.{rows, hasMove}
 use Rattle.definitions.specs.PlainLock.{Pair, Places, placeAfter, advanced, anyInExclusive}
 use Rattle.definitions.specs.Plan.{planOf}
 use Rattle.definitions.specs.Sound.{sound}
 use Rattle.definitions.specs.Table.{Table, phase≔, busy≔, update, applied}
 use Rattle.definitions.specs.Threads.{some, among}
-use Rattle.definitions.specs.declared.Request.{Request}
 use Rattle.orders.specs.Rounds.{restPhase}
 use Rattle.orders.specs.Histories.{pairOf}
 use Rattle.theory.proofs.Writes.{update-same, same-table}
-use Rattle.orders.proofs.Chains.{pairSeen, Leads, one, both}
-use Rattle.orders.proofs.Columns.{along, kept, through, update-kept, update-twice}
+use Rattle.theory.proofs.Chains.{Leads, both, arrives, makes, makes-go}
+use Rattle.theory.proofs.Columns.{along, kept, through, update-kept, update-twice}
 
 -- busy is 1 in shared alone
 abbrev pub restBusy : ℕ → ℕ
@@ -37,27 +36,6 @@ resting n p =
       busy = along restBusy p;
       forbidden = λ t. cond (anyInExclusive n p && ltb t n) 1 0;
     }
-
--- ---- one request
-
-pub arrives : {s t u : Table} {rs : List Request} {h : List Pair} → Leads s rs h t → t ≡ u → Leads s rs h u
-arrives {s} {t} {u} {rs} {h} a e = subst (λ (x : Table). Leads s rs h x) e a
-
-module _ (s : Table) (i : ℕ) (g : T (sound s)) (fits : i < s .threads) where
-  -- a request that passes its tests, by its effect
-  pub makes : (mv t : ℕ) (e : Effect) → mv ≤ lastMove → T (targetFits (s .threads) mv t) → T (hasMove mv (s .phase i)) → T (not (mustWait (s .phase i) (s .mutex) mv)) → effect s (ask i mv t) ≡ e
-      → Leads s (ask i mv t ∷ []) (pairSeen i (e .shows)) (applied s (e .writes))
-  makes mv t e a b c d to =
-      subst (λ (x : Effect). Leads s (ask i mv t ∷ []) (pairSeen i (x .shows)) (applied s (x .writes))) to
-      (one s (ask i mv t) (record { is-sound = g; thread-fits = fits; move-fits = a; target-fits = b; has-move = c; may-go = d }))
-
-  -- go in phase k
-  pub makes-go : (k : ℕ) (e : Effect) → s .phase i ≡ k → T (hasMove go k) → T (not (mustWait k (s .mutex) go)) → goEffect s i ≡ e
-      → Leads s (ask i go 0 ∷ []) (pairSeen i (e .shows)) (applied s (e .writes))
-  unfolding effect
-  makes-go k e at has free to =
-      makes go 0 e (omega arith) tt (subst (λ (x : ℕ). T (hasMove go x)) (sym at) has)
-      (subst (λ (x : ℕ). T (not (mustWait x (s .mutex) go))) (sym at) free) to
 
 -- ---- arriving at a resting table
 

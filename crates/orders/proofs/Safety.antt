@@ -30,8 +30,8 @@ use Rattle.theory.proofs.Ways.{call-shared, raise-busy, find-open, find-forbidd
 use Rattle.theory.proofs.Ways.{call-exclusive, take-mutex, set-flag, find-busy, last-flag, next-flag, relents, give-up, enter-exclusive, leave-exclusive}
 use Rattle.theory.proofs.Ways.{set-again, clear-flag, clear-last, release-mutex, return-exclusive}
 use Rattle.theory.proofs.Writes.{applied-keeps}
-use Rattle.orders.proofs.Chains.{pairSeen, own-reply, own-step}
-use Rattle.orders.proofs.Columns.{along, kept, through}
+use Rattle.theory.proofs.Chains.{pairSeen, own-reply, own-step}
+use Rattle.theory.proofs.Columns.{along, kept, through}
 use Rattle.orders.proofs.PairTests.{permits-i}
 
 -- ---- what a way does to the places

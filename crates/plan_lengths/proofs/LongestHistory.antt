@@ -13,7 +13,7 @@ use Rattle.definitions.specs.Threads.{some, gather, between}
 use Rattle.plan_lengths.specs.Rounds.{exclusiveRound, wholeRound, unfinished, longest}
 use Rattle.orders.specs.Histories.{pairOf}
 use Rattle.history.proofs.PlainLaws.{pairFits, permittedFrom, permitted-is}
-use Rattle.orders.proofs.Columns.{update-kept, update-twice}
+use Rattle.theory.proofs.Columns.{update-kept, update-twice}
 use Rattle.orders.proofs.PairTests.{permits-i}
 use Rattle.theory.proofs.Lengths.{gather-length}
 use Rattle.theory.proofs.Quantifiers.{none-i}

@@ -22,7 +22,7 @@ use Rattle.definitions.specs.Texts.{Line}
 use Rattle.definitions.specs.declared.Request.{Request}
 use Rattle.theory.specs.Outputs.{Delivered}
 use Rattle.round_trips.specs.Exchange.{Writable}
-use Rattle.orders.proofs.Chains.{accepts-fresh, accepted-numbers, all-numbers}
+use Rattle.theory.proofs.Chains.{accepts-fresh, accepted-numbers, all-numbers}
 use Rattle.orders.proofs.CheckReply.{passes-i}
 use Rattle.orders.proofs.EveryOrder.{checked, planned, plan-run}
 use Rattle.runs.proofs.StepsAndEvents.{pair-line}

@@ -17,6 +17,7 @@ pub mod TestLists
 pub mod RequestNumbers
 pub mod Outputs
 pub mod Writes
+pub mod Columns
 pub mod Sums
 pub mod Places
 pub mod Bytes
@@ -26,8 +27,9 @@ pub mod Stages
 pub mod SoundChanges
 pub mod SoundSteps
 pub mod MoveWrites
--- the theorems
 pub mod Storages
+pub mod Chains
+-- the theorems
 pub mod SoundKept
 pub mod LineTurns
 pub mod Figure1

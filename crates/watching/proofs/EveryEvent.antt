@@ -24,7 +24,7 @@ use Rattle.orders.specs.Histories.{historyBytes, AllBytes}
 use Rattle.orders.specs.Rounds.{placeOf, placesOf}
 use Rattle.watching.specs.Verdicts.{verdictOn, verdictsOn, acceptedOf, someInside}
 use Rattle.history.proofs.PlainLaws.{permittedFrom, permitted-is}
-use Rattle.orders.proofs.Chains.{history-fresh, after-fresh}
+use Rattle.theory.proofs.Chains.{history-fresh, after-fresh}
 use Rattle.orders.proofs.EveryOrder.{safe}
 use Rattle.orders.proofs.HistoryBytes.{all-bytes}
 use Rattle.orders.proofs.Safety.{shown-places}

@@ -13,7 +13,7 @@ use Rattle.definitions.specs.Threads.{some, among, between}
 use Rattle.definitions.specs.Watch.{roundPlaces}
 use Rattle.orders.specs.Histories.{pairOf}
 use Rattle.history.proofs.PlainLaws.{pairFits, permittedFrom, permitted-append, places-append}
-use Rattle.orders.proofs.Columns.{same-column, update-kept, update-twice}
+use Rattle.theory.proofs.Columns.{same-column, update-kept, update-twice}
 use Rattle.orders.proofs.PairTests.{permits-i}
 use Rattle.theory.proofs.Cases.{or-at, none-of}
 use Rattle.theory.proofs.Quantifiers.{none-i, howMany-pos, at-most-one}

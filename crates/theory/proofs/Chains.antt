@@ -1,27 +1,29 @@
 -- Lists of requests to the record `Table` that are accepted throughout (`Leads`), one behind the other; lists from the fresh table's bytes as lists from its record;
 -- and the numbers of accepted requests.
-use Prim.Native.Nat.{ℕ, _≤_, _^_}
+use Prim.Native.Nat.{ℕ, _≤_, _<_, _^_}
 use native.Mathlib.Omega.{arith}
-use mathlib.Core.Bool.{true}
+use mathlib.Core.Bool.{true, not}
 use mathlib.Core.List.{List, [], _∷_, _++_, append-assoc, append-nil}
 use mathlib.Core.Path.{_≡_, refl, sym, subst, ap, _∙_}
 use lib.Dec.{T}
 use Rattle.definitions.specs.Answers.{accepted, Seen}
-use Rattle.definitions.specs.Bounds.{mostThreads}
+use Rattle.definitions.specs.Bounds.{mostThreads, lastMove}
 use Rattle.definitions.specs.Chains.{pairFor, historyIn, afterIn, acceptsAllIn, history, tableAfter, acceptsAll, AllFit16}
-use Rattle.definitions.specs.Moves.{effect, stepReply, accepts, replyIn, stepIn, acceptsIn}
+use Rattle.definitions.specs.Codes.{go}
+use Rattle.definitions.specs.Moves.{ask, Effect, goEffect, effect, targetFits, mustWait, stepReply, accepts, replyIn, stepIn, acceptsIn}
+use Rattle.definitions.specs.Phases.{hasMove}
 use Rattle.definitions.specs.PlainLock.{Pair}
 use Rattle.definitions.specs.Sound.{sound}
 use Rattle.definitions.specs.Table.{Table, freshTable, tableOf, applied, itself, byteTable, fresh}
 use Rattle.definitions.specs.declared.Request.{Request}
 use Rattle.theory.proofs.Bytes.{byte-keeps, fresh-table, fresh-sized}
 use Rattle.theory.proofs.Replies.{accepted-is, all-passed}
 use Rattle.theory.proofs.RequestNumbers.{NumbersFit, AllNumbersFit, target-below}
 use Rattle.theory.proofs.SoundSteps.{kept-sound}
 use Rattle.theory.proofs.Storages.{reply-same, accepts-e, accepts-i, accepted-stores, history-same, after-same, accepts-all-same}
 use Rattle.theory.proofs.Tests.{and-l, and-r, and-i}
 use Rattle.theory.proofs.Ways.{Accepted, accepted-e, accepted-i}
 use Rattle.theory.proofs.Writes.{applied-keeps}
 
 -- ---- from the fresh table
 
@@ -109,6 +111,26 @@ both {s} {t} {u} {rs} {qs} {h} {k} a b =
       ends = after-append s rs qs ∙ (ap (λ (x : Table). afterIn itself x qs) (a .ends) ∙ b .ends);
       sound-after = b .sound-after;
     }
+
+-- the same by another word for the table that is left
+pub arrives : {s t u : Table} {rs : List Request} {h : List Pair} → Leads s rs h t → t ≡ u → Leads s rs h u
+arrives {s} {t} {u} {rs} {h} a e = subst (λ (x : Table). Leads s rs h x) e a
+
+module _ (s : Table) (i : ℕ) (g : T (sound s)) (fits : i < s .threads) where
+  -- a request that passes its tests, by its effect
+  pub makes : (mv t : ℕ) (e : Effect) → mv ≤ lastMove → T (targetFits (s .threads) mv t) → T (hasMove mv (s .phase i)) → T (not (mustWait (s .phase i) (s .mutex) mv)) → effect s (ask i mv t) ≡ e
+      → Leads s (ask i mv t ∷ []) (pairSeen i (e .shows)) (applied s (e .writes))
+  makes mv t e a b c d to =
+      subst (λ (x : Effect). Leads s (ask i mv t ∷ []) (pairSeen i (x .shows)) (applied s (x .writes))) to
+      (one s (ask i mv t) (record { is-sound = g; thread-fits = fits; move-fits = a; target-fits = b; has-move = c; may-go = d }))
+
+  -- go in phase k
+  pub makes-go : (k : ℕ) (e : Effect) → s .phase i ≡ k → T (hasMove go k) → T (not (mustWait k (s .mutex) go)) → goEffect s i ≡ e
+      → Leads s (ask i go 0 ∷ []) (pairSeen i (e .shows)) (applied s (e .writes))
+  unfolding effect
+  makes-go k e at has free to =
+      makes go 0 e (omega arith) tt (subst (λ (x : ℕ). T (hasMove go x)) (sym at) has)
+      (subst (λ (x : ℕ). T (not (mustWait x (s .mutex) go))) (sym at) free) to
 
 -- ---- the numbers of accepted requests
 
