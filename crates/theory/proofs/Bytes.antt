@@ -1,12 +1,12 @@
--- The byte table is a storage that keeps what is written (`byte-keeps`); its size as numbers; and the fresh table's bytes.
-use Prim.Native.Nat.{ℕ, suc, _+_, _*_, _≤_, _<_}
+-- The byte table is a storage that keeps what is written (`byte-keeps`); its size as numbers; its bytes, which the table determines (`same-bytes`); and the fresh table's bytes.
+use Prim.Native.Nat.{ℕ, zero, suc, _+_, _*_, _≤_, _<_}
 use native.Mathlib.Omega.{arith}
 use mathlib.Core.List.{List, [], _∷_}
 use mathlib.Core.Logic.{_⊎_, inl, inr}
 use mathlib.Core.Path.{_≡_, refl, sym, subst, ap, _∙_, fun-ext}
 use lib.Dec.{T, leb, eqb, leb→le, le→leb, eqb→eq}
-use lib.ListN.{length, getD, set, length-set, length-replicate}
-use lib.Seq.{getD-set-same, getD-set-other}
+use lib.ListN.{length, getD, set, length-set, length-replicate, List·getD-eq-default}
+use lib.Seq.{getD-set-same, getD-set-other, ext-getD}
 use Rattle.definitions.specs.Bounds.{mostThreads}
 use Rattle.definitions.specs.Table.{Table, countFits, freshTable, Write, mutex≔, target≔, phase≔, busy≔, forbidden≔, update, appliedOne}
 use Rattle.definitions.specs.Table.{applied, size, phaseAt, busyAt, forbiddenAt, tableOf, sized, storedOne, stored, byteTable, fresh}
@@ -135,6 +135,51 @@ byte-keeps =
           };
       writes = λ bytes ws z f. stored-same bytes ws (sized-e bytes z .long) f;
     }
+
+-- ---- the bytes of a table
+
+-- the places of a list of bytes, three at a time
+data Third (k : ℕ) : Type 0 where
+  first : (q : ℕ) → k ≡ 3 * q → Third k
+  second : (q : ℕ) → k ≡ 1 + 3 * q → Third k
+  third : (q : ℕ) → k ≡ 2 + 3 * q → Third k
+
+third-of : (k : ℕ) → Third k
+third-of zero = first 0 refl
+third-of (suc zero) = second 0 refl
+third-of (suc (suc zero)) = third 0 refl
+third-of (suc (suc (suc k))) = by (third-of k)
+  where
+    by : Third k → Third (suc (suc (suc k)))
+    by (first q e) = first (suc q) (omega arith)
+    by (second q e) = second (suc q) (omega arith)
+    by (third q e) = third (suc q) (omega arith)
+
+-- bytes of the right size are determined by the table that is read off them
+pub same-bytes : (a b : List ℕ) → T (sized a) → T (sized b) → tableOf a ≡ tableOf b → a ≡ b
+same-bytes a b fits fits′ e =
+    ext-getD 0 a b (sized-e a fits .long ∙ (ap (λ (t : Table). size (t .threads)) e ∙ sym (sized-e b fits′ .long))) (λ k l. by k (third-of k))
+  where
+    at : (k j : ℕ) → k ≡ j → getD a j 0 ≡ getD b j 0 → getD a k 0 ≡ getD b k 0
+    at k j q same = ap (λ (x : ℕ). getD a x 0) q ∙ (same ∙ sym (ap (λ (x : ℕ). getD b x 0) q))
+
+    by : (k : ℕ) → Third k → getD a k 0 ≡ getD b k 0
+    by k (first zero q) = at k 0 q (ap (λ (t : Table). t .threads) e)
+    by k (first (suc i) q) = at k (phaseAt i) (omega arith) (ap (λ (t : Table). t .phase i) e)
+    by k (second zero q) = at k 1 q (ap (λ (t : Table). t .mutex) e)
+    by k (second (suc i) q) = at k (busyAt i) (omega arith) (ap (λ (t : Table). t .busy i) e)
+    by k (third zero q) = at k 2 q (ap (λ (t : Table). t .target) e)
+    by k (third (suc i) q) = at k (forbiddenAt i) (omega arith) (ap (λ (t : Table). t .forbidden i) e)
+
+-- and nothing stands beyond its threads
+pub blank-beyond : (bytes : List ℕ) → T (sized bytes) → (j : ℕ) → tableOf bytes .threads ≤ j
+    → (tableOf bytes .phase j ≡ 0) × (tableOf bytes .busy j ≡ 0) × (tableOf bytes .forbidden j ≡ 0)
+blank-beyond bytes fits j l =
+    let long = sized-e bytes fits .long in (
+      List·getD-eq-default bytes 0 (omega arith),
+      List·getD-eq-default bytes 0 (omega arith),
+      List·getD-eq-default bytes 0 (omega arith),
+    )
 
 -- ---- the fresh table
 

@@ -89,7 +89,7 @@ module _ (s : Table) (z : Sound s) (i : ℕ) (l : i < s .threads) where
       (decided (backedOff v))
 
   -- i's busy follows its phase
-  busy-at : (p : ℕ) → s .phase i ≡ p → s .busy i ≡ busyIn p
+  pub busy-at : (p : ℕ) → s .phase i ≡ p → s .busy i ≡ busyIn p
   busy-at p e = z .busies i l ∙ ap busyIn e
 
   fits-after : (v b m g : ℕ) (φ β F : ℕ → ℕ) → v ≤ lastPhase → b ≡ busyIn v → Column (s .phase) i v φ → Column (s .busy) i b β → All s (λ j. F j ≤ 1)

@@ -143,7 +143,7 @@ module _ (s : Table) (z : Sound s) (i : ℕ) (l : i < s .threads) where
       (stage-11 (applied s (phase≔ i 11 ∷ forbidden≔ t 1 ∷ target≔ t ∷ [])) 11 tt f (w .here)
       (λ j k h o u. z .guarded-10 i l (in-phase s z i l 10 e tt 10 10 tt) j k (sym (w .others j h) ∙ o) (read-before s z i l 11 tt j u)))
 
-  sets-again : (t : ℕ) → s .phase i ≡ 15 → t < s .threads → T (sound (applied s (forbidden≔ t 1 ∷ [])))
+  pub sets-again : (t : ℕ) → s .phase i ≡ 15 → t < s .threads → T (sound (applied s (forbidden≔ t 1 ∷ [])))
   unfolding rows
   sets-again t e f =
       holds-on s z i l 15 e tt 15 (s .target) (s .phase) (update (s .forbidden) t 1) (keep (s .phase) i 15 e) tt refl (flags-after s z i l t 1 (omega arith))
@@ -162,7 +162,7 @@ module _ (s : Table) (z : Sound s) (i : ℕ) (l : i < s .threads) where
           ∙ ⊎-elim (λ u. absurd (h (eqb→eq j t u))) (λ u. eqb→eq (s .forbidden j) 0 u)
           (or-e (eqb j t) (eqb (s .forbidden j) 0) (every-at (λ x. eqb x t || eqb (s .forbidden x) 0) (s .threads) a j k))
 
-  clears : (t : ℕ) → s .phase i ≡ 15 → t < s .threads → T (not (noneForbiddenBut t s)) → T (sound (applied s (forbidden≔ t 0 ∷ [])))
+  pub clears : (t : ℕ) → s .phase i ≡ 15 → t < s .threads → T (not (noneForbiddenBut t s)) → T (sound (applied s (forbidden≔ t 0 ∷ [])))
   unfolding rows
   clears t e f a =
       let r = not-every (λ x. eqb x t || eqb (s .forbidden x) 0) (s .threads) a in

@@ -14,7 +14,7 @@ sum-same zero f g h = refl
 sum-same (suc n) f g h = let rest = sum-same n f g (λ j l. h j (omega arith)) in let here = h n (omega arith) in omega arith
 
 -- g is f but at i
-sum-but : (n : ℕ) (f g : ℕ → ℕ) (i : ℕ) → i < n → ((j : ℕ) → (j ≡ i → ⊥) → g j ≡ f j) → sumOf n g + f i ≡ sumOf n f + g i
+pub sum-but : (n : ℕ) (f g : ℕ → ℕ) (i : ℕ) → i < n → ((j : ℕ) → (j ≡ i → ⊥) → g j ≡ f j) → sumOf n g + f i ≡ sumOf n f + g i
 sum-but zero f g i l others = absurd (not-suc-le-zero l)
 sum-but (suc n) f g i l others =
     ⊎-elim

@@ -1,0 +1,2 @@
+-- What the theorem of completeness speaks of besides the definitions of the scope paper.
+pub mod Reached

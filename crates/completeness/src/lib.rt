@@ -1,0 +1,1 @@
+// The theorem of completeness, in proofs/Completeness.antt: this crate has no code.
