@@ -8,10 +8,10 @@ use mathlib.Core.List.{List, [], _∷_}
 use mathlib.Core.Logic.{_⊎_, inl, inr, ⊎-elim}
 use mathlib.Core.Path.{_≡_, refl, sym, subst, ap, _∙_}
 use lib.Dec.{T, leb, eqb, leb→le, lt→ltb, eqb→eq}
-use Rattle.definitions.specs.Bounds.{lastPhase, noTarget}
+use Rattle.definitions.specs.Bounds.{lastPhase, lastMove, noTarget}
 use Rattle.definitions.specs.Codes.{go, setMove, clearMove, relent, hold}
-use Rattle.definitions.specs.Moves.{quietly, showing, allForbidden, noneForbiddenBut, goEffect, setEffect, clearEffect, effect}
-use Rattle.definitions.specs.Phases.{rows, busyIn, holds, reading}
+use Rattle.definitions.specs.Moves.{ask, Effect, quietly, showing, allForbidden, noneForbiddenBut, goEffect, setEffect, clearEffect, effect, targetFits, mustWait}
+use Rattle.definitions.specs.Phases.{rows, busyIn, holds, reading, hasMove}
 use Rattle.definitions.specs.Sound.{backedOff}
 use Rattle.definitions.specs.Table.{Table, mutex≔, target≔, phase≔, forbidden≔, update, applied}
 use Rattle.definitions.specs.Threads.{every, listOf, among, between, implies}
@@ -21,11 +21,11 @@ use Rattle.theory.proofs.Quantifiers.{every-at, every-i, howMany-most}
 use Rattle.theory.proofs.SoundChanges.{Column, put, keep, bit-1, after, other-elsewhere, phase-moves, flags-after, read-before, in-phase, holder-alone, holder-locked, idle-target, holds-on, idle, takes-mutex, lets-go}
 use Rattle.theory.proofs.SoundSteps.{sets-again, clears}
 use Rattle.theory.proofs.Soundness.{All, Holds, Reads, Sound}
-use Rattle.theory.proofs.Stages.{stage-10, stage-11, stage-13, stage-15, stage-opened}
+use Rattle.theory.proofs.Stages.{Stage, stage-10, stage-11, stage-13, stage-15, stage-opened}
 use Rattle.theory.proofs.Tests.{T-true, T-false, not-i, no-both, or-e, or-l, or-r, eq-T, same?, implies-e}
 use Rattle.theory.proofs.Writes.{update-same, update-other, same-table}
 use Rattle.completeness.proofs.Before.{Before, undoable, step-back}
-use Rattle.completeness.proofs.Rank.{base, weight, holderWeight, load, flagsSet, lonelyWeight, rankAt, Below, load-phase, load-flag, one-more, one-fewer, with-writer, none-backed-off, without-writer, lonely-kept, falls-held, falls-free}
+use Rattle.completeness.proofs.Rank.{base, weight, holderWeight, weights, flagsSet, writerlessWeight, rankAt, Below, weights-phase, weights-flag, one-more, one-fewer, with-writer, none-backed-off, without-writer, writerless-kept, falls-held, falls-free}
 
 -- ---- phases and flags, by trying them all
 
@@ -68,6 +68,9 @@ module _ (s : Table) (z : Sound s) (h : ℕ) (l : h < s .threads) (rest : All s 
   abbrev F : ℕ → ℕ
   F = s .forbidden
 
+  most : flagsSet n F ≤ n
+  most = howMany-most (λ x. eqb (F x) 1) n
+
   -- nothing is undoable, by a thread's forbidden
   at-flag : (j v : ℕ) → j < n → F j ≡ v → T (not (undoable (s .phase j) v))
   at-flag j v k e = subst (λ (f : ℕ). T (not (undoable (s .phase j) f))) e (rest j k)
@@ -77,19 +80,19 @@ module _ (s : Table) (z : Sound s) (h : ℕ) (l : h < s .threads) (rest : All s 
     others-out : All s (λ j. (j ≡ h → ⊥) → T (not (holds (φ j))))
     others-out j k o = not-i (holds (φ j)) (λ t. o (holder-alone s z h l p e hp j k (subst (λ (q : ℕ). T (holds q)) (w .others j o) t)))
 
-    same-load : load n φ F ≡ load n (s .phase) F
-    same-load =
-        let sum = load-phase n (s .phase) φ F h v l w in
+    same-weights : weights n φ F ≡ weights n (s .phase) F
+    same-weights =
+        let sum = weights-phase n (s .phase) φ F h v l w in
         let before = ap (λ (q : ℕ). weight n q (F h)) e ∙ writer-weight n p (F h) from in
         let now = writer-weight n v (F h) to in
         omega arith
 
     -- the number falls with the flags as they were, or with one changed that adds no weight
-    writer-falls : (m g : ℕ) (β G : ℕ → ℕ) → load n φ G + holderWeight n (flagsSet n G) v < load n φ F + holderWeight n (flagsSet n F) p → (b : ℕ) → Below s (suc b) → Below (after s m g φ β G) b
+    writer-falls : (m g : ℕ) (β G : ℕ → ℕ) → weights n φ G + holderWeight n (flagsSet n G) v < weights n φ F + holderWeight n (flagsSet n F) p → (b : ℕ) → Below s (suc b) → Below (after s m g φ β G) b
     unfolding rankAt
     writer-falls m g β G less =
         let here = ap (holderWeight n (flagsSet n F)) e in
-        falls-held s h v m g φ β G l (w .here) to others-out (omega (arith, same-load))
+        falls-held s h v m g φ β G l (w .here) to others-out (omega (arith, same-weights))
 
     -- a thread's weight with one flag and with another
     flag-weight : (t x y : ℕ) → t < n → weight n (s .phase t) y ≤ weight n (s .phase t) x → weight n (φ t) y ≤ weight n (φ t) x
@@ -107,15 +110,15 @@ module _ (s : Table) (z : Sound s) (h : ℕ) (l : h < s .threads) (rest : All s 
     set-falls t m g β k down le less =
         let count = ap (λ (x : ℕ). holderWeight n x v) (one-more n F t k down) in
         let before = ap (weight n (φ t)) down in
-        writer-falls m g β (update F t 1) (omega (arith, load-flag n φ F t 1 k, flag-weight t 0 1 k le))
+        writer-falls m g β (update F t 1) (omega (arith, weights-flag n φ F t 1 k, flag-weight t 0 1 k le))
 
     clear-falls : (t m g : ℕ) (β : ℕ → ℕ) → t < n → F t ≡ 1 → weight n (s .phase t) 0 ≤ weight n (s .phase t) 1 → ((k : ℕ) → k + 1 ≡ flagsSet n F → holderWeight n k v < holderWeight n (flagsSet n F) p)
         → (b : ℕ) → Below s (suc b) → Below (after s m g φ β (update F t 0)) b
     clear-falls t m g β k up le less =
         let before = ap (weight n (φ t)) up in
-        writer-falls m g β (update F t 0) (omega (arith, load-flag n φ F t 0 k, flag-weight t 1 0 k le, less (flagsSet n (update F t 0)) (one-fewer n F t k up)))
+        writer-falls m g β (update F t 0) (omega (arith, weights-flag n φ F t 0 k, flag-weight t 1 0 k le, less (flagsSet n (update F t 0)) (one-fewer n F t k up)))
 
-  -- ---- 16 and 15
+  -- ---- a flag changed in 16 and 15
 
   pub back-16 : s .phase h ≡ 16 → Before s
   unfolding rows among effect clearEffect holderWeight
@@ -149,7 +152,7 @@ module _ (s : Table) (z : Sound s) (h : ℕ) (l : h < s .threads) (rest : All s 
       l e (omega arith) (lt→ltb u n k) tt tt (rw (T-false (noneForbiddenBut u t) left))
       (same-table _ s refl refl refl refl refl (update-twice F u 1 0 ∙ update-kept F u 0 down))
       (set-falls 15 15 e tt tt tt (s .phase) (keep (s .phase) h 15 e) u (s .mutex) (s .target) (s .busy) k down (set-weight n (s .phase u) (z .phases u k) (at-flag u 0 k down))
-      (let most = howMany-most (λ x. eqb (F x) 1) n in omega arith))
+      (omega (arith, most)))
 
   -- every forbidden is 1, and a thread is in 5: its flag was set again
   pub back-15-set : s .phase h ≡ 15 → All s (λ j. F j ≡ 1) → (t : ℕ) → t < n → s .phase t ≡ 5 → Before s
@@ -165,72 +168,88 @@ module _ (s : Table) (z : Sound s) (h : ℕ) (l : h < s .threads) (rest : All s 
       l e (omega arith) (lt→ltb t n k) tt tt (rw e)
       (same-table _ s refl refl refl refl refl (update-twice F t 0 1 ∙ update-kept F t 1 (up t k)))
       (writer-falls 15 15 e tt tt tt (s .phase) (keep (s .phase) h 15 e) (s .mutex) (s .target) (s .busy) (update F t 0)
-      (let most = howMany-most (λ x. eqb (F x) 1) n in
-      let sum = rw (at-5, up t k) at (load-flag n (s .phase) F t 0 k) in
-      omega (arith, one-fewer n F t k (up t k))))
+      (let sum = rw (at-5, up t k) at (weights-flag n (s .phase) F t 0 k) in
+      omega (arith, most, one-fewer n F t k (up t k))))
 
-  -- ---- 15 to 10, the phase alone
+  -- ---- the flags as they are
+
+  -- the holder, in phase p, was in phase v with target g
+  module _ (p v g : ℕ) (e : s .phase h ≡ p) (hp : T (holds p)) (from : T (between 10 16 p)) (hv : T (holds v)) (to : T (between 10 16 v)) where
+    abbrev earlier : Table
+    earlier = applied s (phase≔ h v ∷ target≔ g ∷ [])
+
+    phase-back : (mv : ℕ) (x : Effect) → mv ≤ lastMove → T (targetFits n mv 0) → T (hasMove mv v) → T (not (mustWait v (s .mutex) mv)) → (earlier .phase h ≡ v → effect earlier (ask h mv 0) ≡ x)
+        → applied earlier (x .writes) ≡ s → busyIn p ≡ busyIn v → Stage earlier v → holderWeight n (flagsSet n F) v < holderWeight n (flagsSet n F) p → Before s
+    phase-back mv x known target has free effects again same stage less =
+        let at : earlier .phase h ≡ v = update-same (s .phase) h v h refl in
+        step-back s (phase≔ h v ∷ target≔ g ∷ []) h mv 0 v x (l, (tt, tt))
+        (holds-on s z h l p e hp v g (update (s .phase) h v) F (put (s .phase) h v) hv same (z .flags) stage)
+        l at known target has free (effects at) again
+        (writer-falls p v e hp from to (update (s .phase) h v) (put (s .phase) h v) (s .mutex) g (s .busy) F (omega arith))
+
+    -- the move back to p writes its phase, and the target if it was another
+    again : g ≡ s .target → applied earlier (phase≔ h p ∷ []) ≡ s
+    again same = same-table _ s refl refl same (update-twice (s .phase) h v p ∙ update-kept (s .phase) h p e) refl refl
+
+    again-untargeted : T (not (between 11 12 p)) → applied earlier (phase≔ h p ∷ target≔ noTarget ∷ []) ≡ s
+    again-untargeted np = same-table _ s refl refl (sym (idle-target s z h l p e hp np)) (update-twice (s .phase) h v p ∙ update-kept (s .phase) h p e) refl refl
 
   -- every forbidden is 1 and nobody in 5 to 7
   pub back-15 : s .phase h ≡ 15 → All s (λ j. F j ≡ 1) → All s (λ j. Reads s j → ⊥) → Before s
   unfolding rows among effect goEffect holderWeight
   back-15 e up none =
-      let t = applied s (phase≔ h 14 ∷ []) in
-      let at : t .phase h ≡ 14 = update-same (s .phase) h 14 h refl in
-      step-back s (phase≔ h 14 ∷ []) h go 0 14 (showing 7 (phase≔ h 15 ∷ [])) (l, tt)
-      (holds-on s z h l 15 e tt 14 (s .target) (update (s .phase) h 14) F (put (s .phase) h 14) tt refl (z .flags)
-      (stage-13 t 14 tt (idle-target s z h l 15 e tt tt) up (λ j k u. none j k (read-before s z h l 14 tt j u))))
-      l at (omega arith) tt tt tt (rw at)
-      (same-table _ s refl refl refl (update-twice (s .phase) h 14 15 ∙ update-kept (s .phase) h 15 e) refl refl)
-      (writer-falls 15 14 e tt tt tt (update (s .phase) h 14) (put (s .phase) h 14) (s .mutex) (s .target) (s .busy) F
-      (let most = howMany-most (λ x. eqb (F x) 1) n in omega arith))
+      phase-back 15 14 (s .target) e tt tt tt tt go (showing 7 (phase≔ h 15 ∷ [])) (omega arith) tt tt tt (λ at. rw at) (again 15 14 (s .target) e tt tt tt tt refl) refl
+      (stage-13 _ 14 tt (idle-target s z h l 15 e tt tt) up (λ j k u. none j k (read-before s z h l 14 tt j u)))
+      (omega (arith, most))
 
   pub back-14 : s .phase h ≡ 14 → Before s
   unfolding rows among effect goEffect holderWeight
   back-14 e =
-      let t = applied s (phase≔ h 13 ∷ []) in
-      let at : t .phase h ≡ 13 = update-same (s .phase) h 13 h refl in
       let here = in-phase s z h l 14 e tt 13 14 tt in
-      step-back s (phase≔ h 13 ∷ []) h go 0 13 (showing 6 (phase≔ h 14 ∷ [])) (l, tt)
-      (holds-on s z h l 14 e tt 13 (s .target) (update (s .phase) h 13) F (put (s .phase) h 13) tt refl (z .flags)
-      (stage-13 t 13 tt (idle-target s z h l 14 e tt tt) (z .all-forbidden h l here) (λ j k u. z .no-reader h l here j k (read-before s z h l 13 tt j u))))
-      l at (omega arith) tt tt tt (rw at)
-      (same-table _ s refl refl refl (update-twice (s .phase) h 13 14 ∙ update-kept (s .phase) h 14 e) refl refl)
-      (writer-falls 14 13 e tt tt tt (update (s .phase) h 13) (put (s .phase) h 13) (s .mutex) (s .target) (s .busy) F (omega arith))
+      phase-back 14 13 (s .target) e tt tt tt tt go (showing 6 (phase≔ h 14 ∷ [])) (omega arith) tt tt tt (λ at. rw at) (again 14 13 (s .target) e tt tt tt tt refl) refl
+      (stage-13 _ 13 tt (idle-target s z h l 14 e tt tt) (z .all-forbidden h l here) (λ j k u. z .no-reader h l here j k (read-before s z h l 13 tt j u)))
+      (omega arith)
 
   -- the last target was the holder itself
   pub back-13 : s .phase h ≡ 13 → Before s
   unfolding rows among effect goEffect holderWeight
   back-13 e =
-      let t = applied s (phase≔ h 11 ∷ target≔ h ∷ []) in
-      let at : t .phase h ≡ 11 = update-same (s .phase) h 11 h refl in
       let here = in-phase s z h l 13 e tt 13 14 tt in
       let up = z .all-forbidden h l here in
       let quiet : s .busy h ≡ 0 = z .busies h l ∙ ap busyIn e in
-      let all : T (allForbidden t) = every-i (λ j. eqb (F j) 1) n (λ j k. eq-T (F j) 1 (up j k)) in
-      step-back s (phase≔ h 11 ∷ target≔ h ∷ []) h go 0 11 (quietly (phase≔ h 13 ∷ target≔ noTarget ∷ [])) (l, (tt, tt))
-      (holds-on s z h l 13 e tt 11 h (update (s .phase) h 11) F (put (s .phase) h 11) tt refl (z .flags)
-      (stage-11 t 11 tt l (up h l) (λ j k o f u. z .no-reader h l here j k (read-before s z h l 11 tt j u))))
-      l at (omega arith) tt tt tt (rw (at, quiet, T-true (allForbidden t) all))
-      (same-table _ s refl refl (sym (idle-target s z h l 13 e tt tt)) (update-twice (s .phase) h 11 13 ∙ update-kept (s .phase) h 13 e) refl refl)
-      (writer-falls 13 11 e tt tt tt (update (s .phase) h 11) (put (s .phase) h 11) (s .mutex) h (s .busy) F
-      (let most = howMany-most (λ x. eqb (F x) 1) n in omega arith))
+      let all = T-true (allForbidden s) (every-i (λ j. eqb (F j) 1) n (λ j k. eq-T (F j) 1 (up j k))) in
+      phase-back 13 11 h e tt tt tt tt go (quietly (phase≔ h 13 ∷ target≔ noTarget ∷ [])) (omega arith) tt tt tt (λ at. rw (at, quiet, all)) (again-untargeted 13 11 h e tt tt tt tt tt) refl
+      (stage-11 _ 11 tt l (up h l) (λ j k o f u. z .no-reader h l here j k (read-before s z h l 11 tt j u)))
+      (omega (arith, most))
 
   pub back-12 : s .phase h ≡ 12 → Before s
   unfolding rows among effect holderWeight
   back-12 e =
-      let t = applied s (phase≔ h 11 ∷ []) in
-      let at : t .phase h ≡ 11 = update-same (s .phase) h 11 h refl in
       let here = in-phase s z h l 12 e tt 11 12 tt in
       let aim = z .has-target h l here in
-      step-back s (phase≔ h 11 ∷ []) h relent 0 11 (quietly (phase≔ h 12 ∷ [])) (l, tt)
-      (holds-on s z h l 12 e tt 11 (s .target) (update (s .phase) h 11) F (put (s .phase) h 11) tt refl (z .flags)
-      (stage-11 t 11 tt (aim .0) (aim .1) (λ j k o f u. z .guarded-11 h l here j k o f (read-before s z h l 11 tt j u))))
-      l at (omega arith) tt tt tt refl
-      (same-table _ s refl refl refl (update-twice (s .phase) h 11 12 ∙ update-kept (s .phase) h 12 e) refl refl)
-      (writer-falls 12 11 e tt tt tt (update (s .phase) h 11) (put (s .phase) h 11) (s .mutex) (s .target) (s .busy) F (omega arith))
+      phase-back 12 11 (s .target) e tt tt tt tt relent (quietly (phase≔ h 12 ∷ [])) (omega arith) tt tt tt (λ at. refl) (again 12 11 (s .target) e tt tt tt tt refl) refl
+      (stage-11 _ 11 tt (aim .0) (aim .1) (λ j k o f u. z .guarded-11 h l here j k o f (read-before s z h l 11 tt j u)))
+      (omega arith)
 
-  -- ---- 11 and 10
+  -- a thread's forbidden is 1: it was the last target, and its busy 0
+  pub back-10-next : s .phase h ≡ 10 → (t : ℕ) → t < n → F t ≡ 1 → Before s
+  unfolding rows among every effect goEffect holderWeight
+  back-10-next e t k up =
+      let here = in-phase s z h l 10 e tt 10 10 tt in
+      let out : T (not (reading (s .phase t))) = not-i (reading (s .phase t)) (z .guarded-10 h l here t k up) in
+      let idle : busyIn (s .phase t) ≡ 0 =
+      eqb→eq (busyIn (s .phase t)) 0
+      (implies-e (not (reading (s .phase t))) _
+      (implies-e (not (undoable (s .phase t) 1)) _
+      (tried (λ p f. implies (not (undoable p 1)) (implies (not (reading p)) (eqb (busyIn p) 0))) tt (s .phase t) 1 (z .phases t k) (omega arith)) (at-flag t 1 k up)) out) in
+      let quiet : s .busy t ≡ 0 = z .busies t k ∙ idle in
+      let (j, m, down) = z .some-clear h l here in
+      let left = T-false (allForbidden s) (not-i (allForbidden s) (λ all. let one = eqb→eq (F j) 1 (every-at (λ x. eqb (F x) 1) n all j m) in omega arith)) in
+      phase-back 10 11 t e tt tt tt tt go (quietly (phase≔ h 10 ∷ target≔ noTarget ∷ [])) (omega arith) tt tt tt (λ at. rw (at, quiet, left)) (again-untargeted 10 11 t e tt tt tt tt tt) refl
+      (stage-11 _ 11 tt k up (λ j m o f r. z .guarded-10 h l here j m f (read-before s z h l 11 tt j r)))
+      (omega arith)
+
+  -- ---- a flag changed in 11 and 10
 
   -- the target's flag was set
   pub back-11 : s .phase h ≡ 11 → Before s
@@ -252,29 +271,6 @@ module _ (s : Table) (z : Sound s) (h : ℕ) (l : h < s .threads) (rest : All s 
       guarded j m f r (inl q) = let zero = update-same F (s .target) 0 j q in omega arith
       guarded j m f r (inr o) = z .guarded-11 h l (in-phase s z h l 11 e tt 11 12 tt) j m o (sym (update-other F (s .target) 0 j o) ∙ f) r
 
-  -- a thread's forbidden is 1: it was the last target, and its busy 0
-  pub back-10-next : s .phase h ≡ 10 → (t : ℕ) → t < n → F t ≡ 1 → Before s
-  unfolding rows among every effect goEffect holderWeight
-  back-10-next e t k up =
-      let u = applied s (phase≔ h 11 ∷ target≔ t ∷ []) in
-      let at : u .phase h ≡ 11 = update-same (s .phase) h 11 h refl in
-      let here = in-phase s z h l 10 e tt 10 10 tt in
-      let out : T (not (reading (s .phase t))) = not-i (reading (s .phase t)) (z .guarded-10 h l here t k up) in
-      let idle : busyIn (s .phase t) ≡ 0 =
-      eqb→eq (busyIn (s .phase t)) 0
-      (implies-e (not (reading (s .phase t))) _
-      (implies-e (not (undoable (s .phase t) 1)) _
-      (tried (λ p f. implies (not (undoable p 1)) (implies (not (reading p)) (eqb (busyIn p) 0))) tt (s .phase t) 1 (z .phases t k) (omega arith)) (at-flag t 1 k up)) out) in
-      let quiet : s .busy t ≡ 0 = z .busies t k ∙ idle in
-      let (j, m, down) = z .some-clear h l here in
-      let left : T (not (allForbidden u)) = not-i (allForbidden u) (λ all. let one = eqb→eq (F j) 1 (every-at (λ x. eqb (F x) 1) n all j m) in omega arith) in
-      step-back s (phase≔ h 11 ∷ target≔ t ∷ []) h go 0 11 (quietly (phase≔ h 10 ∷ target≔ noTarget ∷ [])) (l, (tt, tt))
-      (holds-on s z h l 10 e tt 11 t (update (s .phase) h 11) F (put (s .phase) h 11) tt refl (z .flags)
-      (stage-11 u 11 tt k up (λ j m o f r. z .guarded-10 h l here j m f (read-before s z h l 11 tt j r))))
-      l at (omega arith) tt tt tt (rw (at, quiet, T-false (allForbidden u) left))
-      (same-table _ s refl refl (sym (idle-target s z h l 10 e tt tt)) (update-twice (s .phase) h 11 10 ∙ update-kept (s .phase) h 10 e) refl refl)
-      (writer-falls 10 11 e tt tt tt (update (s .phase) h 11) (put (s .phase) h 11) (s .mutex) t (s .busy) F (omega arith))
-
   -- every forbidden is 0, and a thread is in 3: it was the last target, and given up
   pub back-10-given-up : s .phase h ≡ 10 → All s (λ j. F j ≡ 0) → (t : ℕ) → t < n → s .phase t ≡ 3 → Before s
   unfolding rows among effect goEffect holderWeight weight base
@@ -289,7 +285,7 @@ module _ (s : Table) (z : Sound s) (h : ℕ) (l : h < s .threads) (rest : All s 
       (same-table _ s refl refl (sym (idle-target s z h l 10 e tt tt)) (update-twice (s .phase) h 12 10 ∙ update-kept (s .phase) h 10 e) refl (update-twice F t 1 0 ∙ update-kept F t 0 (clear t k)))
       (writer-falls 10 12 e tt tt tt (update (s .phase) h 12) (put (s .phase) h 12) (s .mutex) t (s .busy) (update F t 1)
       (let still = update-other (s .phase) h 12 t apart ∙ at-3 in
-      let sum = rw (still, clear t k) at (load-flag n (update (s .phase) h 12) F t 1 k) in
+      let sum = rw (still, clear t k) at (weights-flag n (update (s .phase) h 12) F t 1 k) in
       let count = one-more n F t k (clear t k) in
       omega arith))
 
@@ -314,9 +310,9 @@ module _ (s : Table) (z : Sound s) (h : ℕ) (l : h < s .threads) (rest : All s 
       l at (omega arith) tt tt tt (rw at)
       (same-table _ s refl (sym (holder-locked s z h l 10 e tt)) refl (update-twice (s .phase) h 9 10 ∙ update-kept (s .phase) h 10 e) refl refl)
       (falls-free s h 0 (s .target) (update (s .phase) h 9) (s .busy) F l (nobody-left 10 9 e tt tt)
-      (let sum = rw e at (load-phase n (s .phase) (update (s .phase) h 9) F h 9 l (put (s .phase) h 9)) in
+      (let sum = rw e at (weights-phase n (s .phase) (update (s .phase) h 9) F h 9 l (put (s .phase) h 9)) in
       let here = ap (holderWeight n (flagsSet n F)) e in
-      let lone = none-backed-off n (update (s .phase) h 9) (λ j k b. away j k b (same? j h)) in
+      let extra = none-backed-off n (update (s .phase) h 9) (λ j k b. away j k b (same? j h)) in
       omega arith))
     where
       away : (j : ℕ) → j < n → T (backedOff (update (s .phase) h 9 j)) → (j ≡ h) ⊎ (j ≡ h → ⊥) → ⊥
@@ -341,8 +337,8 @@ module _ (s : Table) (z : Sound s) (h : ℕ) (l : h < s .threads) (rest : All s 
       l at (omega arith) tt tt tt refl
       (same-table _ s refl (sym (holder-locked s z h l 18 e tt)) refl (update-twice (s .phase) h 4 18 ∙ update-kept (s .phase) h 18 e) refl refl)
       (falls-free s h 0 (s .target) (update (s .phase) h 4) (s .busy) F l (nobody-left 18 4 e tt tt)
-      (let sum = rw (e, clear h l) at (load-phase n (s .phase) (update (s .phase) h 4) F h 4 l (put (s .phase) h 4)) in
-      let lone = lonely-kept n (s .phase) (update (s .phase) h 4) h 18 4 l e (put (s .phase) h 4) tt (λ b. tt) in
+      (let sum = rw (e, clear h l) at (weights-phase n (s .phase) (update (s .phase) h 4) F h 4 l (put (s .phase) h 4)) in
+      let extra = writerless-kept n (s .phase) (update (s .phase) h 4) h 18 4 l e (put (s .phase) h 4) tt (λ b. tt) in
       omega arith))
 
 -- ---- no holder
@@ -368,7 +364,7 @@ module _ (s : Table) (z : Sound s) (none : All s (λ j. Holds s j → ⊥)) (i :
       (same-table _ s refl (sym unlocked) refl (update-twice (s .phase) i 16 17 ∙ update-kept (s .phase) i 17 e) refl refl)
       (falls-held s i 16 1 (s .target) (update (s .phase) i 16) (s .busy) (s .forbidden) l at tt
       (λ j k o. subst (λ (x : ℕ). T (not (holds x))) (sym (update-other (s .phase) i 16 j o)) (not-i (holds (s .phase j)) (none j k)))
-      (let sum = rw e at (load-phase n (s .phase) (update (s .phase) i 16) (s .forbidden) i 16 l (put (s .phase) i 16)) in omega arith))
+      (let sum = rw e at (weights-phase n (s .phase) (update (s .phase) i 16) (s .forbidden) i 16 l (put (s .phase) i 16)) in omega arith))
 
   -- a thread is in 3, and nobody in 17: this one, in 0, was in 17
   pub back-0 : s .phase i ≡ 0 → (t : ℕ) → t < s .threads → s .phase t ≡ 3 → All s (λ j. s .phase j ≡ 17 → ⊥) → Before s
@@ -382,7 +378,7 @@ module _ (s : Table) (z : Sound s) (none : All s (λ j. Holds s j → ⊥)) (i :
       l at (omega arith) tt tt tt (rw at)
       (same-table _ s refl refl refl (update-twice (s .phase) i 17 0 ∙ update-kept (s .phase) i 0 e) refl refl)
       (falls-free s i (s .mutex) (s .target) (update (s .phase) i 17) (s .busy) (s .forbidden) l (λ j m. nobody j m (same? j i))
-      (let sum = rw e at (load-phase n (s .phase) (update (s .phase) i 17) (s .forbidden) i 17 l (put (s .phase) i 17)) in
+      (let sum = rw e at (weights-phase n (s .phase) (update (s .phase) i 17) (s .forbidden) i 17 l (put (s .phase) i 17)) in
       let before = without-writer n (s .phase) t k (rw at-3 tt) no-writer in
       let after = with-writer n (update (s .phase) i 17) i l (rw at tt) in
       omega arith))

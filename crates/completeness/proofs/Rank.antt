@@ -1,5 +1,5 @@
 -- A number for every table that falls by each step back to the fresh table. It is a sum: what each thread adds by its phase and forbidden (`weight`), what the holder adds by its phase
--- and the number of flags set (`holderWeight`), and what is added where some thread is in 3, 4 or 18 and none in 10 to 17 (`lonelyWeight`): a writer's whole round is still to be undone then.
+-- and the number of flags set (`holderWeight`), and what is added where some thread is in 3, 4 or 18 and none in 10 to 17 (`writerlessWeight`): a writer's whole round is still to be undone then.
 -- `Below s b` says that it is less than b.
 use Prim.Native.Nat.{ℕ, suc, _+_, _*_, _-_, _≤_, _<_}
 use native.Mathlib.Omega.{arith}
@@ -59,24 +59,24 @@ holderWeight n k phase =
     (getD ((2 * k + 2) ∷ (2 * k + 1) ∷ (2 * k + 2) ∷ (2 * n + 2) ∷ (2 * n + 3) ∷ (3 * n + 4 - k) ∷ (3 * n + 5) ∷ []) (phase - 10) 0)
     0
 
-unfoldable pub load : ℕ → (ℕ → ℕ) → (ℕ → ℕ) → ℕ
-load n phase forbidden = sumOf n (λ j. weight n (phase j) (forbidden j))
+unfoldable pub weights : ℕ → (ℕ → ℕ) → (ℕ → ℕ) → ℕ
+weights n phase forbidden = sumOf n (λ j. weight n (phase j) (forbidden j))
 
 -- how many flags are set
 abbrev pub flagsSet : ℕ → (ℕ → ℕ) → ℕ
 flagsSet n forbidden = howMany n (λ j. eqb (forbidden j) 1)
 
 -- some thread is in 3, 4 or 18, and none in 10 to 17
-abbrev pub lonely : ℕ → (ℕ → ℕ) → Bool
-lonely n phase = some n (λ j. backedOff (phase j)) && not (some n (λ j. between 10 17 (phase j)))
+abbrev pub writerless : ℕ → (ℕ → ℕ) → Bool
+writerless n phase = some n (λ j. backedOff (phase j)) && not (some n (λ j. between 10 17 (phase j)))
 
-abbrev pub lonelyWeight : ℕ → (ℕ → ℕ) → ℕ
-lonelyWeight n phase = cond (lonely n phase) (3 * n + 7) 0
+abbrev pub writerlessWeight : ℕ → (ℕ → ℕ) → ℕ
+writerlessWeight n phase = cond (writerless n phase) (3 * n + 7) 0
 
 -- the number, where thread j is the holder
 unfoldable pub rankAt : Table → ℕ → ℕ
 rankAt s j =
-    load (s .threads) (s .phase) (s .forbidden) + holderWeight (s .threads) (flagsSet (s .threads) (s .forbidden)) (s .phase j) + lonelyWeight (s .threads) (s .phase)
+    weights (s .threads) (s .phase) (s .forbidden) + holderWeight (s .threads) (flagsSet (s .threads) (s .forbidden)) (s .phase j) + writerlessWeight (s .threads) (s .phase)
 
 -- whoever the holder is; for every other thread it is less
 abbrev pub Below : Table → ℕ → Type 0
@@ -90,17 +90,17 @@ unfolding holderWeight
 no-holder-weight n k p t = cond-no (holds p) _ 0 t
 
 -- the sum, where thread i's phase becomes v
-pub load-phase : (n : ℕ) (φ ψ F : ℕ → ℕ) (i v : ℕ) → i < n → Column φ i v ψ → load n ψ F + weight n (φ i) (F i) ≡ load n φ F + weight n v (F i)
-unfolding load
-load-phase n φ ψ F i v l w =
+pub weights-phase : (n : ℕ) (φ ψ F : ℕ → ℕ) (i v : ℕ) → i < n → Column φ i v ψ → weights n ψ F + weight n (φ i) (F i) ≡ weights n φ F + weight n v (F i)
+unfolding weights
+weights-phase n φ ψ F i v l w =
     let change = sum-but n (λ j. weight n (φ j) (F j)) (λ j. weight n (ψ j) (F j)) i l (λ j h. ap (λ (p : ℕ). weight n p (F j)) (w .others j h)) in
     let here = ap (λ (p : ℕ). weight n p (F i)) (w .here) in
     omega arith
 
 -- and where its forbidden becomes v
-pub load-flag : (n : ℕ) (φ F : ℕ → ℕ) (i v : ℕ) → i < n → load n φ (update F i v) + weight n (φ i) (F i) ≡ load n φ F + weight n (φ i) v
-unfolding load
-load-flag n φ F i v l =
+pub weights-flag : (n : ℕ) (φ F : ℕ → ℕ) (i v : ℕ) → i < n → weights n φ (update F i v) + weight n (φ i) (F i) ≡ weights n φ F + weight n (φ i) v
+unfolding weights
+weights-flag n φ F i v l =
     let change = sum-but n (λ j. weight n (φ j) (F j)) (λ j. weight n (φ j) (update F i v j)) i l (λ j h. ap (weight n (φ j)) (update-other F i v j h)) in
     let here = ap (weight n (φ i)) (update-same F i v i refl) in
     omega arith
@@ -124,29 +124,29 @@ one-fewer n F i l e =
 
 module _ (n : ℕ) (φ : ℕ → ℕ) where
   -- some thread is in 10 to 17
-  pub with-writer : (i : ℕ) → i < n → T (between 10 17 (φ i)) → lonelyWeight n φ ≡ 0
+  pub with-writer : (i : ℕ) → i < n → T (between 10 17 (φ i)) → writerlessWeight n φ ≡ 0
   with-writer i l t =
-      cond-no (lonely n φ) (3 * n + 7) 0
-      (not-i (lonely n φ) (λ u. no-both (some n (λ j. between 10 17 (φ j))) (some-i (λ j. between 10 17 (φ j)) n i l t) (and-r (some n (λ j. backedOff (φ j))) _ u)))
+      cond-no (writerless n φ) (3 * n + 7) 0
+      (not-i (writerless n φ) (λ u. no-both (some n (λ j. between 10 17 (φ j))) (some-i (λ j. between 10 17 (φ j)) n i l t) (and-r (some n (λ j. backedOff (φ j))) _ u)))
 
   -- no thread is in 3, 4 and 18
-  pub none-backed-off : ((j : ℕ) → j < n → T (backedOff (φ j)) → ⊥) → lonelyWeight n φ ≡ 0
+  pub none-backed-off : ((j : ℕ) → j < n → T (backedOff (φ j)) → ⊥) → writerlessWeight n φ ≡ 0
   none-backed-off none =
-      cond-no (lonely n φ) (3 * n + 7) 0
-      (not-i (lonely n φ) (λ u.
+      cond-no (writerless n φ) (3 * n + 7) 0
+      (not-i (writerless n φ) (λ u.
       let (j, l, t) = some-e (λ j. backedOff (φ j)) n (and-l (some n (λ j. backedOff (φ j))) (not (some n (λ j. between 10 17 (φ j)))) u) in
       none j l t))
 
   -- a thread is in 3, 4 or 18, and none in 10 to 17
-  pub without-writer : (i : ℕ) → i < n → T (backedOff (φ i)) → ((j : ℕ) → j < n → T (between 10 17 (φ j)) → ⊥) → lonelyWeight n φ ≡ 3 * n + 7
+  pub without-writer : (i : ℕ) → i < n → T (backedOff (φ i)) → ((j : ℕ) → j < n → T (between 10 17 (φ j)) → ⊥) → writerlessWeight n φ ≡ 3 * n + 7
   without-writer i l t none =
-      cond-yes (lonely n φ) (3 * n + 7) 0
+      cond-yes (writerless n φ) (3 * n + 7) 0
       (and-i (some n (λ j. backedOff (φ j))) (not (some n (λ j. between 10 17 (φ j)))) (some-i (λ j. backedOff (φ j)) n i l t)
       (not-i (some n (λ j. between 10 17 (φ j))) (λ u. let (j, k, v) = some-e (λ j. between 10 17 (φ j)) n u in none j k v)))
 
   -- thread i was in phase p, none of 10 to 17, and in one of 3, 4 and 18 if it is in one now
-  pub lonely-kept : (ψ : ℕ → ℕ) (i p v : ℕ) → i < n → φ i ≡ p → Column φ i v ψ → T (not (between 10 17 p)) → (T (backedOff v) → T (backedOff p)) → lonelyWeight n ψ ≤ lonelyWeight n φ
-  lonely-kept ψ i p v l e w out back = by (decided (lonely n ψ))
+  pub writerless-kept : (ψ : ℕ → ℕ) (i p v : ℕ) → i < n → φ i ≡ p → Column φ i v ψ → T (not (between 10 17 p)) → (T (backedOff v) → T (backedOff p)) → writerlessWeight n ψ ≤ writerlessWeight n φ
+  writerless-kept ψ i p v l e w out back = by (decided (writerless n ψ))
     where
       earlier : (j : ℕ) → T (backedOff (ψ j)) → (j ≡ i) ⊎ (j ≡ i → ⊥) → T (backedOff (φ j))
       earlier j t (inl q) =
@@ -157,13 +157,13 @@ module _ (n : ℕ) (φ : ℕ → ℕ) where
       later j t (inl q) = absurd (no-both (between 10 17 p) (subst (λ (x : ℕ). T (between 10 17 x)) (ap φ q ∙ e) t) out)
       later j t (inr h) = subst (λ (x : ℕ). T (between 10 17 x)) (sym (w .others j h)) t
 
-      by : T (lonely n ψ) ⊎ T (not (lonely n ψ)) → lonelyWeight n ψ ≤ lonelyWeight n φ
-      by (inr t) = let z = cond-no (lonely n ψ) (3 * n + 7) 0 t in omega arith
+      by : T (writerless n ψ) ⊎ T (not (writerless n ψ)) → writerlessWeight n ψ ≤ writerlessWeight n φ
+      by (inr t) = let z = cond-no (writerless n ψ) (3 * n + 7) 0 t in omega arith
       by (inl t) =
           let (j, k, b) = some-e (λ x. backedOff (ψ x)) n (and-l (some n (λ x. backedOff (ψ x))) (not (some n (λ x. between 10 17 (ψ x)))) t) in
           let none = and-r (some n (λ x. backedOff (ψ x))) (not (some n (λ x. between 10 17 (ψ x)))) t in
           let before = without-writer j k (earlier j b (same? j i)) (λ x m u. no-both (some n (λ x. between 10 17 (ψ x))) (some-i (λ x. between 10 17 (ψ x)) n x m (later x u (same? x i))) none) in
-          let after = cond-yes (lonely n ψ) (3 * n + 7) 0 t in
+          let after = cond-yes (writerless n ψ) (3 * n + 7) 0 t in
           omega arith
 
 -- ---- the number falls
@@ -191,23 +191,23 @@ module _ (s : Table) (i p v : ℕ) (β : ℕ → ℕ) (l : i < s .threads) (e : 
       w : Column (s .phase) i v φ
       w = put (s .phase) i v
 
-      by : (j ≡ i) ⊎ (j ≡ i → ⊥) → load n φ (s .forbidden) + holderWeight n up (φ j) + lonelyWeight n φ < b
+      by : (j ≡ i) ⊎ (j ≡ i → ⊥) → weights n φ (s .forbidden) + holderWeight n up (φ j) + writerlessWeight n φ < b
       by (inl q) =
-          let sum = load-phase n (s .phase) φ (s .forbidden) i v l w in
+          let sum = weights-phase n (s .phase) φ (s .forbidden) i v l w in
           let before = ap (λ (x : ℕ). weight n x (s .forbidden i)) e in
           let none = ap (holderWeight n up) (ap φ q ∙ w .here) ∙ no-holder-weight n up v nv in
-          let lone = lonely-kept n (s .phase) φ i p v l e w out back in
+          let extra = writerless-kept n (s .phase) φ i p v l e w out back in
           omega (arith, below i l)
       by (inr h) =
-          let sum = load-phase n (s .phase) φ (s .forbidden) i v l w in
+          let sum = weights-phase n (s .phase) φ (s .forbidden) i v l w in
           let before = ap (λ (x : ℕ). weight n x (s .forbidden i)) e in
           let same = ap (holderWeight n up) (w .others j h) in
-          let lone = lonely-kept n (s .phase) φ i p v l e w out back in
+          let extra = writerless-kept n (s .phase) φ i p v l e w out back in
           omega (arith, below j k)
 
 -- thread h is the holder, alone, in phase v of 10 to 16
 module _ (s : Table) (h v m g : ℕ) (φ β F : ℕ → ℕ) (l : h < s .threads) (at : φ h ≡ v) (writer : T (between 10 16 v)) (alone : All s (λ j. (j ≡ h → ⊥) → T (not (holds (φ j))))) where
-  pub falls-held : load (s .threads) φ F + holderWeight (s .threads) (flagsSet (s .threads) F) v < rankAt s h → (b : ℕ) → Below s (suc b) → Below (after s m g φ β F) b
+  pub falls-held : weights (s .threads) φ F + holderWeight (s .threads) (flagsSet (s .threads) F) v < rankAt s h → (b : ℕ) → Below s (suc b) → Below (after s m g φ β F) b
   unfolding rankAt
   falls-held less b = falls-at s (after s m g φ β F) h b l (λ j k. by j k (same? j h))
     where
@@ -217,15 +217,15 @@ module _ (s : Table) (h v m g : ℕ) (φ β F : ℕ → ℕ) (l : h < s .threads
       up : ℕ
       up = flagsSet n F
 
-      lone : lonelyWeight n φ ≡ 0
-      lone = with-writer n φ h l (subst (λ (x : ℕ). T (between 10 17 x)) (sym at) (let r = between-e 10 16 v writer in between-i 10 17 v (r .0) (omega (arith, r .1))))
+      extra : writerlessWeight n φ ≡ 0
+      extra = with-writer n φ h l (subst (λ (x : ℕ). T (between 10 17 x)) (sym at) (let r = between-e 10 16 v writer in between-i 10 17 v (r .0) (omega (arith, r .1))))
 
-      by : (j : ℕ) → j < n → (j ≡ h) ⊎ (j ≡ h → ⊥) → load n φ F + holderWeight n up (φ j) + lonelyWeight n φ < rankAt s h
-      by j k (inl q) = let here = ap (holderWeight n up) (ap φ q ∙ at) in omega (arith, lone)
-      by j k (inr o) = let none = no-holder-weight n up (φ j) (alone j k o) in omega (arith, lone)
+      by : (j : ℕ) → j < n → (j ≡ h) ⊎ (j ≡ h → ⊥) → weights n φ F + holderWeight n up (φ j) + writerlessWeight n φ < rankAt s h
+      by j k (inl q) = let here = ap (holderWeight n up) (ap φ q ∙ at) in omega (arith, extra)
+      by j k (inr o) = let none = no-holder-weight n up (φ j) (alone j k o) in omega (arith, extra)
 
 -- nobody is the holder
-pub falls-free : (s : Table) (h m g : ℕ) (φ β F : ℕ → ℕ) → h < s .threads → All s (λ j. T (not (holds (φ j)))) → load (s .threads) φ F + lonelyWeight (s .threads) φ < rankAt s h
+pub falls-free : (s : Table) (h m g : ℕ) (φ β F : ℕ → ℕ) → h < s .threads → All s (λ j. T (not (holds (φ j)))) → weights (s .threads) φ F + writerlessWeight (s .threads) φ < rankAt s h
     → (b : ℕ) → Below s (suc b) → Below (after s m g φ β F) b
 unfolding rankAt
 falls-free s h m g φ β F l none less b =
