@@ -21,6 +21,18 @@
  *   byte 4 + 3i      its busy flag, 0 or 1
  *   byte 5 + 3i      its forbidden flag, 0 or 1
  *
+ * wospinzo_fresh fills it, wospinzo_move brings it up to date, and nobody else
+ * may write it between calls. The caller may read it, and may put back, over a
+ * restart, the bytes that the last call left.
+ *
+ * The table is sound exactly if some list of moves, all accepted, leaves it from
+ * the fresh table for its N: the theorem complete, for every N from 1 to 200, in
+ * crates/completeness/proofs/Completeness.antt. The rules of soundness, one by
+ * one, are in crates/definitions/specs/Sound.antt. Every function that is lent a
+ * table tests all of it first, and turns down by 2 one that isn't sound. An
+ * earlier copy of a table passes, and so does a table that was damaged into
+ * another sound one (docs/MANUAL.md, section 7).
+ *
  * A watcher is the second thing that a caller may own: a record of 203 bytes
  * that judges each event as it happens, without the history being kept. It
  * knows of no table: the caller hands it the events that the moves show.
@@ -62,7 +74,7 @@ extern "C" {
 /* The version of this header; wospinzo_version answers that of the archive.
  * docs/CHANGELOG.md says what a version promises. */
 #define WOSPINZO_VERSION_MAJOR 1
-#define WOSPINZO_VERSION_MINOR 4
+#define WOSPINZO_VERSION_MINOR 5
 #define WOSPINZO_VERSION_PATCH 0
 #define WOSPINZO_VERSION \
     (65536 * WOSPINZO_VERSION_MAJOR + 256 * WOSPINZO_VERSION_MINOR + WOSPINZO_VERSION_PATCH)
@@ -177,7 +189,7 @@ enum wospinzo_node {
 enum wospinzo_refusal_number {
     WOSPINZO_ACCEPTED = 0,
     WOSPINZO_BAD_SIZE = 1,     /* N is 0 or above 200, or the table isn't 3 + 3N bytes */
-    WOSPINZO_UNSOUND = 2,      /* the table isn't sound: no move could have left it */
+    WOSPINZO_UNSOUND = 2,      /* the table isn't sound: no list of moves leaves it from a fresh table */
     WOSPINZO_NO_THREAD = 3,    /* the thread number isn't below N */
     WOSPINZO_NO_MOVE = 4,      /* the move is above 6 */
     WOSPINZO_BAD_TARGET = 5,   /* set or clear: not below N; another move: not 0 */
@@ -349,7 +361,8 @@ uint64_t wospinzo_move(uint8_t *table, size_t table_len, uint16_t thread, uint16
                        uint16_t target);
 
 /*
- * Writes the node of each thread, one byte a thread (enum wospinzo_node).
+ * Tests the table and writes the node of each thread, one byte a thread (enum
+ * wospinzo_node): the call to test a table that was kept over a restart with.
  * Answers the number of bytes written, N. The table is only read.
  * Refusals: 1, 2, 12.
  */

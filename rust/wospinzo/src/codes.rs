@@ -259,7 +259,8 @@ pub enum Refusal {
     /// The number of threads is 0 or above 200, or the table isn't
     /// [`table_size`](crate::table_size) bytes.
     BadSize = 1,
-    /// The table isn't sound: no moves from a fresh table lead to it.
+    /// The table isn't sound: no list of moves leaves it from a fresh table.
+    /// Every other table of the right size is left by some.
     Unsound = 2,
     /// The thread number isn't below the number of threads.
     NoThread = 3,

@@ -125,10 +125,28 @@
 //!
 //! Byte 0 is N, byte 1 the mutex (0 or 1), byte 2 the target of the thread that
 //! holds the mutex, 255 for none. Then come three bytes a thread: its phase (0
-//! to 18, see [`Phase`]), its busy flag and its forbidden flag. Every function
-//! of the table above that takes a table tests it first; one that breaks a rule
-//! of soundness is turned down as [`Refusal::Unsound`]. No move leaves such a
-//! table.
+//! to 18, see [`Phase`]), its busy flag and its forbidden flag. Nobody but
+//! [`fresh`] and [`make_move`] may write it; over a restart the caller may put
+//! back the bytes that the last call left.
+//!
+//! Every function of the table above that takes a table tests it first. One of
+//! the right size is turned down as [`Refusal::Unsound`] exactly if no list of
+//! moves leaves it from a fresh table (a theorem,
+//! `crates/completeness/proofs/Completeness.antt`). [`nodes`] tests a table that
+//! was kept over a restart, and changes nothing. An earlier copy passes, and so
+//! does a table that was damaged into another sound one: `docs/MANUAL.md`,
+//! section 7.
+//!
+//! ```
+//! use wospinzo::{nodes, Refusal};
+//!
+//! let mut out = [0; 2];
+//! // No moves leave this: the thread that backs off last does so while the other
+//! // one, a writer, has set its flag.
+//! assert_eq!(nodes(&[2, 0, 255, 3, 1, 0, 4, 0, 0], &mut out), Err(Refusal::Unsound));
+//! // Here thread 1 has left since.
+//! assert_eq!(nodes(&[2, 0, 255, 3, 1, 0, 0, 0, 0], &mut out), Ok(2));
+//! ```
 //!
 //! # Linking
 //!
@@ -156,7 +174,7 @@ pub use watcher::Watcher;
 
 /// The version of this crate and of the header: 65,536 times the major, 256
 /// times the minor, and the patch number. [`version`] is that of the archive.
-pub const VERSION: u32 = 65_536 + 4 * 256;
+pub const VERSION: u32 = 65_536 + 5 * 256;
 /// The largest number of threads.
 pub const MAX_THREADS: u16 = 200;
 /// The bytes of the largest table.
