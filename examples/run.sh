@@ -12,9 +12,9 @@ mkdir -p target/examples
 
 ${CC:-cc} -std=c99 -O2 -Wall -Wextra -pedantic -Werror -Iinclude \
     -o target/examples/executive examples/c/executive.c "$lib/libwospinzo.a"
-printf 'C:    '
+echo 'C:'
 target/examples/executive
 
 cargo build --quiet --release --offline --manifest-path examples/rust/Cargo.toml
-printf 'Rust: '
+echo 'Rust:'
 target/cargo/release/executive

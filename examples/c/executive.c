@@ -6,16 +6,24 @@
  * read. Panel tasks rewrite the settings now and then, a piece a turn too. A
  * reader that is turned away waits for the mutex, for some turns at most,
  * before it tries again; it gives the mutex back in the turn in which it took
- * it. A watcher judges each event before its task acts on it. When the turns
- * are over, the tasks that are in a section leave it. The program counts reads,
- * writes and torn reads, of which there must be none.
+ * it. A watcher judges each event before its task acts on it.
+ *
+ * Twice a warm restart comes between the turns. The table that was kept over it
+ * is tested before a task moves. The first passes, and the tasks go on; the
+ * second came back damaged and is refused, and all starts afresh.
+ *
+ * When the turns are over, the tasks that are in a section leave it. The program
+ * counts reads, writes and torn reads, of which there must be none.
  */
 #include <stdio.h>
 #include <stdlib.h>
+#include <string.h>
 
 #include "wospinzo.h"
 
-enum { READERS = 6, PANELS = 2, TASKS = READERS + PANELS, TURNS = 20000, PIECES = 4, WORDS = 8 };
+enum { READERS = 6, PANELS = 2, TASKS = READERS + PANELS, PIECES = 4, WORDS = 8 };
+/* Turns before each restart, and in all. The first restart comes while a panel writes. */
+enum { LEG = 10500, TURNS = 3 * LEG };
 /* In turns: a reader's wait for the mutex, at most; a panel's rest after it wrote, at least. */
 enum { HOLD_TURNS = 16, PANEL_REST = 100 };
 
@@ -38,6 +46,15 @@ static wospinzo_watcher watcher;
 static struct task tasks[TASKS];
 static uint32_t settings[PIECES][WORDS];
 static unsigned long reads, writes, torn_reads, waits, holds, timeouts;
+static unsigned restarts_kept, restarts_afresh;
+
+/* What is kept over a warm restart: the lock, its watcher, and where each task
+ * is in its work, since a task must go on from the phase that the table says. */
+static struct {
+    uint8_t table[sizeof table];
+    wospinzo_watcher watcher;
+    struct task tasks[TASKS];
+} kept;
 
 static int is_panel(uint16_t task)
 {
@@ -204,20 +221,95 @@ static void finish(void)
     }
 }
 
-int main(void)
+/* A start with nothing kept: a fresh table, a new watch, every task at its
+ * beginning, and the settings loaded anew, since a panel may have been cut off
+ * while it wrote. */
+static void start(void)
 {
-    unsigned turns;
-    uint16_t task;
-
     if (!wospinzo_accepted(wospinzo_fresh(TASKS, table, sizeof table)) ||
         !wospinzo_accepted(wospinzo_watch_start(TASKS, &watcher)))
-        return 2;
-    for (turns = 0; turns < TURNS; turns++)
+        exit(2);
+    memset(tasks, 0, sizeof tasks);
+    memset(settings, 0, sizeof settings);
+}
+
+static void keep(void)
+{
+    memcpy(kept.table, table, sizeof table);
+    memcpy(kept.tasks, tasks, sizeof tasks);
+    kept.watcher = watcher;
+}
+
+/* The kept table comes back with every task in 3 or 4, and all else to match.
+ * No list of moves leaves it: the task that backs off last does so while another
+ * one, a writer, has set its flag. */
+static void damage_kept(void)
+{
+    uint16_t task;
+
+    kept.table[1] = 0;
+    kept.table[2] = WOSPINZO_NO_TARGET;
+    for (task = 0; task < TASKS; task++) {
+        uint8_t *bytes = kept.table + WOSPINZO_TABLE_SIZE(task);
+        bytes[0] = task % 2 == 0 ? WOSPINZO_PHASE_BACK_OFF : WOSPINZO_PHASE_TRY_AGAIN;
+        bytes[1] = task % 2 == 0;
+        bytes[2] = 0;
+    }
+}
+
+/* A warm restart: of the lock and the tasks, only what was kept is there. Its
+ * table is tested, which changes nothing; the tasks go on if it passes. */
+static void restart(void)
+{
+    uint8_t nodes[TASKS];
+    uint64_t answer = wospinzo_nodes(kept.table, sizeof kept.table, nodes, sizeof nodes);
+    unsigned inside = 0;
+    uint16_t task;
+
+    memset(table, 0, sizeof table);
+    memset(tasks, 0, sizeof tasks);
+    memset(&watcher, 0, sizeof watcher);
+    if (wospinzo_accepted(answer)) {
+        memcpy(table, kept.table, sizeof table);
+        memcpy(tasks, kept.tasks, sizeof tasks);
+        watcher = kept.watcher;
+        for (task = 0; task < TASKS; task++)
+            inside += nodes[task] == WOSPINZO_SHARED || nodes[task] == WOSPINZO_EXCLUSIVE;
+        restarts_kept++;
+        printf("restart: the kept table passes, the tasks go on, %u of them inside\n", inside);
+    } else {
+        start();
+        restarts_afresh++;
+        printf("restart: the kept table is refused by %u, a fresh one is made\n", wospinzo_refusal(answer));
+    }
+}
+
+static void run_turns(unsigned count)
+{
+    uint16_t task;
+
+    for (; count > 0; count--)
         for (task = 0; task < TASKS; task++)
             turn(task);
+}
+
+int main(void)
+{
+    int worked;
+
+    start();
+    run_turns(LEG);
+    keep();
+    restart();
+    run_turns(LEG);
+    keep();
+    damage_kept();
+    restart();
+    run_turns(LEG);
     finish();
     printf("%d tasks, %d turns: %lu reads, %lu writes, %lu waits for the mutex, %lu holds, "
            "%lu timeouts, %lu torn reads\n",
            (int)TASKS, (int)TURNS, reads, writes, waits, holds, timeouts, torn_reads);
-    return torn_reads == 0 && reads > 0 && writes > 0 && holds > 0 && timeouts > 0 ? 0 : 1;
+    worked = reads > 0 && writes > 0 && holds > 0 && timeouts > 0;
+    return torn_reads == 0 && worked && restarts_kept == 1 && restarts_afresh == 1 ? 0 : 1;
 }

@@ -5,27 +5,38 @@
 //! read. Panel tasks rewrite the settings now and then, a piece a turn too. A
 //! reader that is turned away waits for the mutex, for some turns at most,
 //! before it tries again; it gives the mutex back in the turn in which it took
-//! it. A watcher judges each event before its task acts on it. When the turns
-//! are over, the tasks that are in a section leave it. The program counts reads,
-//! writes and torn reads, of which there must be none.
+//! it. A watcher judges each event before its task acts on it.
+//!
+//! Twice a warm restart comes between the turns. The table that was kept over it
+//! is tested before a task moves. The first passes, and the tasks go on; the
+//! second came back damaged and is refused, and all starts afresh.
+//!
+//! When the turns are over, the tasks that are in a section leave it. The program
+//! counts reads, writes and torn reads, of which there must be none.
 
 use std::error::Error;
+use std::mem::take;
 use std::process::ExitCode;
 
 use wospinzo::{
-    forbidden, fresh, make_move, phase, table_size, Event, Move, Outcome, Phase, Refusal, Watcher,
+    forbidden, fresh, make_move, nodes, phase, table_size, Event, Move, Node, Outcome, Phase,
+    Refusal, Watcher, NO_TARGET,
 };
 
 const READERS: usize = 6;
 const PANELS: usize = 2;
 const TASKS: usize = READERS + PANELS;
-const TURNS: usize = 20_000;
+/// Turns before each restart. The first restart comes while a panel writes.
+const LEG: usize = 10_500;
+const TURNS: usize = 3 * LEG;
 const PIECES: usize = 4;
 const WORDS: usize = 8;
 /// Turns for which a reader waits for the mutex, at most.
 const HOLD_TURNS: usize = 16;
 /// Turns of a panel's rest after it wrote, at least.
 const PANEL_REST: usize = 100;
+
+type Table = [u8; table_size(TASKS as u16)];
 
 #[derive(Clone, Copy, Default)]
 struct Task {
@@ -51,10 +62,37 @@ struct Counts {
     holds: usize,
     timeouts: usize,
     torn: usize,
+    restarts_kept: usize,
+    restarts_afresh: usize,
+}
+
+/// What is kept over a warm restart: the lock, its watcher, and where each task
+/// is in its work, since a task must go on from the phase that the table says.
+struct Kept {
+    table: Table,
+    watcher: Watcher,
+    tasks: [Task; TASKS],
+}
+
+impl Kept {
+    /// The table comes back with every task in 3 or 4, and all else to match.
+    /// No list of moves leaves it: the task that backs off last does so while
+    /// another one, a writer, has set its flag.
+    fn damage(&mut self) {
+        self.table[1] = 0;
+        self.table[2] = NO_TARGET;
+        for number in 0..TASKS {
+            let bytes = match number % 2 {
+                0 => [Phase::BackOff as u8, 1, 0],
+                _ => [Phase::TryAgain as u8, 0, 0],
+            };
+            self.table[table_size(number as u16)..][..3].copy_from_slice(&bytes);
+        }
+    }
 }
 
 struct Executive {
-    table: [u8; table_size(TASKS as u16)],
+    table: Table,
     watcher: Watcher,
     tasks: [Task; TASKS],
     settings: [[u32; WORDS]; PIECES],
@@ -66,6 +104,9 @@ fn is_panel(number: usize) -> bool {
 }
 
 impl Executive {
+    /// A start with nothing kept: a fresh table, a new watch, every task at its
+    /// beginning, and the settings loaded anew, since a panel may have been cut
+    /// off while it wrote.
     fn new() -> Result<Executive, Refusal> {
         let mut table = [0; table_size(TASKS as u16)];
         fresh(TASKS as u16, &mut table)?;
@@ -201,15 +242,64 @@ impl Executive {
             false => Ok(()),
         }
     }
+
+    fn keep(&self) -> Kept {
+        Kept {
+            table: self.table,
+            watcher: self.watcher.clone(),
+            tasks: self.tasks,
+        }
+    }
+
+    /// A warm restart: of the lock and the tasks, only what was kept is there. Its
+    /// table is tested, which changes nothing; the tasks go on if it passes.
+    fn restart(&mut self, kept: Kept) -> Result<(), Refusal> {
+        let mut codes = [0; TASKS];
+        match nodes(&kept.table, &mut codes) {
+            Ok(_) => {
+                self.table = kept.table;
+                self.watcher = kept.watcher;
+                self.tasks = kept.tasks;
+                self.counts.restarts_kept += 1;
+                let sections = [Node::Shared as u8, Node::Exclusive as u8];
+                let inside = codes.iter().filter(|code| sections.contains(code)).count();
+                println!(
+                    "restart: the kept table passes, the tasks go on, {inside} of them inside"
+                );
+            }
+            Err(refusal) => {
+                let counts = take(&mut self.counts);
+                *self = Executive {
+                    counts,
+                    ..Executive::new()?
+                };
+                self.counts.restarts_afresh += 1;
+                let number = refusal as u8;
+                println!("restart: the kept table is refused by {number}, a fresh one is made");
+            }
+        }
+        Ok(())
+    }
+
+    fn run_turns(&mut self, count: usize) -> Result<(), Refusal> {
+        for _ in 0..count {
+            for number in 0..TASKS {
+                self.turn(number)?;
+            }
+        }
+        Ok(())
+    }
 }
 
 fn run() -> Result<Counts, Box<dyn Error>> {
     let mut executive = Executive::new()?;
-    for _ in 0..TURNS {
-        for number in 0..TASKS {
-            executive.turn(number)?;
-        }
-    }
+    executive.run_turns(LEG)?;
+    executive.restart(executive.keep())?;
+    executive.run_turns(LEG)?;
+    let mut kept = executive.keep();
+    kept.damage();
+    executive.restart(kept)?;
+    executive.run_turns(LEG)?;
     executive.finish()?;
     Ok(executive.counts)
 }
@@ -222,6 +312,8 @@ fn main() -> ExitCode {
         holds,
         timeouts,
         torn,
+        restarts_kept,
+        restarts_afresh,
     } = match run() {
         Ok(counts) => counts,
         Err(error) => {
@@ -233,6 +325,7 @@ fn main() -> ExitCode {
         "{TASKS} tasks, {TURNS} turns: {reads} reads, {writes} writes, \
          {waits} waits for the mutex, {holds} holds, {timeouts} timeouts, {torn} torn reads"
     );
-    let good = torn == 0 && reads > 0 && writes > 0 && holds > 0 && timeouts > 0;
+    let worked = reads > 0 && writes > 0 && holds > 0 && timeouts > 0;
+    let good = torn == 0 && worked && restarts_kept == 1 && restarts_afresh == 1;
     ExitCode::from(u8::from(!good))
 }
