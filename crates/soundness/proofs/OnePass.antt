@@ -9,17 +9,17 @@ use borrow.Author.Tests.{le-leb, lt-leb, ne-eqb}
 use lib.Dec.{T, leb, ltb, eqb}
 use Rattle.definitions.specs.Bounds.{lastPhase, noTarget}
 use Rattle.definitions.specs.Phases.{rows, holds, reading}
-use Rattle.definitions.specs.Sound.{phaseRule, flagRule, busyRule, holderRule, targetRule, openRule, rule10, rule11, rule13, rule15, mutexRule, opened, sound}
+use Rattle.definitions.specs.Sound.{phaseRule, flagRule, busyRule, holderRule, targetRule, openRule, rule10, rule11, rule13, rule15, elsewhereRule, mutexRule, opened, sound}
 use Rattle.definitions.specs.Table.{Table}
 use Rattle.definitions.specs.Threads.{gather, howMany, among, between, allOf, implies}
-use Rattle.soundness.specs.Pass.{tallyBelow, fitBelow, foundOf, mutexAgrees, aimFits, restFits, soundBy, aimOf, passes}
+use Rattle.soundness.specs.Pass.{tallyBelow, fitBelow, foundOf, mutexAgrees, someElsewhere, aimFits, restFits, soundBy, aimOf, passes}
 use Rattle.soundness.specs.declared.Aim.{Aim}
 use Rattle.soundness.specs.declared.Found.the-variants.{Good, Bad}
 use Rattle.soundness.specs.declared.Tally.{Tally}
 use Rattle.theory.proofs.Cases.{or-at, none-of, phasesWhere, holder-is-phase}
 use Rattle.theory.proofs.Tests.{and-cong, and-l, and-r}
 use Rattle.soundness.proofs.Holders.{Holders, none, one, many, holders}
-use Rattle.soundness.proofs.Rules.{each-fits, flags-of, mutex-is, target-is, open-is, is-10, is-11, is-13, is-15}
+use Rattle.soundness.proofs.Rules.{each-fits, flags-of, mutex-is, target-is, open-is, is-10, is-11, is-13, is-15, elsewhere-is}
 
 -- ---- the decision, by the sum of the holders' phases
 
@@ -37,10 +37,21 @@ each-at : (P : ℕ → Type 0) (x : ℕ) (ks : List ℕ) → Each P ks → T (am
 each-at P x [] h = none-of x
 each-at P x (k ∷ ks) h = or-at x k ks (λ e. subst P (sym e) (h .0)) (each-at P x ks (h .1))
 
+-- the last of eight rules is tried second
+last-second : (m t o a b c d e : Bool) → (m && (t && (o && (a && (b && (c && (d && (e && true)))))))) ≡ (m && (e && (t && (o && (a && (b && (c && (d && true))))))))
+last-second m t o a b c d true = refl
+last-second m t o a b c d false = simp and-false
+
 module _ (s : Table) where
   -- what is found of all threads, but for the sum
   abbrev tally : ℕ → Tally
-  tally h = record { holder = h; forbidden = tallyBelow s (s .threads) .forbidden; readers = tallyBelow s (s .threads) .readers }
+  tally h =
+      record {
+        holder = h;
+        forbidden = tallyBelow s (s .threads) .forbidden;
+        readers = tallyBelow s (s .threads) .readers;
+        «backed_off» = tallyBelow s (s .threads) .«backed_off»;
+      }
 
   -- the sum
   abbrev holder : ℕ
@@ -50,16 +61,17 @@ module _ (s : Table) where
   abbrev count : ℕ
   count = howMany (s .threads) (λ i. holds (s .phase i))
 
-  -- the rules on all threads together, by a sum h
+  -- the rules on all threads together, by a sum h, in the order of the decision
   abbrev by-rules : ℕ → Bool
   by-rules h =
       mutexAgrees (tally h) (s .mutex)
+      && (someElsewhere (tally h) (s .threads)
       && (cond (between 11 12 h) (ltb (s .target) (s .threads) && eqb (s .forbidden (s .target)) 1) (eqb (s .target) noTarget)
       && (implies (eqb h 0 || opened h) (eqb (tally h .forbidden) 0)
       && (implies (between 10 10 h) (ltb (tally h .forbidden) (s .threads) && eqb (tally h .readers) 0)
       && (implies (between 11 12 h) (eqb (tally h .readers) (cond (reading (s .phase (s .target))) 1 0))
       && (implies (between 13 14 h) (eqb (tally h .forbidden) (s .threads) && eqb (tally h .readers) 0)
-      && implies (between 15 15 h) (ltb 0 (tally h .forbidden)))))))
+      && implies (between 15 15 h) (ltb 0 (tally h .forbidden))))))))
 
   -- the decision
   abbrev by-sum : ℕ → Bool
@@ -70,14 +82,18 @@ module _ (s : Table) where
 
   same-none : Same 0
   unfolding soundBy restFits
-  same-none = simp and-true
+  same-none = simp (and-true, and-assoc)
 
   same-one : (h : ℕ) → T (holds h) → Same h
   unfolding soundBy restFits aimFits
   same-one h t =
       each-at Same h _ (
-        simp and-true,
-        (simp (and-true, and-assoc), (simp (and-true, and-assoc), (simp and-true, (simp and-true, (refl, (simp and-true, (simp and-true, tt))))))),
+        simp (and-true, and-assoc),
+        (simp (and-true, and-assoc),
+        (simp (and-true, and-assoc),
+        (simp (and-true, and-assoc),
+        (simp (and-true, and-assoc),
+        (simp and-assoc, (simp (and-true, and-assoc), (simp (and-true, and-assoc), tt))))))),
       ) (is-holder h t)
 
   -- several threads hold the mutex
@@ -99,18 +115,20 @@ module _ (s : Table) where
   -- ---- the rules of the definitions
 
   together : Bool
-  together = mutexRule s && (targetRule s && (openRule s && (rule10 s && (rule11 s && (rule13 s && (rule15 s && true))))))
+  together = mutexRule s && (targetRule s && (openRule s && (rule10 s && (rule11 s && (rule13 s && (rule15 s && (elsewhereRule s && true)))))))
 
   module _ (flags : (i : ℕ) → i < s .threads → s .forbidden i ≤ 1) where
     rule-by-rule : count ≤ 1 → together ≡ by-rules holder
     unfolding together
     rule-by-rule l =
-        and-cong _ _ _ _ (mutex-is s flags l) (λ _.
+        last-second (mutexRule s) (targetRule s) (openRule s) (rule10 s) (rule11 s) (rule13 s) (rule15 s) (elsewhereRule s)
+        ∙ and-cong _ _ _ _ (mutex-is s flags l) (λ _.
+        and-cong _ _ _ _ (elsewhere-is s) (λ _.
         and-cong _ _ _ _ (target-is s flags l) (λ aimed.
         and-cong _ _ _ _ (open-is s flags l) (λ _.
         and-cong _ _ _ _ (is-10 s flags l) (λ _.
         and-cong _ _ _ _ (is-11 s flags l aimed) (λ _.
-        and-cong _ _ _ _ (is-13 s flags l) (λ _. and-true (rule15 s) ∙ is-15 s flags l))))))
+        and-cong _ _ _ _ (is-13 s flags l) (λ _. and-true (rule15 s) ∙ is-15 s flags l)))))))
 
     all-threads : (holderRule s && together) ≡ by-sum holder
     unfolding holderRule
@@ -127,7 +145,7 @@ module _ (s : Table) where
   -- the target's bytes are asked for where it is a thread
   aim-same : soundBy (tallyBelow s (s .threads)) (s .threads) (s .mutex) (s .target) (aimOf s) ≡ by-sum holder
   unfolding soundBy aimOf
-  aim-same = ap (λ (x : Bool). mutexAgrees (tally holder) (s .mutex) && cond (between 11 12 holder) x unaimed) (by (ltb (s .target) (s .threads)) _ _)
+  aim-same = ap (λ (x : Bool). mutexAgrees (tally holder) (s .mutex) && someElsewhere (tally holder) (s .threads) && cond (between 11 12 holder) x unaimed) (by (ltb (s .target) (s .threads)) _ _)
     where
       unaimed : Bool
       unaimed = eqb (s .target) noTarget && restFits (tally holder) (s .threads)

@@ -10,10 +10,10 @@ use borrow.Author.Tests.{eq-eqb, ne-eqb, lt-ltb, le-ltb}
 use lib.Dec.{T, leb, ltb, eqb, leb→le, eqb→eq, ltb→lt}
 use Rattle.definitions.specs.Bounds.{lastPhase, noTarget}
 use Rattle.definitions.specs.Phases.{rows, busyIn, holds, reading}
-use Rattle.definitions.specs.Sound.{anyHolder, holderIn, opened, holderOpened, phaseRule, flagRule, busyRule, mutexRule, targetRule, openRule, rule10, rule11, rule13, rule15}
+use Rattle.definitions.specs.Sound.{anyHolder, holderIn, opened, holderOpened, phaseRule, flagRule, busyRule, mutexRule, targetRule, openRule, rule10, rule11, rule13, rule15, backedOff, elsewhereRule}
 use Rattle.definitions.specs.Table.{Table}
 use Rattle.definitions.specs.Threads.{every, some, howMany, between, implies}
-use Rattle.soundness.specs.Pass.{threadFits, forbiddenReader, tallyBelow, fitBelow, mutexAgrees}
+use Rattle.soundness.specs.Pass.{threadFits, forbiddenReader, tallyBelow, fitBelow, mutexAgrees, someElsewhere}
 use Rattle.soundness.specs.declared.Tally.{Tally}
 use Rattle.theory.proofs.Quantifiers.{every-at, every-i, every-same, howMany-most, some-howMany}
 use Rattle.theory.proofs.Stages.{range-holds, opened-holds}
@@ -98,6 +98,12 @@ exactly true mutex = simp (and-true, and-false, or-false)
 exactly false mutex = simp (and-true, and-false)
 
 -- ---- all threads together
+
+pub elsewhere-is : (s : Table) → elsewhereRule s ≡ someElsewhere (tallyBelow s (s .threads)) (s .threads)
+unfolding elsewhereRule
+elsewhere-is s =
+    ap not (every-count (s .threads) (λ i. backedOff (s .phase i)))
+    ∙ not-all (tallyBelow s (s .threads) .«backed_off») (s .threads) (howMany-most _ (s .threads))
 
 module _ (s : Table)
     (flags : (i : ℕ) → i < s .threads → s .forbidden i ≤ 1)

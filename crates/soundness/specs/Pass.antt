@@ -7,7 +7,7 @@ use mathlib.Core.Bool.{Bool, false, cond, not, _&&_, _||_}
 use lib.Dec.{leb, ltb, eqb}
 use Rattle.definitions.specs.Bounds.{lastPhase, noTarget}
 use Rattle.definitions.specs.Phases.{busyIn, holds, reading}
-use Rattle.definitions.specs.Sound.{opened}
+use Rattle.definitions.specs.Sound.{opened, backedOff}
 use Rattle.definitions.specs.Table.{Table}
 use Rattle.definitions.specs.Threads.{every, howMany, between}
 use Rattle.soundness.specs.declared.Aim.{Aim}
@@ -30,9 +30,15 @@ forbiddenReader phase forbidden = eqb forbidden 1 && reading phase
 abbrev pub holderPhase : ℕ → ℕ
 holderPhase phase = cond (holds phase) phase 0
 
--- what a phase tells of its thread: its busy byte, with 256 for no phase, a holder's phase, and whether it reads
+-- what a phase tells of its thread: its busy byte, with 256 for no phase, a holder's phase, whether it reads, and whether it is one of 3, 4 and 18
 unfoldable pub tallyRow : ℕ → TallyRow
-tallyRow phase = record { 0 = cond (leb phase lastPhase) (busyIn phase) 256; 1 = holderPhase phase; 2 = cond (reading phase) 1 0 }
+tallyRow phase =
+    record {
+      0 = cond (leb phase lastPhase) (busyIn phase) 256;
+      1 = holderPhase phase;
+      2 = cond (reading phase) 1 0;
+      3 = cond (backedOff phase) 1 0;
+    }
 
 -- ---- the pass
 
@@ -48,6 +54,7 @@ tallyBelow s i =
       holder = total i (λ j. holderPhase (s .phase j));
       forbidden = howMany i (λ j. eqb (s .forbidden j) 1);
       readers = howMany i (λ j. forbiddenReader (s .phase j) (s .forbidden j));
+      «backed_off» = howMany i (λ j. backedOff (s .phase j));
     }
 
 -- the threads below i pass them
@@ -60,7 +67,7 @@ foundOf s i = cond (fitBelow s i) (Good (tallyBelow s i)) Bad
 
 -- of no thread
 abbrev pub nobody : Tally
-nobody = record { holder = 0; forbidden = 0; readers = 0 }
+nobody = record { holder = 0; forbidden = 0; readers = 0; «backed_off» = 0 }
 
 -- with one more thread
 unfoldable pub withThread : Tally → ℕ → ℕ → ℕ → Found
@@ -71,6 +78,7 @@ withThread t phase busy forbidden =
       holder = t .holder + holderPhase phase;
       forbidden = t .forbidden + cond (eqb forbidden 1) 1 0;
       readers = t .readers + cond (forbiddenReader phase forbidden) 1 0;
+      «backed_off» = t .«backed_off» + cond (backedOff phase) 1 0;
     }))
     Bad
 
@@ -79,12 +87,17 @@ pub record TallyRoom (t : Tally) : Type 0 where
   pub holder : t .holder < 65536
   pub forbidden : t .forbidden < 256
   pub readers : t .readers < 256
+  pub backedOff : t .«backed_off» < 256
 
 -- ---- the decision
 
 -- "the mutex is 1 exactly if there is one"
 abbrev pub mutexAgrees : Tally → ℕ → Bool
 mutexAgrees t mutex = eqb mutex 1 && not (eqb (t .holder) 0) || eqb mutex 0 && not (not (eqb (t .holder) 0))
+
+-- "not every thread is in phases 3, 4 and 18" (02 §6)
+abbrev pub someElsewhere : Tally → ℕ → Bool
+someElsewhere t n = ltb (t .«backed_off») n
 
 -- a holder in 11 or 12: the target's forbidden is 1, and "no thread with forbidden 1, the target excepted, is in 5 to 7."
 unfoldable pub aimFits : Tally → Aim → Bool
@@ -109,6 +122,7 @@ restFits t n =
 unfoldable pub soundBy : Tally → ℕ → ℕ → ℕ → Aim → Bool
 soundBy t n mutex target aim =
     mutexAgrees t mutex
+    && someElsewhere t n
     && cond (between 11 12 (t .holder)) (ltb target n && aimFits t aim) (eqb target noTarget && restFits t n)
 
 -- the target's bytes; where the target is no thread, 0 and 0

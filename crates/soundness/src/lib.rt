@@ -2,7 +2,7 @@
 // It knows of no storage. proofs/OnePass.antt shows that it decides the rules of the definitions.
 use definitions::NO_TARGET;
 ghost use mathlib.Core.Path.{_≡_};
-ghost use Rattle.soundness.specs.Pass.{TallyRoom, nobody, tallyRow, withThread, mutexAgrees, aimFits, restFits, soundBy};
+ghost use Rattle.soundness.specs.Pass.{TallyRoom, nobody, tallyRow, withThread, mutexAgrees, someElsewhere, aimFits, restFits, soundBy};
 
 // What one pass finds of threads that pass the rules on one thread by itself.
 pub struct Tally {
@@ -13,6 +13,8 @@ pub struct Tally {
     pub forbidden: usize,
     // How many of their threads are in 5 to 7.
     pub readers: usize,
+    // How many threads are in 3, 4 and 18.
+    pub backed_off: usize,
 }
 
 // What is found; Bad where a thread fails those rules.
@@ -29,38 +31,39 @@ pub fn no_threads() -> Tally
         holder: 0,
         forbidden: 0,
         readers: 0,
+        backed_off: 0,
     }
 }
 
 // What a phase tells of its thread: the busy byte, with 256 for a number that is no phase; the phase itself where its
-// thread holds the mutex, else 0; 1 in 5 to 7, else 0.
-struct TallyRow(u16, usize, usize);
+// thread holds the mutex, else 0; 1 in 5 to 7, else 0; 1 in 3, 4 and 18, else 0.
+struct TallyRow(u16, usize, usize, usize);
 
 // Rows of constants: they are compiled to tables, which take half the time of comparisons.
 fn row_of(phase: u8) -> TallyRow
     ensures { λ r. ⌜ r ≡ tallyRow phase ⌝ }
 {
     match phase {
-        0 => TallyRow(0, 0, 0),
-        1 => TallyRow(0, 0, 0),
-        2 => TallyRow(1, 0, 0),
-        3 => TallyRow(1, 0, 0),
-        4 => TallyRow(0, 0, 0),
-        5 => TallyRow(1, 0, 1),
-        6 => TallyRow(1, 0, 1),
-        7 => TallyRow(1, 0, 1),
-        8 => TallyRow(0, 0, 0),
-        9 => TallyRow(0, 0, 0),
-        10 => TallyRow(0, 10, 0),
-        11 => TallyRow(0, 11, 0),
-        12 => TallyRow(0, 12, 0),
-        13 => TallyRow(0, 13, 0),
-        14 => TallyRow(0, 14, 0),
-        15 => TallyRow(0, 15, 0),
-        16 => TallyRow(0, 16, 0),
-        17 => TallyRow(0, 0, 0),
-        18 => TallyRow(0, 18, 0),
-        _ => TallyRow(256, 0, 0),
+        0 => TallyRow(0, 0, 0, 0),
+        1 => TallyRow(0, 0, 0, 0),
+        2 => TallyRow(1, 0, 0, 0),
+        3 => TallyRow(1, 0, 0, 1),
+        4 => TallyRow(0, 0, 0, 1),
+        5 => TallyRow(1, 0, 1, 0),
+        6 => TallyRow(1, 0, 1, 0),
+        7 => TallyRow(1, 0, 1, 0),
+        8 => TallyRow(0, 0, 0, 0),
+        9 => TallyRow(0, 0, 0, 0),
+        10 => TallyRow(0, 10, 0, 0),
+        11 => TallyRow(0, 11, 0, 0),
+        12 => TallyRow(0, 12, 0, 0),
+        13 => TallyRow(0, 13, 0, 0),
+        14 => TallyRow(0, 14, 0, 0),
+        15 => TallyRow(0, 15, 0, 0),
+        16 => TallyRow(0, 16, 0, 0),
+        17 => TallyRow(0, 0, 0, 0),
+        18 => TallyRow(0, 18, 0, 1),
+        _ => TallyRow(256, 0, 0, 0),
     }
 }
 
@@ -69,7 +72,7 @@ pub fn add_thread(t: Tally, phase: u8, busy: u8, forbidden: u8) -> Found
     requires { ⌜ TallyRoom t ⌝ }
     ensures { λ r. ⌜ r ≡ withThread t phase busy forbidden ⌝ }
 {
-    let TallyRow(expected, holder, reading) = row_of(phase);
+    let TallyRow(expected, holder, reading, backed) = row_of(phase);
     let fits = (busy as u16 == expected) & (forbidden <= 1);
     if !fits {
         return Found::Bad;
@@ -78,10 +81,12 @@ pub fn add_thread(t: Tally, phase: u8, busy: u8, forbidden: u8) -> Found
     let sum = t.holder + holder;
     let flags = t.forbidden + flag;
     let readers = t.readers + flag * reading;
+    let backed_off = t.backed_off + backed;
     Found::Good(Tally {
         holder: sum,
         forbidden: flags,
         readers,
+        backed_off,
     })
 }
 
@@ -91,6 +96,13 @@ fn mutex_agrees(t: Tally, mutex: u8) -> bool
 {
     let taken = t.holder != 0;
     ((mutex == 1) & taken) | ((mutex == 0) & !taken)
+}
+
+// "not every thread is in phases 3, 4 and 18" (02 §6)
+fn some_elsewhere(t: Tally, threads: usize) -> bool
+    ensures { λ r. ⌜ r ≡ someElsewhere t threads ⌝ }
+{
+    t.backed_off < threads
 }
 
 // The target's phase and forbidden; where the target is no thread, 0 and 0.
@@ -103,7 +115,7 @@ pub struct Aim {
 fn aim_fits(t: Tally, aim: Aim) -> bool
     ensures { λ r. ⌜ r ≡ aimFits t aim ⌝ }
 {
-    let TallyRow(_, _, reading) = row_of(aim.phase);
+    let TallyRow(_, _, reading, _) = row_of(aim.phase);
     (aim.forbidden == 1) & (t.readers == reading)
 }
 
@@ -128,7 +140,7 @@ fn rest_fits(t: Tally, threads: usize) -> bool
 pub fn is_sound(t: Tally, threads: usize, mutex: u8, target: u8, aim: Aim) -> bool
     ensures { λ r. ⌜ r ≡ soundBy t threads mutex target aim ⌝ }
 {
-    if !mutex_agrees(t, mutex) {
+    if !(mutex_agrees(t, mutex) & some_elsewhere(t, threads)) {
         return false;
     }
     if (11 <= t.holder) & (t.holder <= 12) {

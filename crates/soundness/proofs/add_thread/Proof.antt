@@ -8,6 +8,7 @@ use borrow.Author.Tests.{not-true, not-false, ne-eqb}
 use lib.Dec.{leb, eqb, leb→le}
 use Rattle.definitions.specs.Bounds.{lastPhase}
 use Rattle.definitions.specs.Phases.{busyIn, holds, reading}
+use Rattle.definitions.specs.Sound.{backedOff}
 use Rattle.soundness.specs.Pass.{threadFits, holderPhase, tallyRow, withThread}
 use Rattle.soundness.specs.declared.Found.the-variants.{Good, Bad}
 use Rattle.soundness.specs.declared.Tally.{Tally}
@@ -63,6 +64,11 @@ module _ (t : Tally) (phase busy forbidden : ℕ) (r : TallyRow) (row : r ≡ ta
   unfolding tallyRow
   sum h = subst (λ (x : TallyRow). x .1 < 256) (sym row) (small (holds phase) phase h)
 
+  -- the count fits
+  count : r .3 ≤ 1
+  unfolding tallyRow
+  count = subst (λ (x : TallyRow). x .3 ≤ 1) (sym row) (low (backedOff phase))
+
   module _ (h : (eqb busy (r .0) && leb forbidden 1) ≡ true) where
     is-flag : forbidden ≤ 1
     is-flag = leb→le forbidden 1 (and-r (eqb busy (r .0)) (leb forbidden 1) (true-T _ h))
@@ -74,16 +80,20 @@ module _ (t : Tally) (phase busy forbidden : ℕ) (r : TallyRow) (row : r ≡ ta
         subst (λ (x : TallyRow). forbidden * x .2 ≤ 1) (sym row)
         (subst (λ (k : ℕ). k ≤ 1) (sym (both (reading phase) forbidden is-flag)) (low (eqb forbidden 1 && reading phase)))
 
-    abbrev with : ℕ → ℕ → ℕ → Tally
-    with holder flag reader = record { holder = t .holder + holder; forbidden = t .forbidden + flag; readers = t .readers + reader }
+    abbrev with : ℕ → ℕ → ℕ → ℕ → Tally
+    with holder flag reader backed =
+        record { holder = t .holder + holder; forbidden = t .forbidden + flag; readers = t .readers + reader; «backed_off» = t .«backed_off» + backed }
 
-    accepted : Good (with (r .1) forbidden (forbidden * r .2)) ≡ withThread t phase busy forbidden
+    accepted : Good (with (r .1) forbidden (forbidden * r .2) (r .3)) ≡ withThread t phase busy forbidden
     unfolding withThread tallyRow
     accepted =
-        ap (λ (x : TallyRow). Good (with (x .1) forbidden (forbidden * x .2))) row
-        ∙ ap (λ (k : ℕ). Good (with (holderPhase phase) k (forbidden * cond (reading phase) 1 0))) (one forbidden is-flag)
-        ∙ ap (λ (k : ℕ). Good (with (holderPhase phase) (cond (eqb forbidden 1) 1 0) k)) (both (reading phase) forbidden is-flag)
+        ap (λ (x : TallyRow). Good (with (x .1) forbidden (forbidden * x .2) (x .3))) row
+        ∙ ap (λ (k : ℕ). Good (with (holderPhase phase) k (forbidden * cond (reading phase) 1 0) backed)) (one forbidden is-flag)
+        ∙ ap (λ (k : ℕ). Good (with (holderPhase phase) (cond (eqb forbidden 1) 1 0) k backed)) (both (reading phase) forbidden is-flag)
         ∙ simp (sym same ∙ h)
+      where
+        backed : ℕ
+        backed = cond (backedOff phase) 1 0
 
 row-of-requires : tie.Need-row-of-requires
 row-of-requires c κs = search needs
@@ -118,12 +128,19 @@ add-readers c =
     let left = c .before .before .before in
     omega (arith, left .before .before .pre .readers, fits left)
 
+add-backed-off : tie.Need-add-backed-off
+add-backed-off c =
+    let left = c .before .before .before .before in
+    let row = left .before .row-of in
+    let a = left .before .before .args in
+    omega (arith, left .before .before .pre .backedOff, count (a .t) (a .phase) (a .busy) (a .forbidden) (row .result) (row .ensures) (omega arith))
+
 returns-2 : tie.Need-returns-2
 returns-2 c =
-    let left = c .before .before .before in
+    let left = c .before .before .before .before in
     let row = left .before .row-of in
     let a = left .before .before .args in
     accepted (a .t) (a .phase) (a .busy) (a .forbidden) (row .result) (row .ensures) (omega arith) (not-false _ (left .if1 .left))
 
 pub add-thread-spec : {M : Type 1} → statement M
-add-thread-spec = tie.close (tie.spec row-of-requires returns add-sum add-flags mul-readers add-readers returns-2)
+add-thread-spec = tie.close (tie.spec row-of-requires returns add-sum add-flags mul-readers add-readers add-backed-off returns-2)

@@ -1,10 +1,13 @@
 -- `row_of` meets its contract: an arm is a row of the definition; past the last phase there is no busy byte.
 use Prim.Native.Nat.{ℕ, _<_}
-use mathlib.Core.Bool.{Bool, false, cond}
+use native.Mathlib.Omega.{arith}
+use mathlib.Core.Bool.{cond, _||_}
 use mathlib.Core.Path.{_≡_, refl, sym, ap, _∙_}
-use borrow.Author.Tests.{lt-leb}
+use borrow.Author.Tests.{lt-leb, ne-eqb}
+use lib.Dec.{leb}
 use Rattle.definitions.specs.Bounds.{lastPhase}
 use Rattle.definitions.specs.Phases.{Row, rows, rowOf}
+use Rattle.definitions.specs.Sound.{backedOff}
 use Rattle.soundness.specs.Pass.{tallyRow}
 use Rattle.soundness.specs.declared.TallyRow.{TallyRow}
 use Rattle.theory.proofs.Cases.{no-row}
@@ -17,13 +20,21 @@ at : {phase : ℕ} {r : TallyRow} (k : ℕ) → phase ≡ k → r ≡ tallyRow k
 at k e h = h ∙ ap tallyRow (sym e)
 
 -- a number that is no phase
-abbrev by : ℕ → Bool → Row → TallyRow
-by phase known row = record { 0 = cond known (row .busy) 256; 1 = cond (row .holder) phase 0; 2 = cond (row .reader) 1 0 }
+abbrev by : ℕ → Row → TallyRow
+by phase row =
+    record { 0 = cond (leb phase lastPhase) (row .busy) 256; 1 = cond (row .holder) phase 0; 2 = cond (row .reader) 1 0; 3 = cond (backedOff phase) 1 0 }
 
-past : (phase : ℕ) → lastPhase < phase → record { 0 = 256; 1 = 0; 2 = 0 } ≡ tallyRow phase
+past : (phase : ℕ) → lastPhase < phase → record { 0 = 256; 1 = 0; 2 = 0; 3 = 0 } ≡ tallyRow phase
 unfolding tallyRow
 past phase h =
-    sym (ap (λ (known : Bool). by phase known (rowOf phase)) (lt-leb phase lastPhase h) ∙ ap (by phase false) (no-row phase h))
+    sym
+    (ap (by phase) (no-row phase h)
+    ∙ simp (
+      lt-leb phase lastPhase h,
+      ne-eqb phase 3 (λ e. omega arith),
+      ne-eqb phase 4 (λ e. omega arith),
+      ne-eqb phase 18 (λ e. omega arith),
+    ))
 
 pub row-of-spec : {M : Type 1} → statement M
 unfolding tallyRow rows

@@ -37,6 +37,7 @@ room s i l =
       holder = omega (arith, total-le i (s .phase));
       forbidden = lt-of-le-of-lt (howMany-most _ i) l;
       readers = lt-of-le-of-lt (howMany-most _ i) l;
+      backedOff = lt-of-le-of-lt (howMany-most _ i) l;
     }
 
 -- the threads passed fit, and are tallied
