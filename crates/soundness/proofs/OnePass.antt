@@ -38,8 +38,8 @@ each-at P x [] h = none-of x
 each-at P x (k ∷ ks) h = or-at x k ks (λ e. subst P (sym e) (h .0)) (each-at P x ks (h .1))
 
 -- the last of eight rules is tried second
-last-second : (m t o a b c d e : Bool) → (m && (t && (o && (a && (b && (c && (d && (e && true)))))))) ≡ (m && (e && (t && (o && (a && (b && (c && (d && true))))))))
-last-second m t o a b c d true = refl
+last-second : (m t o a b c d e : Bool) → (m && (t && (o && (a && (b && (c && (d && (e && true)))))))) ≡ (m && e && (t && (o && (a && (b && (c && d))))))
+last-second m t o a b c d true = simp and-true
 last-second m t o a b c d false = simp and-false
 
 module _ (s : Table) where
@@ -65,13 +65,13 @@ module _ (s : Table) where
   abbrev by-rules : ℕ → Bool
   by-rules h =
       mutexAgrees (tally h) (s .mutex)
-      && (someElsewhere (tally h) (s .threads)
+      && someElsewhere (tally h) (s .threads)
       && (cond (between 11 12 h) (ltb (s .target) (s .threads) && eqb (s .forbidden (s .target)) 1) (eqb (s .target) noTarget)
       && (implies (eqb h 0 || opened h) (eqb (tally h .forbidden) 0)
       && (implies (between 10 10 h) (ltb (tally h .forbidden) (s .threads) && eqb (tally h .readers) 0)
       && (implies (between 11 12 h) (eqb (tally h .readers) (cond (reading (s .phase (s .target))) 1 0))
       && (implies (between 13 14 h) (eqb (tally h .forbidden) (s .threads) && eqb (tally h .readers) 0)
-      && implies (between 15 15 h) (ltb 0 (tally h .forbidden))))))))
+      && implies (between 15 15 h) (ltb 0 (tally h .forbidden)))))))
 
   -- the decision
   abbrev by-sum : ℕ → Bool
@@ -82,18 +82,14 @@ module _ (s : Table) where
 
   same-none : Same 0
   unfolding soundBy restFits
-  same-none = simp (and-true, and-assoc)
+  same-none = simp and-true
 
   same-one : (h : ℕ) → T (holds h) → Same h
   unfolding soundBy restFits aimFits
   same-one h t =
       each-at Same h _ (
-        simp (and-true, and-assoc),
-        (simp (and-true, and-assoc),
-        (simp (and-true, and-assoc),
-        (simp (and-true, and-assoc),
-        (simp (and-true, and-assoc),
-        (simp and-assoc, (simp (and-true, and-assoc), (simp (and-true, and-assoc), tt))))))),
+        simp and-true,
+        (simp (and-true, and-assoc), (simp (and-true, and-assoc), (simp and-true, (simp and-true, (refl, (simp and-true, (simp and-true, tt))))))),
       ) (is-holder h t)
 
   -- several threads hold the mutex
@@ -122,13 +118,12 @@ module _ (s : Table) where
     unfolding together
     rule-by-rule l =
         last-second (mutexRule s) (targetRule s) (openRule s) (rule10 s) (rule11 s) (rule13 s) (rule15 s) (elsewhereRule s)
-        ∙ and-cong _ _ _ _ (mutex-is s flags l) (λ _.
-        and-cong _ _ _ _ (elsewhere-is s) (λ _.
+        ∙ and-cong _ _ _ _ (and-cong _ _ _ _ (mutex-is s flags l) (λ _. elsewhere-is s)) (λ _.
         and-cong _ _ _ _ (target-is s flags l) (λ aimed.
         and-cong _ _ _ _ (open-is s flags l) (λ _.
         and-cong _ _ _ _ (is-10 s flags l) (λ _.
         and-cong _ _ _ _ (is-11 s flags l aimed) (λ _.
-        and-cong _ _ _ _ (is-13 s flags l) (λ _. and-true (rule15 s) ∙ is-15 s flags l)))))))
+        and-cong _ _ _ _ (is-13 s flags l) (λ _. is-15 s flags l))))))
 
     all-threads : (holderRule s && together) ≡ by-sum holder
     unfolding holderRule
@@ -145,8 +140,11 @@ module _ (s : Table) where
   -- the target's bytes are asked for where it is a thread
   aim-same : soundBy (tallyBelow s (s .threads)) (s .threads) (s .mutex) (s .target) (aimOf s) ≡ by-sum holder
   unfolding soundBy aimOf
-  aim-same = ap (λ (x : Bool). mutexAgrees (tally holder) (s .mutex) && someElsewhere (tally holder) (s .threads) && cond (between 11 12 holder) x unaimed) (by (ltb (s .target) (s .threads)) _ _)
+  aim-same = ap (λ (x : Bool). before && cond (between 11 12 holder) x unaimed) (by (ltb (s .target) (s .threads)) _ _)
     where
+      before : Bool
+      before = mutexAgrees (tally holder) (s .mutex) && someElsewhere (tally holder) (s .threads)
+
       unaimed : Bool
       unaimed = eqb (s .target) noTarget && restFits (tally holder) (s .threads)
 

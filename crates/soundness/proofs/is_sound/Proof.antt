@@ -1,6 +1,5 @@
 -- `is_sound` meets its contract: each return rewrites with the tests that led there and with what its parts answer.
-use Prim.Native.Nat.{ℕ}
-use mathlib.Core.Bool.{Bool, _&&_}
+use mathlib.Core.Bool.{_&&_}
 use mathlib.Core.Path.{_≡_, _∙_}
 use borrow.Author.Needs.{needs}
 use borrow.Author.Tests.{not-true, not-false}
@@ -15,12 +14,13 @@ mutex-agrees-requires c κs = search needs
 some-elsewhere-requires : tie.Need-some-elsewhere-requires
 some-elsewhere-requires c κs = search needs
 
--- the first test, of the mutex and of the threads elsewhere
+-- the first test by what its two parts answer
 module _ (c : tie.After-some-elsewhere) where
   abbrev t : Tally
   t = c .before .before .args .t
 
-  first : (mutexAgrees t (c .before .before .args .mutex) && someElsewhere t (c .before .before .args .threads)) ≡ (c .before .mutex-agrees .result && c .some-elsewhere .result)
+  first : (mutexAgrees t (c .before .before .args .mutex) && someElsewhere t (c .before .before .args .threads))
+      ≡ (c .before .mutex-agrees .result && c .some-elsewhere .result)
   first = cc (c .before .mutex-agrees .ensures, c .some-elsewhere .ensures)
 
 returns : tie.Need-returns

@@ -1,12 +1,12 @@
 -- `row_of` meets its contract: an arm is a row of the definition; past the last phase there is no busy byte.
 use Prim.Native.Nat.{ℕ, _<_}
 use native.Mathlib.Omega.{arith}
-use mathlib.Core.Bool.{cond, _||_}
+use mathlib.Core.Bool.{cond}
 use mathlib.Core.Path.{_≡_, refl, sym, ap, _∙_}
 use borrow.Author.Tests.{lt-leb, ne-eqb}
 use lib.Dec.{leb}
 use Rattle.definitions.specs.Bounds.{lastPhase}
-use Rattle.definitions.specs.Phases.{Row, rows, rowOf}
+use Rattle.definitions.specs.Phases.{Row, rows}
 use Rattle.definitions.specs.Sound.{backedOff}
 use Rattle.soundness.specs.Pass.{tallyRow}
 use Rattle.soundness.specs.declared.TallyRow.{TallyRow}
