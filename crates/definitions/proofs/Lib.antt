@@ -1,7 +1,8 @@
--- The marked examples of the scope paper, and examples of 02 §1 to §5.
+-- The marked examples of the scope paper, and examples of 02 §1 to §6.
 pub mod Marked
 pub mod Waiting
 pub mod Watching
 pub mod Writing
 pub mod Measuring
 pub mod Noting
+pub mod Restarting

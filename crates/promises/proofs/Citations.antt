@@ -2,6 +2,7 @@
 use mathlib.Core.Path.{sym}
 use Rattle.definitions.specs.Table.{tableOf}
 use Rattle.promises.specs.Promises.{Promises}
+use Rattle.completeness.proofs.Completeness as completeness
 use Rattle.forms.proofs.Spelling as spelled
 use Rattle.orders.proofs.EveryOrder as orders
 use Rattle.plan_lengths.proofs.Longest as long
@@ -90,6 +91,10 @@ proved =
       fresh-sound = kept.fresh-table-sound;
       sound-kept = kept.sound-kept;
       accepted-sound = kept.accepted-sound;
+      complete = completeness.complete;
+      move-refused = completeness.move-refused;
+      nodes-refused = completeness.nodes-refused;
+      open-refused = completeness.open-refused;
       figure-1 = figure.figure-1;
       one-pass = one-pass;
       discipline = discipline.discipline;

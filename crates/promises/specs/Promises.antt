@@ -20,7 +20,7 @@ use Rattle.definitions.specs.Plan.{plan, bytesOf, planEntry, planLengthReply}
 use Rattle.definitions.specs.Run.{eventLines, stepsLine, refusedLine, runOutputOf, runEntry, programOutput}
 use Rattle.definitions.specs.Scripts.{scriptOf, writeEntry, Listed, requestsIn, threadsOf, moveLines, readingReply, readEntry}
 use Rattle.definitions.specs.Sound.{sound}
-use Rattle.definitions.specs.Table.{Table, Storage, itself, byteTable, tableOf, size, fresh, freshEntry, phaseAt, busyAt}
+use Rattle.definitions.specs.Table.{Table, Storage, itself, byteTable, tableOf, size, sized, fresh, freshEntry, phaseAt, busyAt}
 use Rattle.definitions.specs.Texts.{bytes, linesOf}
 use Rattle.definitions.specs.Threads.{howMany, among}
 use Rattle.definitions.specs.Watch.{recordOf, started, consistent, watchedReply, insideReply, questionReply, watchReplies, watchRecord}
@@ -31,6 +31,7 @@ use Rattle.definitions.specs.declared.Reading.{Reading}
 use Rattle.definitions.specs.declared.Request.{Request}
 use Rattle.definitions.specs.declared.Watched.{Watched}
 use Rattle.definitions.specs.declared.Watcher.{Watcher}
+use Rattle.completeness.specs.Reached.{Reached}
 use Rattle.forms.specs.Grammar.{numberBound, Spellable, Spells}
 use Rattle.orders.specs.Histories.{mostEvents, pairOf, historyBytes, AllBytes, Passes, FirstBad, Makes}
 use Rattle.orders.specs.Rounds.{placesOf}
@@ -131,6 +132,14 @@ pub record Promises (M : Type 1) : Type 2 where
   pub fresh-sound : (n : ℕ) → 1 ≤ n → n ≤ mostThreads → SoundBytes (fresh n)
   pub sound-kept : (table : List ℕ) (r : Request) → SoundBytes table → SoundBytes (moveTable table r)
   pub accepted-sound : (table : List ℕ) (r : Request) → T (acceptsIn byteTable table r) → SoundBytes table × SoundBytes (moveTable table r)
+  -- The sound tables are exactly those that requests leave: bytes have the size for N and are sound if and only if requests of 16 bits, all accepted, leave them from the fresh table for N.
+  pub complete : (n : ℕ) → 1 ≤ n → n ≤ mostThreads → (table : List ℕ)
+      → (T (sized table) × (tableOf table .threads ≡ n) × T (sound (tableOf table))) ↔ Reached n table
+  -- So an entry that is lent a table refuses it by 2 exactly if it has the right size and no such requests leave it.
+  pub move-refused : (table : List ℕ) (r : Request) → (moveReply table r ≡ refused 2 0) ↔ (T (sized table) × (Reached (tableOf table .threads) table → ⊥))
+  pub nodes-refused : (table out : List ℕ) → (deliveryReply (nodesEntry table) out ≡ refused 2 0) ↔ (T (sized table) × (Reached (tableOf table .threads) table → ⊥))
+  pub open-refused : (table : List ℕ) (thread : ℕ) (out : List ℕ)
+      → (deliveryReply (openEntry table thread) out ≡ refused 2 0) ↔ (T (sized table) × (Reached (tableOf table .threads) table → ⊥))
   -- From outside: an accepted request keeps every task in its node or takes one along one arrow of Figure 1, its condition met.
   pub figure-1 : (table : List ℕ) (r : Request) → T (acceptsIn byteTable table r) → OutsideView table r
   -- The soundness test makes one pass over the threads: what it decides is `sound`.
