@@ -1,5 +1,6 @@
 // The examples of the scope paper that are not marked, through the compiled entries; those on the depth of a note also for
-// the entry that reads a script (02 §5). The gate holds what this prints to the file stdout.
+// the entry that reads a script (02 §5); and tables that nothing could have left behind (02 §6). The gate holds what this
+// prints to the file stdout.
 use example_lines::say;
 use example_lines::say_answer;
 use example_lines::say_bytes;
@@ -23,6 +24,16 @@ fn tables() {
     let answer = wospinzo::wospinzo_fresh(201, &mut most);
     say_answer(b"N of 201", answer);
     say(b"\n");
+}
+
+// A table that no moves leave, every thread in 3, 4 and 18, and one that they leave, with a thread elsewhere.
+fn kept_tables() {
+    let mut backed_off = [2, 0, 255, 3, 1, 0, 4, 0, 0];
+    show_move(b"both in 3 and 4", &mut backed_off, 0, 0, 0);
+    let mut at_mutex = [2, 1, 255, 18, 0, 0, 4, 0, 0];
+    show_move(b"both in 18 and 4", &mut at_mutex, 0, 0, 0);
+    let mut elsewhere = [2, 0, 255, 3, 1, 0, 9, 0, 0];
+    show_move(b"one in 3, one in 9", &mut elsewhere, 0, 0, 0);
 }
 
 fn show_run(name: &[u8], script: &[u8]) {
@@ -69,6 +80,7 @@ fn long_history(name: &[u8], length: usize)
 
 fn main() {
     tables();
+    kept_tables();
     scripts();
     long_history(b"60,000 bytes", 60_000);
     long_history(b"60,002 bytes", 60_002);
