@@ -5,7 +5,7 @@ use native.Mathlib.Omega.{arith}
 use mathlib.Core.Bool.{Bool, true, false, cond, not, _&&_, _||_}
 use mathlib.Core.List.{List, [], _∷_}
 use mathlib.Core.Logic.{_⊎_, inl, inr, ⊎-elim}
-use mathlib.Core.Path.{_≡_, refl, sym, subst, ap, _∙_}
+use mathlib.Core.Path.{_≡_, refl, sym, subst, _∙_}
 use lib.Dec.{T, eqb, eqb→eq}
 use Rattle.definitions.specs.Bounds.{lastPhase, lastMove}
 use Rattle.definitions.specs.Codes.{go, callShared, callExclusive}
@@ -89,29 +89,19 @@ module _ (s : Table) (z : Sound s) (i : ℕ) (l : i < s .threads) where
 
   -- ---- the moves
 
-  abbrev n : ℕ
-  n = s .threads
-
   abbrev f : ℕ
   f = s .forbidden i
 
-  less-4 : (b : Bool) → cond b 3 6 < cond b 4 7
-  less-4 true = omega arith
-  less-4 false = omega arith
-
-  less-6 : (b : Bool) → cond b 6 4 < cond b 7 5
-  less-6 true = omega arith
-  less-6 false = omega arith
-
-  less-7 : (b : Bool) → cond b 7 5 < cond b 8 6
-  less-7 true = omega arith
-  less-7 false = omega arith
+  -- less whichever the forbidden is
+  less : (b : Bool) (v w x y : ℕ) → v < x → w < y → cond b v w < cond b x y
+  less true v w x y set clear = set
+  less false v w x y set clear = clear
 
   from-3 : s .phase i ≡ 4 → Before s
   unfolding rows among effect goEffect base weight
   from-3 e =
       outside-back 4 3 e go (quietly (phase≔ i 4 ∷ busy≔ i 0 ∷ [])) (omega arith) tt tt tt (λ at. rw at) (again-busy 4 3 e 0 refl)
-      tt tt (λ r. absurd r) (λ b. tt) tt (omega arith) (less-4 (eqb f 1))
+      tt tt (λ r. absurd r) (λ b. tt) tt (omega arith) (less (eqb f 1) 3 6 4 7 (omega arith) (omega arith))
 
   from-2 : s .phase i ≡ 3 → f ≡ 1 → Before s
   unfolding rows among effect goEffect base weight
@@ -141,13 +131,13 @@ module _ (s : Table) (z : Sound s) (i : ℕ) (l : i < s .threads) where
   unfolding rows among effect goEffect base weight
   from-6 e =
       outside-back 7 6 e go (showing 3 (phase≔ i 7 ∷ [])) (omega arith) tt tt tt (λ at. rw at) (again-phase 7 6 e refl)
-      tt tt (λ r. inl tt) (λ b. absurd b) tt (omega arith) (less-7 (eqb f 1))
+      tt tt (λ r. inl tt) (λ b. absurd b) tt (omega arith) (less (eqb f 1) 7 5 8 6 (omega arith) (omega arith))
 
   from-5 : s .phase i ≡ 6 → Before s
   unfolding rows among effect goEffect base weight
   from-5 e =
       outside-back 6 5 e go (showing 2 (phase≔ i 6 ∷ [])) (omega arith) tt tt tt (λ at. rw at) (again-phase 6 5 e refl)
-      tt tt (λ r. inl tt) (λ b. absurd b) tt (omega arith) (less-6 (eqb f 1))
+      tt tt (λ r. inl tt) (λ b. absurd b) tt (omega arith) (less (eqb f 1) 6 4 7 5 (omega arith) (omega arith))
 
   from-2-open : s .phase i ≡ 5 → f ≡ 0 → Before s
   unfolding rows among effect goEffect base weight

@@ -3,8 +3,8 @@
 -- which is the only place where the rule is needed that not every thread is in 3, 4 and 18.
 use Prim.Native.Nat.{ℕ, suc, _+_, _*_, _≤_, _<_}
 use native.Mathlib.Omega.{arith}
-use mathlib.Core.Bool.{Bool, true, false, cond, not, _&&_, _||_}
-use mathlib.Core.List.{List, [], _∷_}
+use mathlib.Core.Bool.{Bool, true, false, cond, not, _||_}
+use mathlib.Core.List.{[], _∷_}
 use mathlib.Core.Logic.{_⊎_, inl, inr, ⊎-elim}
 use mathlib.Core.Path.{_≡_, refl, sym, subst, ap, _∙_}
 use lib.Dec.{T, leb, eqb, leb→le, lt→ltb, eqb→eq}
@@ -18,14 +18,14 @@ use Rattle.definitions.specs.Threads.{every, listOf, among, between, implies}
 use Rattle.theory.proofs.Cases.{or-at, none-of, among-range}
 use Rattle.theory.proofs.Columns.{update-kept, update-twice}
 use Rattle.theory.proofs.Quantifiers.{every-at, every-i, howMany-most}
-use Rattle.theory.proofs.SoundChanges.{Column, put, keep, bit-1, after, other-elsewhere, phase-moves, flags-after, read-before, in-phase, holder-alone, holder-locked, idle-target, holds-on, idle, takes-mutex, lets-go}
+use Rattle.theory.proofs.SoundChanges.{Column, put, keep, after, other-elsewhere, phase-moves, flags-after, read-before, in-phase, holder-alone, holder-locked, idle-target, holds-on, idle, takes-mutex, lets-go}
 use Rattle.theory.proofs.SoundSteps.{sets-again, clears}
 use Rattle.theory.proofs.Soundness.{All, Holds, Reads, Sound}
 use Rattle.theory.proofs.Stages.{Stage, stage-10, stage-11, stage-13, stage-15, stage-opened}
-use Rattle.theory.proofs.Tests.{T-true, T-false, not-i, no-both, or-e, or-l, or-r, eq-T, same?, implies-e}
+use Rattle.theory.proofs.Tests.{T-true, T-false, not-i, or-e, or-l, or-r, eq-T, same?, implies-e}
 use Rattle.theory.proofs.Writes.{update-same, update-other, same-table}
 use Rattle.completeness.proofs.Before.{Before, undoable, step-back}
-use Rattle.completeness.proofs.Rank.{base, weight, holderWeight, weights, flagsSet, writerlessWeight, rankAt, Below, weights-phase, weights-flag, one-more, one-fewer, with-writer, none-backed-off, without-writer, writerless-kept, falls-held, falls-free}
+use Rattle.completeness.proofs.Rank.{base, weight, holderWeight, weights, flagsSet, rankAt, Below, weights-phase, weights-flag, one-more, one-fewer, with-writer, none-backed-off, without-writer, writerless-kept, falls-held, falls-free}
 
 -- ---- phases and flags, by trying them all
 

@@ -17,7 +17,7 @@ use Rattle.theory.proofs.Quantifiers.{below-suc}
 use Rattle.theory.proofs.Soundness.{Sound, sound-e}
 use Rattle.theory.proofs.Stages.{range-holds}
 use Rattle.theory.proofs.Tests.{below?}
-use Rattle.theory.proofs.Writes.{update-other, same-table, applied-threads, applied-keeps}
+use Rattle.theory.proofs.Writes.{update-other, same-table, applied-keeps}
 use Rattle.completeness.proofs.Before.{Before}
 use Rattle.completeness.proofs.Rank.{rankAt, Below}
 use Rattle.completeness.proofs.StepBack.{Fresh, step-or-fresh}

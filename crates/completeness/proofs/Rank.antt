@@ -5,7 +5,7 @@ use Prim.Native.Nat.{ℕ, suc, _+_, _*_, _-_, _≤_, _<_}
 use native.Mathlib.Omega.{arith}
 use mathlib.Core.Bool.{Bool, cond, not, _&&_}
 use mathlib.Core.List.{[], _∷_}
-use mathlib.Core.Logic.{_⊎_, inl, inr, ⊎-elim}
+use mathlib.Core.Logic.{_⊎_, inl, inr}
 use mathlib.Core.Path.{_≡_, refl, sym, subst, ap, _∙_}
 use lib.Dec.{T, eqb}
 use lib.ListN.{getD}
@@ -15,7 +15,7 @@ use Rattle.definitions.specs.Table.{Table, update}
 use Rattle.definitions.specs.Threads.{some, howMany, between, sumOf}
 use Rattle.theory.proofs.Quantifiers.{some-i, some-e, howMany-change}
 use Rattle.theory.proofs.SoundChanges.{Column, put, after}
-use Rattle.theory.proofs.Soundness.{All, Some, Holds}
+use Rattle.theory.proofs.Soundness.{All}
 use Rattle.theory.proofs.Stages.{between-e, between-i}
 use Rattle.theory.proofs.Sums.{sum-but}
 use Rattle.theory.proofs.Tests.{and-l, and-r, and-i, decided, cond-yes, cond-no, no-both, not-i, same?}

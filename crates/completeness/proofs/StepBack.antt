@@ -1,6 +1,5 @@
 -- Every sound table but the fresh one has a step back (`step-or-fresh`): by a thread whose own last move can be undone, else by the holder, else by a thread in 17, else by one in 0.
-use Prim.Native.Nat.{ℕ, suc, _≤_, _<_}
-use native.Mathlib.Omega.{arith}
+use Prim.Native.Nat.{ℕ, _<_}
 use mathlib.Core.Bool.{Bool, not, _||_}
 use mathlib.Core.List.{[], _∷_}
 use mathlib.Core.Logic.{_⊎_, inl, inr, ⊎-elim}

@@ -1,9 +1,9 @@
 -- Resting tables: for each thread's place in its round one phase, and the flags that go with them. The plan leads from one resting table to the next;
 -- here are the events 1 to 5 and 8.
-use Prim.Native.Nat.{ℕ, _≤_, _<_}
+use Prim.Native.Nat.{ℕ, _<_}
 use native.Mathlib.Omega.{arith}
-use mathlib.Core.Bool.{Bool, false, cond, not, _&&_}
-use mathlib.Core.List.{List, [], _∷_}
+use mathlib.Core.Bool.{Bool, false, cond, _&&_}
+use mathlib.Core.List.{[], _∷_}
 use mathlib.Core.Path.{_≡_, refl, sym, subst, ap, _∙_}
 use lib.Dec.{T, ltb, eqb}
 use Rattle.definitions.specs.Bounds.{noTarget}

@@ -3,24 +3,20 @@
 -- Every move is such a change, forwards (SoundSteps) and backwards (the crate completeness).
 use Prim.Native.Nat.{ℕ, zero, suc, _≤_, _<_}
 use native.Mathlib.Omega.{arith}
-use mathlib.Core.Bool.{Bool, not, _||_}
+use mathlib.Core.Bool.{Bool, not}
 use mathlib.Core.List.{[], _∷_}
 use mathlib.Core.Logic.{_⊎_, inl, inr, ⊎-elim}
 use mathlib.Core.Path.{_≡_, refl, sym, subst, ap, _∙_}
-use lib.Dec.{T, eqb, eqb→eq}
-use Rattle.definitions.specs.Answers.{leaves}
+use lib.Dec.{T}
 use Rattle.definitions.specs.Bounds.{lastPhase, noTarget}
-use Rattle.definitions.specs.Moves.{Effect, effect, allForbidden, noneForbiddenBut, stepReply, step, accepts}
-use Rattle.definitions.specs.Phases.{rows, busyIn, holds, reading}
+use Rattle.definitions.specs.Phases.{busyIn, holds, reading}
 use Rattle.definitions.specs.Sound.{sound, opened, backedOff}
-use Rattle.definitions.specs.Table.{Table, mutex≔, target≔, phase≔, busy≔, forbidden≔, update, applied}
-use Rattle.definitions.specs.Threads.{every, between, implies}
-use Rattle.definitions.specs.declared.Request.{Request}
+use Rattle.definitions.specs.Table.{Table, mutex≔, phase≔, busy≔, update, applied}
+use Rattle.definitions.specs.Threads.{between}
 use Rattle.theory.proofs.Cases.{holder-phase}
-use Rattle.theory.proofs.Quantifiers.{every-at, not-every}
 use Rattle.theory.proofs.Soundness.{All, Some, In, Holds, Reads, Elsewhere, Sound, sound-i}
-use Rattle.theory.proofs.Stages.{range-holds, opened-holds, opened-apart, Fits, Stage, held-sound, nobody-sound, stage-10, stage-11, stage-13, stage-15, stage-opened}
-use Rattle.theory.proofs.Tests.{T-ne, decided, no-both, not-i, or-e, or-l, or-r, same?, eq-T, implies-e}
+use Rattle.theory.proofs.Stages.{range-holds, opened-holds, Fits, Stage, held-sound, nobody-sound}
+use Rattle.theory.proofs.Tests.{decided, no-both, same?}
 use Rattle.theory.proofs.Writes.{update-same, update-other}
 
 -- ---- columns

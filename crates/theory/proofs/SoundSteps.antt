@@ -12,7 +12,7 @@ use Rattle.definitions.specs.Bounds.{lastPhase, noTarget}
 use Rattle.definitions.specs.Moves.{Effect, effect, allForbidden, noneForbiddenBut, stepReply, step, accepts}
 use Rattle.definitions.specs.Phases.{rows, busyIn, holds, reading}
 use Rattle.definitions.specs.Sound.{sound, anyHolder, opened, backedOff}
-use Rattle.definitions.specs.Table.{Table, mutex≔, target≔, phase≔, busy≔, forbidden≔, update, applied}
+use Rattle.definitions.specs.Table.{Table, mutex≔, target≔, phase≔, forbidden≔, update, applied}
 use Rattle.definitions.specs.Threads.{every, between, implies}
 use Rattle.definitions.specs.declared.Request.{Request}
 use Rattle.theory.proofs.Quantifiers.{every-at, not-every}
