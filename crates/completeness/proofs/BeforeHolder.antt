@@ -3,7 +3,7 @@
 -- which is the only place where the rule is needed that not every thread is in 3, 4 and 18.
 use Prim.Native.Nat.{ℕ, suc, _+_, _*_, _≤_, _<_}
 use native.Mathlib.Omega.{arith}
-use mathlib.Core.Bool.{Bool, true, false, cond, not, _||_}
+use mathlib.Core.Bool.{Bool, true, false, cond, not, _&&_, _||_}
 use mathlib.Core.List.{[], _∷_}
 use mathlib.Core.Logic.{_⊎_, inl, inr, ⊎-elim}
 use mathlib.Core.Path.{_≡_, refl, sym, subst, ap, _∙_}
@@ -18,14 +18,16 @@ use Rattle.definitions.specs.Threads.{every, listOf, among, between, implies}
 use Rattle.theory.proofs.Cases.{or-at, none-of, among-range}
 use Rattle.theory.proofs.Columns.{update-kept, update-twice}
 use Rattle.theory.proofs.Quantifiers.{every-at, every-i, howMany-most}
-use Rattle.theory.proofs.SoundChanges.{Column, put, keep, after, other-elsewhere, phase-moves, flags-after, read-before, in-phase, holder-alone, holder-locked, idle-target, holds-on, idle, takes-mutex, lets-go}
+use Rattle.theory.proofs.SoundChanges.{Column, put, keep, after, other-elsewhere, phase-moves, flags-after, read-before, in-phase}
+use Rattle.theory.proofs.SoundChanges.{holder-alone, holder-locked, idle-target, holds-on, idle, takes-mutex, lets-go}
 use Rattle.theory.proofs.SoundSteps.{sets-again, clears}
 use Rattle.theory.proofs.Soundness.{All, Holds, Reads, Sound}
 use Rattle.theory.proofs.Stages.{Stage, stage-10, stage-11, stage-13, stage-15, stage-opened}
-use Rattle.theory.proofs.Tests.{T-true, T-false, not-i, or-e, or-l, or-r, eq-T, same?, implies-e}
+use Rattle.theory.proofs.Tests.{and-i, T-true, T-false, not-i, or-e, or-l, or-r, eq-T, same?, implies-e}
 use Rattle.theory.proofs.Writes.{update-same, update-other, same-table}
 use Rattle.completeness.proofs.Before.{Before, undoable, step-back}
-use Rattle.completeness.proofs.Rank.{base, weight, holderWeight, weights, flagsSet, rankAt, Below, weights-phase, weights-flag, one-more, one-fewer, with-writer, none-backed-off, without-writer, writerless-kept, falls-held, falls-free}
+use Rattle.completeness.proofs.Rank.{base, weight, holderWeight, weights, flagsSet, rankAt, Below, weights-phase, weights-flag, one-more, one-fewer}
+use Rattle.completeness.proofs.Rank.{with-writer, none-backed-off, without-writer, writerless-kept, falls-held, falls-free}
 
 -- ---- phases and flags, by trying them all
 
@@ -36,32 +38,40 @@ tried P t p f k l = every-at (P p) 2 (every-at (λ q. every 2 (P q)) (suc lastPh
 writer-weight : (n p f : ℕ) → T (between 10 16 p) → weight n p f ≡ 0
 unfolding weight base listOf
 writer-weight n p f t =
-    or-at p 10 _ (λ e. rw e) (or-at p 11 _ (λ e. rw e) (or-at p 12 _ (λ e. rw e) (or-at p 13 _ (λ e. rw e) (or-at p 14 _ (λ e. rw e) (or-at p 15 _ (λ e. rw e) (or-at p 16 _ (λ e. rw e) (none-of p)))))))
+    or-at p 10 _ (λ e. rw e) (or-at p 11 _ (λ e. rw e) (or-at p 12 _ (λ e. rw e) (or-at p 13 _ (λ e. rw e)
+    (or-at p 14 _ (λ e. rw e) (or-at p 15 _ (λ e. rw e) (or-at p 16 _ (λ e. rw e) (none-of p)))))))
     (among-range p 10 16 t)
 
--- a flag that is set, or cleared, where no own move can be undone, doesn't add to its thread's weight
-module _ (n p : ℕ) (fit : p ≤ lastPhase) where
-  by-base : (x y : ℕ) → base p y ≤ base p x → weight n p y ≤ weight n p x
-  unfolding weight
-  by-base x y le = by (eqb p 17)
-    where
-      by : (b : Bool) → cond b (3 * n + 6) (base p y) ≤ cond b (3 * n + 6) (base p x)
-      by true = omega arith
-      by false = le
+-- where no own move can be undone, another flag doesn't add to its thread's weight
+other-flag : (n p x y : ℕ) → p ≤ lastPhase → x ≤ 1 → y ≤ 1 → T (not (undoable p x)) → weight n p y ≤ weight n p x
+unfolding base weight every among
+other-flag n p x y fit bit bit′ t = by (eqb p 17)
+  where
+    least : T (every 2 (λ g. leb (base p g) (base p x)))
+    least =
+        implies-e (not (undoable p x)) (every 2 (λ g. leb (base p g) (base p x)))
+        (tried (λ q f. implies (not (undoable q f)) (every 2 (λ g. leb (base q g) (base q f)))) tt p x fit bit) t
 
-  set-weight : T (not (undoable p 0)) → weight n p 1 ≤ weight n p 0
-  unfolding base every among
-  set-weight t =
-      by-base 0 1 (leb→le (base p 1) (base p 0) (implies-e (not (undoable p 0)) (leb (base p 1) (base p 0)) (tried (λ q f. implies (not (undoable q 0)) (leb (base q 1) (base q 0))) tt p 0 fit (omega arith)) t))
+    by : (b : Bool) → cond b (3 * n + 6) (base p y) ≤ cond b (3 * n + 6) (base p x)
+    by true = omega arith
+    by false = leb→le (base p y) (base p x) (every-at (λ g. leb (base p g) (base p x)) 2 least y (omega arith))
 
-  clear-weight : T (not (undoable p 1)) → weight n p 0 ≤ weight n p 1
-  unfolding base every among
-  clear-weight t =
-      by-base 1 0 (leb→le (base p 0) (base p 1) (implies-e (not (undoable p 1)) (leb (base p 0) (base p 1)) (tried (λ q f. implies (not (undoable q 1)) (leb (base q 0) (base q 1))) tt p 1 fit (omega arith)) t))
+-- no thread's own last move can be undone
+abbrev pub Rest : Table → Type 0
+Rest s = All s (λ j. T (not (undoable (s .phase j) (s .forbidden j))))
+
+-- then what holds of every phase and forbidden that isn't undoable holds of every thread
+pub at-rest : (s : Table) → Sound s → Rest s → (A B : ℕ → ℕ → Bool) → T (every (suc lastPhase) (λ p. every 2 (λ f. implies (not (undoable p f)) (implies (A p f) (B p f)))))
+    → All s (λ j. T (A (s .phase j) (s .forbidden j)) → T (B (s .phase j) (s .forbidden j)))
+at-rest s z rest A B t j k a =
+    let p = s .phase j in
+    let f = s .forbidden j in
+    let each = tried (λ p f. implies (not (undoable p f)) (implies (A p f) (B p f))) t p f (z .phases j k) (z .flags j k) in
+    implies-e (A p f) (B p f) (implies-e (not (undoable p f)) (implies (A p f) (B p f)) each (rest j k)) a
 
 -- ---- the holder
 
-module _ (s : Table) (z : Sound s) (h : ℕ) (l : h < s .threads) (rest : All s (λ j. T (not (undoable (s .phase j) (s .forbidden j))))) where
+module _ (s : Table) (z : Sound s) (h : ℕ) (l : h < s .threads) (rest : Rest s) where
   abbrev n : ℕ
   n = s .threads
 
@@ -70,10 +80,6 @@ module _ (s : Table) (z : Sound s) (h : ℕ) (l : h < s .threads) (rest : All s 
 
   most : flagsSet n F ≤ n
   most = howMany-most (λ x. eqb (F x) 1) n
-
-  -- nothing is undoable, by a thread's forbidden
-  at-flag : (j v : ℕ) → j < n → F j ≡ v → T (not (undoable (s .phase j) v))
-  at-flag j v k e = subst (λ (f : ℕ). T (not (undoable (s .phase j) f))) e (rest j k)
 
   -- the holder, in phase p of 10 to 16, was in phase v of them
   module _ (p v : ℕ) (e : s .phase h ≡ p) (hp : T (holds p)) (from : T (between 10 16 p)) (to : T (between 10 16 v)) (φ : ℕ → ℕ) (w : Column (s .phase) h v φ) where
@@ -94,29 +100,32 @@ module _ (s : Table) (z : Sound s) (h : ℕ) (l : h < s .threads) (rest : All s 
         let here = ap (holderWeight n (flagsSet n F)) e in
         falls-held s h v m g φ β G l (w .here) to others-out (omega (arith, same-weights))
 
-    -- a thread's weight with one flag and with another
-    flag-weight : (t x y : ℕ) → t < n → weight n (s .phase t) y ≤ weight n (s .phase t) x → weight n (φ t) y ≤ weight n (φ t) x
-    flag-weight t x y k le = by (same? t h)
+    -- a flag changed doesn't add to its thread's weight
+    flag-weight : (t x y : ℕ) → t < n → F t ≡ x → x ≤ 1 → y ≤ 1 → weight n (φ t) y ≤ weight n (φ t) x
+    flag-weight t x y k e′ bit bit′ = by (same? t h)
       where
         by : (t ≡ h) ⊎ (t ≡ h → ⊥) → weight n (φ t) y ≤ weight n (φ t) x
         by (inl q) =
-            let a : (f : ℕ) → weight n (φ t) f ≡ 0 = λ f. ap (λ (k : ℕ). weight n k f) (ap φ q ∙ w .here) ∙ writer-weight n v f to in
-            omega (arith, a x, a y)
-        by (inr o) = subst (λ (q : ℕ). weight n q y ≤ weight n q x) (sym (w .others t o)) le
+            let none : (f : ℕ) → weight n (φ t) f ≡ 0 = λ f. ap (λ (k : ℕ). weight n k f) (ap φ q ∙ w .here) ∙ writer-weight n v f to in
+            omega (arith, none x, none y)
+        by (inr o) =
+            subst (λ (q : ℕ). weight n q y ≤ weight n q x) (sym (w .others t o))
+            (other-flag n (s .phase t) x y (z .phases t k) bit bit′ (subst (λ (f : ℕ). T (not (undoable (s .phase t) f))) e′ (rest t k)))
 
     -- thread t's flag was set, or cleared
-    set-falls : (t m g : ℕ) (β : ℕ → ℕ) → t < n → F t ≡ 0 → weight n (s .phase t) 1 ≤ weight n (s .phase t) 0 → holderWeight n (flagsSet n F + 1) v < holderWeight n (flagsSet n F) p
+    set-falls : (t m g : ℕ) (β : ℕ → ℕ) → t < n → F t ≡ 0 → holderWeight n (flagsSet n F + 1) v < holderWeight n (flagsSet n F) p
         → (b : ℕ) → Below s (suc b) → Below (after s m g φ β (update F t 1)) b
-    set-falls t m g β k down le less =
+    set-falls t m g β k down less =
         let count = ap (λ (x : ℕ). holderWeight n x v) (one-more n F t k down) in
         let before = ap (weight n (φ t)) down in
-        writer-falls m g β (update F t 1) (omega (arith, weights-flag n φ F t 1 k, flag-weight t 0 1 k le))
+        writer-falls m g β (update F t 1) (omega (arith, weights-flag n φ F t 1 k, flag-weight t 0 1 k down (omega arith) (omega arith)))
 
-    clear-falls : (t m g : ℕ) (β : ℕ → ℕ) → t < n → F t ≡ 1 → weight n (s .phase t) 0 ≤ weight n (s .phase t) 1 → ((k : ℕ) → k + 1 ≡ flagsSet n F → holderWeight n k v < holderWeight n (flagsSet n F) p)
+    clear-falls : (t m g : ℕ) (β : ℕ → ℕ) → t < n → F t ≡ 1 → ((k : ℕ) → k + 1 ≡ flagsSet n F → holderWeight n k v < holderWeight n (flagsSet n F) p)
         → (b : ℕ) → Below s (suc b) → Below (after s m g φ β (update F t 0)) b
-    clear-falls t m g β k up le less =
+    clear-falls t m g β k up less =
         let before = ap (weight n (φ t)) up in
-        writer-falls m g β (update F t 0) (omega (arith, weights-flag n φ F t 0 k, flag-weight t 1 0 k le, less (flagsSet n (update F t 0)) (one-fewer n F t k up)))
+        let down = less (flagsSet n (update F t 0)) (one-fewer n F t k up) in
+        writer-falls m g β (update F t 0) (omega (arith, weights-flag n φ F t 0 k, flag-weight t 1 0 k up (omega arith) (omega arith)))
 
   -- ---- a flag changed in 16 and 15
 
@@ -134,7 +143,7 @@ module _ (s : Table) (z : Sound s) (h : ℕ) (l : h < s .threads) (rest : All s 
       (stage-15 t (idle-target s z h l 16 e tt tt) (h, l, update-same F h 1 h refl)))
       l at (omega arith) (lt→ltb h n l) tt tt (rw (T-true (noneForbiddenBut h t) none))
       (same-table _ s refl refl refl (update-twice (s .phase) h 15 16 ∙ update-kept (s .phase) h 16 e) refl (update-twice F h 1 0 ∙ update-kept F h 0 (clear h l)))
-      (set-falls 16 15 e tt tt tt (update (s .phase) h 15) (put (s .phase) h 15) h (s .mutex) (s .target) (s .busy) l (clear h l) (rw e (omega (arith, writer-weight n 16 1 tt, writer-weight n 16 0 tt))) (omega arith))
+      (set-falls 16 15 e tt tt tt (update (s .phase) h 15) (put (s .phase) h 15) h (s .mutex) (s .target) (s .busy) l (clear h l) (omega arith))
 
   -- a thread's forbidden is 0: it was cleared
   pub back-15-clear : s .phase h ≡ 15 → (u : ℕ) → u < n → F u ≡ 0 → Before s
@@ -151,8 +160,7 @@ module _ (s : Table) (z : Sound s) (h : ℕ) (l : h < s .threads) (rest : All s 
       (sets-again s z h l u e k)
       l e (omega arith) (lt→ltb u n k) tt tt (rw (T-false (noneForbiddenBut u t) left))
       (same-table _ s refl refl refl refl refl (update-twice F u 1 0 ∙ update-kept F u 0 down))
-      (set-falls 15 15 e tt tt tt (s .phase) (keep (s .phase) h 15 e) u (s .mutex) (s .target) (s .busy) k down (set-weight n (s .phase u) (z .phases u k) (at-flag u 0 k down))
-      (omega (arith, most)))
+      (set-falls 15 15 e tt tt tt (s .phase) (keep (s .phase) h 15 e) u (s .mutex) (s .target) (s .busy) k down (omega (arith, most)))
 
   -- every forbidden is 1, and a thread is in 5: its flag was set again
   pub back-15-set : s .phase h ≡ 15 → All s (λ j. F j ≡ 1) → (t : ℕ) → t < n → s .phase t ≡ 5 → Before s
@@ -237,12 +245,8 @@ module _ (s : Table) (z : Sound s) (h : ℕ) (l : h < s .threads) (rest : All s 
   back-10-next e t k up =
       let here = in-phase s z h l 10 e tt 10 10 tt in
       let out : T (not (reading (s .phase t))) = not-i (reading (s .phase t)) (z .guarded-10 h l here t k up) in
-      let idle : busyIn (s .phase t) ≡ 0 =
-      eqb→eq (busyIn (s .phase t)) 0
-      (implies-e (not (reading (s .phase t))) _
-      (implies-e (not (undoable (s .phase t) 1)) _
-      (tried (λ p f. implies (not (undoable p 1)) (implies (not (reading p)) (eqb (busyIn p) 0))) tt (s .phase t) 1 (z .phases t k) (omega arith)) (at-flag t 1 k up)) out) in
-      let quiet : s .busy t ≡ 0 = z .busies t k ∙ idle in
+      let idle = at-rest s z rest (λ p f. eqb f 1 && not (reading p)) (λ p f. eqb (busyIn p) 0) tt t k (and-i (eqb (F t) 1) _ (eq-T (F t) 1 up) out) in
+      let quiet : s .busy t ≡ 0 = z .busies t k ∙ eqb→eq (busyIn (s .phase t)) 0 idle in
       let (j, m, down) = z .some-clear h l here in
       let left = T-false (allForbidden s) (not-i (allForbidden s) (λ all. let one = eqb→eq (F j) 1 (every-at (λ x. eqb (F x) 1) n all j m) in omega arith)) in
       phase-back 10 11 t e tt tt tt tt go (quietly (phase≔ h 10 ∷ target≔ noTarget ∷ [])) (omega arith) tt tt tt (λ at. rw (at, quiet, left)) (again-untargeted 10 11 t e tt tt tt tt tt) refl
@@ -265,7 +269,7 @@ module _ (s : Table) (z : Sound s) (h : ℕ) (l : h < s .threads) (rest : All s 
       (stage-10 t refl (q, k, update-same F q 0 q refl) (λ j m f u. guarded j m f (read-before s z h l 10 tt j u) (same? j q))))
       l at (omega arith) (lt→ltb q n k) tt tt (rw at)
       (same-table _ s refl refl refl (update-twice (s .phase) h 10 11 ∙ update-kept (s .phase) h 11 e) refl (update-twice F q 0 1 ∙ update-kept F q 1 up))
-      (clear-falls 11 10 e tt tt tt (update (s .phase) h 10) (put (s .phase) h 10) q (s .mutex) noTarget (s .busy) k up (clear-weight n (s .phase q) (z .phases q k) (at-flag q 1 k up)) (λ x c. omega arith))
+      (clear-falls 11 10 e tt tt tt (update (s .phase) h 10) (put (s .phase) h 10) q (s .mutex) noTarget (s .busy) k up (λ x c. omega arith))
     where
       guarded : (j : ℕ) → j < n → update F (s .target) 0 j ≡ 1 → Reads s j → (j ≡ s .target) ⊎ (j ≡ s .target → ⊥) → ⊥
       guarded j m f r (inl q) = let zero = update-same F (s .target) 0 j q in omega arith
@@ -319,10 +323,7 @@ module _ (s : Table) (z : Sound s) (h : ℕ) (l : h < s .threads) (rest : All s 
       away j k b (inl q) = subst (λ (x : ℕ). T (backedOff x)) (update-same (s .phase) h 9 j q) b
       away j k b (inr o) =
           let was = subst (λ (x : ℕ). T (backedOff x)) (update-other (s .phase) h 9 j o) b in
-          let left =
-          implies-e (backedOff (s .phase j)) _
-          (implies-e (not (undoable (s .phase j) 0)) _
-          (tried (λ p f. implies (not (undoable p 0)) (implies (backedOff p) (eqb p 3 || holds p))) tt (s .phase j) 0 (z .phases j k) (omega arith)) (at-flag j 0 k (clear j k))) was in
+          let left = at-rest s z rest (λ p f. eqb f 0 && backedOff p) (λ p f. eqb p 3 || holds p) tt j k (and-i (eqb (F j) 0) _ (eq-T (F j) 0 (clear j k)) was) in
           ⊎-elim (λ u. none j k (eqb→eq (s .phase j) 3 u)) (λ u. o (holder-alone s z h l 10 e tt j k u)) (or-e (eqb (s .phase j) 3) (holds (s .phase j)) left)
 
   -- a reader at the mutex

@@ -92,4 +92,6 @@ from-fresh s least g blank = let (b, below) = bounded (rankAt s) (s .threads) in
   where
     bounded : (f : ℕ → ℕ) (n : ℕ) → (b : ℕ) × ((j : ℕ) → j < n → f j < b)
     bounded f zero = (0, λ j l. absurd (not-suc-le-zero l))
-    bounded f (suc n) = let (b, below) = bounded f n in (b + suc (f n), λ j l. ⊎-elim (λ e. subst (λ (k : ℕ). f k < b + suc (f n)) (sym e) (omega arith)) (λ k. omega (arith, below j k)) (below-suc j n l))
+    bounded f (suc n) =
+        let (b, below) = bounded f n in
+        (b + suc (f n), λ j l. ⊎-elim (λ e. subst (λ (k : ℕ). f k < b + suc (f n)) (sym e) (omega arith)) (λ k. omega (arith, below j k)) (below-suc j n l))

@@ -1,6 +1,6 @@
 -- Every sound table but the fresh one has a step back (`step-or-fresh`): by a thread whose own last move can be undone, else by the holder, else by a thread in 17, else by one in 0.
 use Prim.Native.Nat.{ℕ, _<_}
-use mathlib.Core.Bool.{Bool, not, _||_}
+use mathlib.Core.Bool.{Bool, not, _&&_, _||_}
 use mathlib.Core.List.{[], _∷_}
 use mathlib.Core.Logic.{_⊎_, inl, inr, ⊎-elim}
 use mathlib.Core.Path.{_≡_, refl}
@@ -8,14 +8,15 @@ use lib.Dec.{T, eqb, eqb→eq}
 use Rattle.definitions.specs.Phases.{rows, holds, reading}
 use Rattle.definitions.specs.Sound.{backedOff}
 use Rattle.definitions.specs.Table.{Table}
-use Rattle.definitions.specs.Threads.{every, some, gather, among, implies}
+use Rattle.definitions.specs.Threads.{every, some, gather, among}
 use Rattle.theory.proofs.Cases.{or-at, none-of, phasesWhere, holder-is-phase}
 use Rattle.theory.proofs.Quantifiers.{some-e, none-at}
 use Rattle.theory.proofs.SoundChanges.{bit-0, bit-1}
 use Rattle.theory.proofs.Soundness.{All, Some, Holds, Reads, Sound}
-use Rattle.theory.proofs.Tests.{decided, or-e, eq-T, ne-T, T-ne, no-both, not-i, implies-e}
+use Rattle.theory.proofs.Tests.{and-i, decided, or-e, eq-T, ne-T, T-ne, no-both, not-i}
 use Rattle.completeness.proofs.Before.{Before, undoable, undone}
-use Rattle.completeness.proofs.BeforeHolder.{tried, back-10, back-10-next, back-10-given-up, back-11, back-12, back-13, back-14, back-15, back-15-set, back-15-clear, back-16, back-17, back-18, back-0}
+use Rattle.completeness.proofs.BeforeHolder.{Rest, at-rest, back-10, back-10-next, back-10-given-up, back-11, back-12, back-13, back-14}
+use Rattle.completeness.proofs.BeforeHolder.{back-15, back-15-set, back-15-clear, back-16, back-17, back-18, back-0}
 
 -- f holds of some thread, or of none
 some-or-none : (s : Table) (f : ℕ → Bool) → Some s (λ j. T (f j)) ⊎ All s (λ j. T (not (f j)))
@@ -25,7 +26,7 @@ is-holder : (p : ℕ) → T (holds p) → T (among p (10 ∷ 11 ∷ 12 ∷ 13 �
 unfolding rows gather phasesWhere
 is-holder p t = holder-is-phase p _ refl t
 
-module _ (s : Table) (z : Sound s) (rest : All s (λ j. T (not (undoable (s .phase j) (s .forbidden j))))) where
+module _ (s : Table) (z : Sound s) (rest : Rest s) where
   module _ (h : ℕ) (l : h < s .threads) where
     from-10 : s .phase h ≡ 10 → Before s
     from-10 e = by (some-or-none s (λ j. eqb (s .forbidden j) 1)) (some-or-none s (λ j. eqb (s .phase j) 3))
@@ -50,10 +51,7 @@ module _ (s : Table) (z : Sound s) (rest : All s (λ j. T (not (undoable (s .pha
             none : All s (λ j. Reads s j → ⊥)
             none j m r =
                 let at-5 =
-                implies-e (reading (s .phase j)) _
-                (implies-e (not (undoable (s .phase j) (s .forbidden j))) _
-                (implies-e (eqb (s .forbidden j) 1) _
-                (tried (λ p f. implies (eqb f 1) (implies (not (undoable p f)) (implies (reading p) (eqb p 5)))) tt (s .phase j) (s .forbidden j) (z .phases j m) (z .flags j m)) (eq-T (s .forbidden j) 1 (all-set up j m))) (rest j m)) r in
+                at-rest s z rest (λ p f. eqb f 1 && reading p) (λ p f. eqb p 5) tt j m (and-i (eqb (s .forbidden j) 1) _ (eq-T (s .forbidden j) 1 (all-set up j m)) r) in
                 no-both (eqb (s .phase j) 5) at-5 (no-5 j m)
 
     held-back : Holds s h → Before s
@@ -70,15 +68,9 @@ module _ (s : Table) (z : Sound s) (rest : All s (λ j. T (not (undoable (s .pha
     left : All s (λ j. s .phase j ≡ 17 → ⊥) → All s (λ j. T (eqb (s .phase j) 0 || eqb (s .phase j) 3))
     unfolding rows among every
     left no-17 j m =
-        implies-e (not (eqb p 17)) _
-        (implies-e (not (holds p)) _
-        (implies-e (not (undoable p (s .forbidden j))) _
-        (implies-e (eqb (s .forbidden j) 0) _
-        (tried (λ p f. implies (eqb f 0) (implies (not (undoable p f)) (implies (not (holds p)) (implies (not (eqb p 17)) (eqb p 0 || eqb p 3))))) tt p (s .forbidden j) (z .phases j m) (z .flags j m))
-        (eq-T (s .forbidden j) 0 (z .open-free none j m))) (rest j m)) (not-i (holds p) (none j m))) (ne-T p 17 (no-17 j m))
-      where
-        p : ℕ
-        p = s .phase j
+        at-rest s z rest (λ p f. eqb f 0 && (not (holds p) && not (eqb p 17))) (λ p f. eqb p 0 || eqb p 3) tt j m
+        (and-i (eqb (s .forbidden j) 0) _ (eq-T (s .forbidden j) 0 (z .open-free none j m))
+        (and-i (not (holds (s .phase j))) _ (not-i (holds (s .phase j)) (none j m)) (ne-T (s .phase j) 17 (no-17 j m))))
 
     free-back : Before s ⊎ All s (λ j. s .phase j ≡ 0)
     unfolding rows
@@ -106,7 +98,7 @@ pub record Fresh (s : Table) : Type 0 where
 pub step-or-fresh : (s : Table) → Sound s → Before s ⊎ Fresh s
 step-or-fresh s z = by (some-or-none s (λ j. undoable (s .phase j) (s .forbidden j))) (some-or-none s (λ j. holds (s .phase j)))
   where
-    by : Some s (λ j. T (undoable (s .phase j) (s .forbidden j))) ⊎ All s (λ j. T (not (undoable (s .phase j) (s .forbidden j)))) → Some s (Holds s) ⊎ All s (λ j. T (not (holds (s .phase j)))) → Before s ⊎ Fresh s
+    by : Some s (λ j. T (undoable (s .phase j) (s .forbidden j))) ⊎ Rest s → Some s (Holds s) ⊎ All s (λ j. T (not (holds (s .phase j)))) → Before s ⊎ Fresh s
     by (inl (i, l, t)) x = inl (undone s z i l t)
     by (inr rest) (inl (h, l, t)) = inl (held-back s z rest h l t)
     by (inr rest) (inr free) =

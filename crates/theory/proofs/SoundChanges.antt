@@ -1,5 +1,5 @@
--- A sound table with some of one thread's bytes changed is sound, whoever changes them: a thread that is not the holder and stays so (`outside-sound`), the holder in another of its phases (`holds-on`),
--- a thread that becomes the holder (`takes-mutex`) and a holder that no longer is (`lets-go`), each with what is asked of the table after it.
+-- A sound table with one thread's bytes changed is sound again, whoever changes them, given what is asked of the table after it: those of a thread that is not the holder and stays so
+-- (`outside-sound`), of the holder in another of its phases (`holds-on`), of a thread that becomes the holder (`takes-mutex`), and of a holder that no longer is (`lets-go`).
 -- Every move is such a change, forwards (SoundSteps) and backwards (the crate completeness).
 use Prim.Native.Nat.{ℕ, zero, suc, _≤_, _<_}
 use native.Mathlib.Omega.{arith}

@@ -18,7 +18,8 @@ use Rattle.definitions.specs.declared.Request.{Request}
 use Rattle.theory.proofs.Quantifiers.{every-at, not-every}
 use Rattle.theory.proofs.Replies.{leaves-yes, leaves-no}
 use Rattle.theory.proofs.Soundness.{All, Some, Reads, Elsewhere, Sound, some-in, none-in, sound-e}
-use Rattle.theory.proofs.SoundChanges.{put, keep, put-back, bit-0, bit-1, other-elsewhere, elsewhere-after, phase-moves, busy-moves, flags-after, read-before, in-phase, idle-target, holds-on, nobody-holds, idle, takes-mutex, lets-go}
+use Rattle.theory.proofs.SoundChanges.{put, keep, put-back, bit-0, bit-1, other-elsewhere, elsewhere-after, phase-moves, busy-moves, flags-after}
+use Rattle.theory.proofs.SoundChanges.{read-before, in-phase, idle-target, holds-on, nobody-holds, idle, takes-mutex, lets-go}
 use Rattle.theory.proofs.Stages.{opened-holds, opened-apart, stage-10, stage-11, stage-13, stage-15, stage-opened}
 use Rattle.theory.proofs.Tests.{and-i, T-ne, decided, no-both, not-i, or-e, or-l, or-r, same?, eq-T, implies-e}
 use Rattle.theory.proofs.Ways.{Way, way, accepted-e}

@@ -8,7 +8,8 @@ use mathlib.Core.Path.{_≡_, sym, subst, _∙_}
 use lib.Dec.{T, leb, ltb, eqb, leb→le, le→leb, ltb→lt, lt→ltb, eqb→eq}
 use Rattle.definitions.specs.Bounds.{lastPhase, noTarget}
 use Rattle.definitions.specs.Phases.{rows, busyIn, holds, reading}
-use Rattle.definitions.specs.Sound.{sound, anyHolder, holderIn, opened, holderOpened, phaseRule, flagRule, busyRule, holderRule, mutexRule, targetRule, openRule, rule10, rule11, rule13, rule15, backedOff, elsewhereRule}
+use Rattle.definitions.specs.Sound.{sound, anyHolder, holderIn, opened, holderOpened, backedOff}
+use Rattle.definitions.specs.Sound.{phaseRule, flagRule, busyRule, holderRule, mutexRule, targetRule, openRule, rule10, rule11, rule13, rule15, elsewhereRule}
 use Rattle.definitions.specs.Table.{Table}
 use Rattle.definitions.specs.Threads.{every, some, howMany, between, allOf, implies}
 use Rattle.theory.proofs.Quantifiers.{every-at, every-i, some-i, some-e, not-every, at-most-one, one-at-most}
