@@ -6,10 +6,11 @@ use crate::length_faults;
 use crate::model::{
     Record, EXCLUSIVE_TOTAL, GO, HOLD, MAX_THREADS, PLACES, READER_HOLDS, SET, SHARED_TOTAL,
 };
-use crate::part::{done, number_of, refused, value_of, Model, Part};
+use crate::part::{done, number_of, refused, value_of, Entry, Model, Part};
 use crate::script_faults;
 use crate::scripts;
-use crate::tables::phases_mut;
+use crate::sound_faults::{judged, passing};
+use crate::tables::all_back_off;
 use crate::watchers::count_again;
 
 #[derive(Clone, Copy, PartialEq, Eq, Debug)]
@@ -28,6 +29,8 @@ pub enum Fault {
     RunClearsTail,
     /// A mutex byte of 2 passes for 1.
     MutexOfTwo,
+    /// A phase byte is cut to 5 bits.
+    PhaseCut,
     /// The writer spares its own flag.
     SparesOwnFlag,
     /// The writer's own flag isn't open to be set.
@@ -66,6 +69,28 @@ pub enum Fault {
     HoldWithoutHolder,
     /// `(T (hold K))` is read as `(T (hold))`.
     HoldWithTarget,
+    /// All threads may be in 3, 4 and 18: for every entry, or for one alone.
+    RuleDropped,
+    MoveWithoutRule,
+    NodesWithoutRule,
+    OpenMovesWithoutRule,
+    /// All threads may be in 3, 4 and 18 where one is in this phase.
+    RuleWithout3,
+    RuleWithout4,
+    RuleWithout18,
+    /// No thread may be in 3, 4 and 18.
+    RuleOfSome,
+    /// The first of several threads isn't looked at for this rule, or the last,
+    /// or all from 64 on.
+    RuleWithoutFirst,
+    RuleWithoutLast,
+    RuleOf64,
+    /// From 128 threads on all may be in 3, 4 and 18.
+    RuleUpTo127,
+    /// The move tests this rule after all else.
+    RuleTestedLast,
+    /// The move clears a table with all threads in 3, 4 and 18.
+    BarredCleared,
     /// The watcher's numbers of 16 bits are cut to 8.
     WatchThreadsCut,
     WatchThreadCut,
@@ -211,7 +236,7 @@ pub enum Fault {
     LengthBoundMore,
 }
 
-pub const FAULTS: [Fault; 102] = [
+pub const FAULTS: [Fault; 117] = [
     Fault::ThreadsCut,
     Fault::ThreadCut,
     Fault::MoveCut,
@@ -222,6 +247,7 @@ pub const FAULTS: [Fault; 102] = [
     Fault::PlanClearsTail,
     Fault::RunClearsTail,
     Fault::MutexOfTwo,
+    Fault::PhaseCut,
     Fault::SparesOwnFlag,
     Fault::OwnFlagShut,
     Fault::WritesRefused,
@@ -241,6 +267,20 @@ pub const FAULTS: [Fault; 102] = [
     Fault::ForbiddenBesideHold,
     Fault::HoldWithoutHolder,
     Fault::HoldWithTarget,
+    Fault::RuleDropped,
+    Fault::MoveWithoutRule,
+    Fault::NodesWithoutRule,
+    Fault::OpenMovesWithoutRule,
+    Fault::RuleWithout3,
+    Fault::RuleWithout4,
+    Fault::RuleWithout18,
+    Fault::RuleOfSome,
+    Fault::RuleWithoutFirst,
+    Fault::RuleWithoutLast,
+    Fault::RuleOf64,
+    Fault::RuleUpTo127,
+    Fault::RuleTestedLast,
+    Fault::BarredCleared,
     Fault::WatchThreadsCut,
     Fault::WatchThreadCut,
     Fault::WatchEventCut,
@@ -361,23 +401,6 @@ impl Faulty {
         }
     }
 
-    /// The table that the test of soundness takes this one for.
-    fn judged(&self, table: &[u8]) -> Vec<u8> {
-        let mut judged = table.to_vec();
-        match self.fault {
-            Fault::MutexOfTwo if table.get(1) == Some(&2) => judged[1] = 1,
-            Fault::ForbiddenBesideHold if phases_mut(&mut judged).any(|p| *p == READER_HOLDS) => {
-                let flags = judged.iter_mut().skip(5).step_by(3);
-                flags.for_each(|flag| *flag &= !1);
-            }
-            Fault::HoldWithoutHolder => phases_mut(&mut judged)
-                .filter(|phase| **phase == READER_HOLDS)
-                .for_each(|phase| *phase = 4),
-            _ => (),
-        }
-        judged
-    }
-
     /// The record that the watcher's test takes this one for.
     fn judged_record(&self, record: &Record) -> Record {
         let mut judged = *record;
@@ -429,7 +452,7 @@ impl Part for Faulty {
         if self.has(Fault::HoldTargetUntested) && mov == HOLD {
             target = 0;
         }
-        table.copy_from_slice(&self.judged(&before));
+        table.copy_from_slice(&judged(self.fault, Entry::Move, &before));
         let answer = Model.make_move(table, thread, mov, target);
         let refusal = number_of(answer);
         if refusal != 0 {
@@ -440,6 +463,13 @@ impl Part for Faulty {
         match self.fault {
             Fault::WritesNothing => table.copy_from_slice(&before),
             Fault::WritesRefused if refusal > 2 => table[1] ^= 1,
+            Fault::BarredCleared if refusal == 2 && all_back_off(&before) => table[3..].fill(0),
+            Fault::RuleTestedLast if refusal == 2 && all_back_off(&before) => {
+                let other = Model.make_move(&mut passing(&before), thread, mov, target);
+                if number_of(other) != 0 {
+                    return other;
+                }
+            }
             Fault::MutexHeldAsPhase if refusal == 7 => return refused(6, 0),
             Fault::SparesOwnFlag if accepted(SET) && thread == target => {
                 table[at + 2] = before[at + 2];
@@ -457,7 +487,7 @@ impl Part for Faulty {
     }
 
     fn nodes(&self, table: &[u8], out: &mut [u8]) -> u64 {
-        let answer = Model.nodes(&self.judged(table), out);
+        let answer = Model.nodes(&judged(self.fault, Entry::Nodes, table), out);
         if self.has(Fault::NodesWriteShort) && number_of(answer) == 12 {
             out.fill(0);
         }
@@ -466,7 +496,7 @@ impl Part for Faulty {
     }
 
     fn open_moves(&self, table: &[u8], thread: u16, out: &mut [u8]) -> u64 {
-        let answer = Model.open_moves(&self.judged(table), thread, out);
+        let answer = Model.open_moves(&judged(self.fault, Entry::OpenMoves, table), thread, out);
         let own = [SET as u8, thread as u8];
         if self.has(Fault::OwnFlagShut) && number_of(answer) == 0 && out.starts_with(&own) {
             return done(value_of(answer) - 2);

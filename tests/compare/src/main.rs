@@ -3,19 +3,20 @@
 //!     compare             the archive against the model
 //!     compare --model     the model against itself: tests this program
 //!     compare --faults    the model against itself with a fault in one: each
-//!                         fault must be found
+//!                         fault must be found, some by a section alone
 //!
 //! It says how many calls were compared, and ends with the line `N passed, M
-//! failed`, which counts sections (or faults), and with a status other than 0
-//! where something failed.
+//! failed`, which counts sections (or searches for a fault), and with a status
+//! other than 0 where something failed.
 
 use std::env;
 use std::path::Path;
 use std::process::ExitCode;
 
 use compare::comparison::Comparison;
+use compare::faults::{Fault, Faulty, FAULTS};
 use compare::part::{Entry, Model, Part, ENTRIES};
-use compare::{examples, faults, lengths, sections, vectors, written};
+use compare::{examples, lengths, sections, unreached, vectors, written};
 
 const SEED: u64 = 0x5eed_0f10_c4ed_2026;
 
@@ -44,7 +45,7 @@ struct Section {
     run: fn(&mut Comparison, &[vectors::Vector]),
 }
 
-const SECTIONS: [Section; 28] = [
+const SECTIONS: [Section; 31] = [
     Section {
         name: "vectors",
         needs: None,
@@ -69,6 +70,11 @@ const SECTIONS: [Section; 28] = [
         name: "examples of hold",
         needs: None,
         run: |c, _| examples::hold(c),
+    },
+    Section {
+        name: "examples of tables that no moves leave",
+        needs: None,
+        run: |c, _| unreached::examples(c),
     },
     Section {
         name: "examples of the watcher",
@@ -106,17 +112,12 @@ const SECTIONS: [Section; 28] = [
         run: |c, _| written::longest(c, SEED),
     },
     Section {
-        name: "tables that the part's own moves reach, counted",
-        needs: None,
-        run: |c, _| sections::reached_by_part(c),
-    },
-    Section {
         name: "all tables that moves reach, all requests",
         needs: None,
         run: |c, _| sections::reached_tables(c),
     },
     Section {
-        name: "all tables of one and two threads, sound or not",
+        name: "all tables of one to three threads, sound or not",
         needs: None,
         run: |c, _| sections::small_tables(c),
     },
@@ -185,6 +186,21 @@ const SECTIONS: [Section; 28] = [
         needs: None,
         run: |c, _| sections::random_cases(c, SEED),
     },
+    Section {
+        name: "tables that the part's own moves reach, counted: the sound ones",
+        needs: None,
+        run: |c, _| sections::reached_by_part(c),
+    },
+    Section {
+        name: "tables with all threads in phases 3, 4 and 18",
+        needs: None,
+        run: |c, _| unreached::barred(c, SEED),
+    },
+    Section {
+        name: "sound tables, with all threads but one in phases 3, 4 and 18 and others",
+        needs: None,
+        run: |c, _| unreached::kept_by_one(c, SEED),
+    },
 ];
 
 /// Runs every section. One passes where something was compared and nothing
@@ -210,16 +226,112 @@ fn compare_all(c: &mut Comparison, vectors: &[vectors::Vector]) -> (u64, u64) {
     (passed, failed)
 }
 
+/// A section, and faults that it must find by itself, whatever others find.
+type Alone = (&'static str, fn(&mut Comparison), &'static [Fault]);
+
+const ALONE: [Alone; 4] = [
+    (
+        "the tables reached and the sound ones",
+        sections::reached_by_part,
+        &[
+            Fault::RuleDropped,
+            Fault::NodesWithoutRule,
+            Fault::RuleWithout3,
+            Fault::RuleWithout4,
+            Fault::RuleWithout18,
+            Fault::RuleOfSome,
+            Fault::RuleWithoutFirst,
+            Fault::RuleWithoutLast,
+            Fault::MutexOfTwo,
+            Fault::PhaseCut,
+            Fault::ForbiddenBesideHold,
+            Fault::HoldWithoutHolder,
+        ],
+    ),
+    (
+        "all threads in 3, 4 and 18",
+        |c| unreached::barred(c, SEED),
+        &[
+            Fault::RuleDropped,
+            Fault::MoveWithoutRule,
+            Fault::NodesWithoutRule,
+            Fault::OpenMovesWithoutRule,
+            Fault::RuleWithout3,
+            Fault::RuleWithout4,
+            Fault::RuleWithout18,
+            Fault::RuleUpTo127,
+            Fault::RuleTestedLast,
+            Fault::BarredCleared,
+        ],
+    ),
+    (
+        "all threads but one in 3, 4 and 18",
+        |c| unreached::kept_by_one(c, SEED),
+        &[
+            Fault::RuleOfSome,
+            Fault::RuleWithoutFirst,
+            Fault::RuleWithoutLast,
+            Fault::RuleOf64,
+        ],
+    ),
+    (
+        "random cases",
+        |c| sections::random_cases(c, SEED),
+        &[
+            Fault::RuleDropped,
+            Fault::MoveWithoutRule,
+            Fault::NodesWithoutRule,
+            Fault::OpenMovesWithoutRule,
+            Fault::RuleWithout3,
+            Fault::RuleWithout4,
+            Fault::RuleWithout18,
+            Fault::RuleOfSome,
+            Fault::RuleWithoutFirst,
+            Fault::RuleWithoutLast,
+            Fault::RuleOf64,
+            Fault::RuleUpTo127,
+            Fault::RuleTestedLast,
+            Fault::BarredCleared,
+        ],
+    ),
+];
+
+/// Whether a comparison finds a fault.
+fn finds(fault: Fault, compare: impl FnOnce(&mut Comparison)) -> bool {
+    let part = Faulty::new(fault);
+    let mut c = Comparison::silent(&part, &ENTRIES);
+    compare(&mut c);
+    c.failed > 0
+}
+
+/// Seeks the faults that a section must find by itself. Gives how many it found
+/// and missed.
+fn find_alone() -> (u64, u64) {
+    let (mut found, mut missed) = (0, 0);
+    for (name, section, faults) in ALONE {
+        for &fault in faults {
+            if finds(fault, section) {
+                found += 1;
+            } else {
+                missed += 1;
+                println!("MISSED, {name}: {fault:?}");
+            }
+        }
+    }
+    println!("{found} times a fault found by one section alone");
+    (found, missed)
+}
+
 /// Each fault must be found.
 fn find_faults(vectors: &[vectors::Vector]) -> (u64, u64) {
-    let (mut found, mut missed) = (0, 0);
-    for fault in faults::FAULTS {
+    let (mut found, mut missed) = find_alone();
+    for fault in FAULTS {
         // The vectors alone would find some: what is tested is the rest.
         for (vectors, with) in [(vectors, "with"), (&[][..], "without")] {
-            let part = faults::Faulty::new(fault);
-            let mut c = Comparison::silent(&part, &ENTRIES);
-            compare_all(&mut c, vectors);
-            if c.failed > 0 {
+            let is_found = finds(fault, |c| {
+                compare_all(c, vectors);
+            });
+            if is_found {
                 found += 1;
             } else {
                 missed += 1;
@@ -229,7 +341,7 @@ fn find_faults(vectors: &[vectors::Vector]) -> (u64, u64) {
     }
     println!(
         "{} faults, each sought with and without the vectors",
-        faults::FAULTS.len()
+        FAULTS.len()
     );
     (found, missed)
 }

@@ -49,6 +49,11 @@ pub const fn is_holder(phase: u8) -> bool {
     false
 }
 
+/// Whether a reader in this phase backs off from another thread's writing.
+pub const fn backs_off(phase: u8) -> bool {
+    matches!(phase, 3 | 4 | READER_HOLDS)
+}
+
 /// Whether a move's target is a thread. Any other move's is 0.
 pub const fn takes_target(mov: u16) -> bool {
     mov == SET || mov == CLEAR
@@ -126,15 +131,17 @@ fn start(threads: usize, table: &mut [u8]) {
     table[2] = NO_TARGET;
 }
 
-// Fields of a tally, 12 bits each: a count of threads, or a sum of phases.
+// Fields of a tally: counts of up to 200 threads, 8 bits each, and in the bits
+// above them a sum of phases.
 const HOLDERS: u32 = 0; // threads in a holder's phase
-const PHASES: u32 = 12; // the sum of their phases
-const UNKNOWN: u32 = 24; // threads in no phase
-const FORBIDDEN: u32 = 36; // threads with forbidden 1
-const BARRED: u32 = 48; // threads with forbidden 1 that are in 5 to 7
+const UNKNOWN: u32 = 8; // threads in no phase
+const FORBIDDEN: u32 = 16; // threads with forbidden 1
+const BARRED: u32 = 24; // threads with forbidden 1 that are in 5 to 7
+const BACKING_OFF: u32 = 32; // threads in 3, 4 and 18
+const PHASES: u32 = 40; // the sum of the holders' phases
 
-fn field(tally: u64, shift: u32) -> usize {
-    (tally >> shift & 0xfff) as usize
+fn count(tally: u64, field: u32) -> usize {
+    (tally >> field & 0xff) as usize
 }
 
 /// What a thread adds to the tally, by its phase and its forbidden.
@@ -145,6 +152,9 @@ const ROWS: [[u64; 2]; 256] = {
         let mut row = 0;
         if is_holder(phase as u8) {
             row = 1 << HOLDERS | (phase as u64) << PHASES;
+        }
+        if backs_off(phase as u8) {
+            row |= 1 << BACKING_OFF;
         }
         if phase > LAST_PHASE as usize {
             row = 1 << UNKNOWN;
@@ -194,18 +204,22 @@ fn survey(table: &[u8]) -> Result<Survey, Refusal> {
     if wrong != 0 || !agrees(table, threads, tally) {
         return Err(Refusal::Unsound);
     }
-    let forbidden = field(tally, FORBIDDEN);
+    let forbidden = count(tally, FORBIDDEN);
     Ok(Survey { threads, forbidden })
 }
 
 /// The rules of soundness that speak of more than one thread.
 fn agrees(table: &[u8], threads: usize, tally: u64) -> bool {
-    let holders = field(tally, HOLDERS);
-    if field(tally, UNKNOWN) != 0 || holders > 1 || usize::from(table[1]) != holders {
+    let holders = count(tally, HOLDERS);
+    if count(tally, UNKNOWN) != 0 || holders > 1 || usize::from(table[1]) != holders {
         return false;
     }
-    let holder = field(tally, PHASES);
-    let (forbidden, barred) = (field(tally, FORBIDDEN), field(tally, BARRED));
+    // Not every thread is in 3, 4 and 18.
+    if count(tally, BACKING_OFF) == threads {
+        return false;
+    }
+    let holder = tally >> PHASES;
+    let (forbidden, barred) = (count(tally, FORBIDDEN), count(tally, BARRED));
     let target = usize::from(table[2]);
     if holder == 11 || holder == 12 {
         if target >= threads {

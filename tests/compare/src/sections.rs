@@ -1,16 +1,18 @@
 //! What is compared, one function a section.
 
+use std::collections::HashSet;
+
 use crate::cases;
 use crate::comparison::Comparison;
 use crate::histories;
 use crate::lengths;
-use crate::model::{self, LAST_MOVE, LAST_PHASE};
+use crate::model::{self, LAST_MOVE};
 use crate::model::{Record, EXCLUSIVE_TOTAL, RECORD_SIZE, SHARED_TOTAL};
 use crate::part::{done, hex, number_of, refused, value_of};
 use crate::part::{Call, Caller, Entry, Model, ENTRIES};
 use crate::random::Random;
 use crate::tables;
-use crate::vectors::{self, before_hold, Vector};
+use crate::vectors::{self, before_hold, before_rule, Vector};
 use crate::watchers;
 use crate::written;
 
@@ -20,7 +22,8 @@ const CASES: usize = 200_000;
 const PRINTED: [u8; 7] = [0, 1, 3, 5, 6, 7, 8];
 /// Numbers past every range, some of which a cut to eight bits brings back.
 const FAR: [u16; 3] = [255, 256, 65535];
-/// Numbers of threads, and how many tables moves reach for each.
+/// Numbers of threads, and how many tables moves reach for each. These are the
+/// sound ones.
 const REACHED: [(usize, usize); 3] = [(1, 16), (2, 479), (3, 14_118)];
 /// Numbers of threads, and how many of the small records are consistent.
 const CONSISTENT: [(usize, usize); 2] = [(1, 7), (2, 46)];
@@ -40,16 +43,21 @@ const VERDICTS: [u8; 4] = [0, 9, 10, 11];
 /// All vectors, held against the model and the part. Those that the rule of
 /// `before_hold` names are held in the form that it gives them; as they stand,
 /// model and part must agree on them, and the answer of some is another now.
+/// Those that `before_rule` names are held to refusal 2, all others to the
+/// answer that they came with.
 pub fn vectors(c: &mut Comparison, vectors: &[Vector]) {
     // Planted faults are sought without vectors too.
     if vectors.is_empty() {
         return;
     }
-    let (mut named, mut changed) = (0, 0);
+    let (mut named, mut changed, mut barred) = (0, 0, 0);
     for vector in vectors {
         let old = before_hold(vector);
         let held = old.as_ref().unwrap_or(vector);
+        let unsound = before_rule(held);
+        let held = unsound.as_ref().unwrap_or(held);
         c.expect(&held.name, &held.call, held.answer, &held.after);
+        barred += u32::from(unsound.is_some());
         if old.is_some() {
             let answer = c.compare(&vector.call);
             named += 1;
@@ -65,6 +73,10 @@ pub fn vectors(c: &mut Comparison, vectors: &[Vector]) {
     c.claim(changed > 0, || {
         format!("hold changes the answer of none of {named} vectors")
     });
+    c.say(&format!(
+        "  made before the rule on 3, 4 and 18, with a table that it bars: {barred} vectors, held to refusal 2"
+    ));
+    c.claim(barred > 0, || "the rule bars no vector's table".to_string());
     for entry in vectors::entries() {
         let count = vectors
             .iter()
@@ -84,8 +96,8 @@ fn upto(last: u16) -> Vec<u16> {
 }
 
 /// The tables that the part's own moves reach for one to three threads: their
-/// number, and that each is sound by the part's nodes. No request writes
-/// outside its table, and a refused one leaves the table as it was.
+/// number, and that they are the sound ones by the part's nodes. No request
+/// writes outside its table, and a refused one leaves the table as it was.
 pub fn reached_by_part(c: &mut Comparison) {
     for (threads, count) in REACHED {
         let before = c.passed;
@@ -100,20 +112,97 @@ pub fn reached_by_part(c: &mut Comparison) {
         });
         let made = c.passed - before;
         counted(c, threads, &tables, count);
-        let mut caller = Caller::new(c.part());
-        for table in &tables {
-            let answer = caller.call(&Call::nodes(table.clone(), vec![0x5a; threads]));
-            c.claim(answer == done(threads as u64), || {
-                format!("a table reached isn't sound: {}", hex(table))
-            });
-            if c.stopped() {
-                return;
-            }
-        }
         c.say(&format!(
             "  {threads} threads: {} tables, {made} requests",
             tables.len()
         ));
+        sound_are_reached(c, threads, &tables);
+        if c.stopped() {
+            return;
+        }
+    }
+}
+
+/// How far past its range a byte of a small table goes. For three threads one
+/// past it would be a hundred million tables.
+fn past(threads: usize) -> u8 {
+    u8::from(threads < 3)
+}
+
+/// The part's nodes accept every table reached and no other list of bytes of
+/// that length. Tried are all whose bytes are in range or past it by `past`,
+/// and all that differ from a table reached in one byte.
+///
+/// Passed over are lists with a byte further past its range that differ from
+/// each table reached in another byte too; the random cases have some of them.
+/// By the rules no sound table is among them: a byte past its range makes a
+/// table unsound whatever the others are.
+fn sound_are_reached(c: &mut Comparison, threads: usize, reached: &[Vec<u8>]) {
+    let mut nodes = Nodes::new(c, threads, reached);
+    for table in reached {
+        nodes.ask(c, table);
+    }
+    let accepted = nodes.accepted;
+    c.claim(accepted == reached.len(), || {
+        format!("{threads} threads: {accepted} of the tables reached are sound")
+    });
+    (nodes.asked, nodes.accepted) = (0, 0);
+    tables::every(threads, past(threads), |table| nodes.ask(c, table));
+    let (asked, accepted) = (nodes.asked, nodes.accepted);
+    c.claim(accepted == reached.len(), || {
+        format!("{threads} threads: {accepted} tables are sound")
+    });
+    nodes.asked = 0;
+    for table in reached {
+        tables::with_one_byte(table, |other| nodes.ask(c, other));
+    }
+    c.say(&format!(
+        "  {threads} threads: {accepted} of {asked} tables are sound; {} more with one byte changed",
+        nodes.asked
+    ));
+}
+
+/// The part's nodes, asked whether lists of bytes are sound tables.
+struct Nodes<'a> {
+    caller: Caller<'a>,
+    call: Call,
+    reached: HashSet<&'a [u8]>,
+    asked: usize,
+    accepted: usize,
+}
+
+impl<'a> Nodes<'a> {
+    fn new(c: &Comparison<'a>, threads: usize, reached: &'a [Vec<u8>]) -> Nodes<'a> {
+        Nodes {
+            caller: Caller::new(c.part()),
+            call: Call::nodes(reached[0].clone(), vec![0x5a; threads]),
+            reached: reached.iter().map(Vec::as_slice).collect(),
+            asked: 0,
+            accepted: 0,
+        }
+    }
+
+    /// What is accepted is reached; what isn't is refused by 2, or by 1 where
+    /// the number of threads is another.
+    fn ask(&mut self, c: &mut Comparison, table: &[u8]) {
+        if c.stopped() {
+            return;
+        }
+        self.call.read.copy_from_slice(table);
+        let answer = self.caller.call(&self.call);
+        let threads = self.call.lent.len();
+        let accepted = number_of(answer) == 0;
+        let right = if accepted {
+            answer == done(threads as u64) && self.reached.contains(table)
+        } else {
+            let sized = usize::from(table[0]) == threads;
+            answer == refused(1 + u64::from(sized), 0)
+        };
+        if !right {
+            c.claim(false, || format!("nodes answer {answer}: {}", hex(table)));
+        }
+        self.asked += 1;
+        self.accepted += usize::from(accepted);
     }
 }
 
@@ -173,37 +262,24 @@ fn requests(c: &mut Comparison, table: &[u8], thread: u16) {
     }
 }
 
-/// Every table of one or two threads whose bytes are in range or one past it,
-/// sound or not: its nodes and one move.
+/// Every table of one to three threads whose bytes are in range, or past it by
+/// `past`, sound or not: its nodes and one move.
 pub fn small_tables(c: &mut Comparison) {
     let before = c.passed;
-    let mut cells = Vec::new();
-    for phase in 0..=LAST_PHASE + 1 {
-        for flags in 0..9 {
-            cells.push([phase, flags / 3, flags % 3]);
-        }
-    }
-    for mutex in 0..=2 {
-        for target in [0, 1, 2, 254, 255] {
-            for first in &cells {
-                for second in &cells {
-                    let head = [2, mutex, target];
-                    table(c, [&head[..], first, second].concat());
-                }
-                table(c, [&[1, mutex, target][..], first].concat());
-                if c.stopped() {
-                    return;
-                }
+    for (threads, _) in REACHED {
+        tables::every(threads, past(threads), |table| {
+            if !c.stopped() {
+                self::table(c, table);
             }
-        }
+        });
     }
     c.say(&format!("  {} calls", c.passed - before));
 }
 
-fn table(c: &mut Comparison, table: Vec<u8>) {
+fn table(c: &mut Comparison, table: &[u8]) {
     let thread = u16::from(table[3] ^ table[4] ^ table[5]) % u16::from(table[0]);
-    c.compare(&Call::nodes(table.clone(), vec![0x5a; 3]));
-    c.compare(&Call::make_move(table, thread, model::GO, 0));
+    c.compare(&Call::nodes(table.to_vec(), vec![0x5a; 3]));
+    c.compare(&Call::make_move(table.to_vec(), thread, model::GO, 0));
 }
 
 /// Random cases of each entry that the part has.

@@ -1,5 +1,6 @@
-//! Tables to test with: random sound ones, damaged ones, and all that moves
-//! reach for a few threads.
+//! Tables to test with: random sound ones, damaged ones, all with bytes in
+//! range and all that moves reach for a few threads. The sound ones and those
+//! reached are the same.
 
 use std::collections::HashSet;
 
@@ -46,6 +47,23 @@ pub fn phases_mut(table: &mut [u8]) -> impl Iterator<Item = &mut u8> {
     table.iter_mut().skip(3).step_by(3)
 }
 
+/// The phases in which not every thread may be.
+pub const BACKING_OFF: [u8; 3] = [3, 4, 18];
+/// The phases that are neither of these nor the holder's.
+const ELSEWHERE: [u8; 9] = [0, 1, 2, 5, 6, 7, 8, 9, 17];
+
+/// Whether a table has threads and every one is in 3, 4 and 18.
+pub fn all_back_off(table: &[u8]) -> bool {
+    let mut phases = table.iter().skip(3).step_by(3);
+    table.len() > 3 && phases.all(|phase| BACKING_OFF.contains(phase))
+}
+
+/// Puts a thread in a phase, with the busy byte of that phase.
+pub fn put(table: &mut [u8], thread: usize, phase: u8) {
+    let busy = u8::from(matches!(phase, 2 | 3 | 5 | 6 | 7));
+    table[3 + 3 * thread..5 + 3 * thread].copy_from_slice(&[phase, busy]);
+}
+
 /// Which threads have forbidden 1: from none to all, in a row or at random.
 fn flags(r: &mut Random, threads: usize) -> Vec<u8> {
     let mut flags = vec![0; threads];
@@ -66,14 +84,9 @@ fn flags(r: &mut Random, threads: usize) -> Vec<u8> {
     flags
 }
 
-/// A random sound table.
-pub fn sound(r: &mut Random, threads: usize) -> Vec<u8> {
-    let holder = if r.chance(1, 4) {
-        0
-    } else {
-        r.pick(&HOLDER_PHASES)
-    };
-    let at = r.below(threads);
+/// A table with all threads in 0 whose mutex, target and flags are sound beside
+/// a holder in this phase, 0 for none.
+fn beside(r: &mut Random, threads: usize, holder: u8) -> Vec<u8> {
     let target = r.below(threads);
     let mut flags = flags(r, threads);
     match holder {
@@ -82,20 +95,38 @@ pub fn sound(r: &mut Random, threads: usize) -> Vec<u8> {
         13 | 14 => flags.fill(1),
         _ => flags.fill(0),
     }
-    let has_target = holder == 11 || holder == 12;
     let mut table = fresh(threads);
     table[1] = u8::from(holder > 0);
-    table[2] = if has_target { target as u8 } else { NO_TARGET };
+    if holder == 11 || holder == 12 {
+        table[2] = target as u8;
+    }
+    for (thread, flag) in flags.into_iter().enumerate() {
+        table[5 + 3 * thread] = flag;
+    }
+    table
+}
+
+/// A random sound table.
+pub fn sound(r: &mut Random, threads: usize) -> Vec<u8> {
+    let holder = if r.chance(1, 4) {
+        0
+    } else {
+        r.pick(&HOLDER_PHASES)
+    };
+    let at = r.below(threads);
+    let mut table = beside(r, threads, holder);
     let phases: &[u8] = r.pick(&[
         &[0, 1, 2, 3, 4, 5, 6, 7, 8, 9, 17][..],
         &[0, 0, 0, 0, 0, 0, 6, 9],
         &[5, 6, 7],
+        &[3, 4],
         &[0],
     ]);
     for thread in 0..threads {
+        let forbidden = table[5 + 3 * thread] == 1;
         let barred = match holder {
-            10 => flags[thread] == 1,
-            11 | 12 => flags[thread] == 1 && thread != target,
+            10 => forbidden,
+            11 | 12 => forbidden && thread != usize::from(table[2]),
             13 | 14 => true,
             _ => false,
         };
@@ -106,8 +137,52 @@ pub fn sound(r: &mut Random, threads: usize) -> Vec<u8> {
         if holder > 0 && thread == at {
             phase = holder;
         }
-        let busy = u8::from(matches!(phase, 2 | 3 | 5 | 6 | 7));
-        table[3 + 3 * thread..6 + 3 * thread].copy_from_slice(&[phase, busy, flags[thread]]);
+        put(&mut table, thread, phase);
+    }
+    if all_back_off(&table) {
+        one_elsewhere(r, &mut table);
+    }
+    table
+}
+
+/// Puts one thread elsewhere, in a table with all threads in 3, 4 and 18. There
+/// every forbidden is 0. A thread that was in 18 lets the mutex go.
+fn one_elsewhere(r: &mut Random, table: &mut [u8]) {
+    let threads = usize::from(table[0]);
+    let thread = r.below(threads);
+    if table[3 + 3 * thread] == 18 {
+        table[1] = 0;
+    }
+    put(table, thread, r.pick(&ELSEWHERE));
+}
+
+/// A table with all threads in 3 and 4, but one in 18 where it is named. It is
+/// sound but for the rule that not every thread is in these phases.
+pub fn backing_off(r: &mut Random, threads: usize, in_18: Option<usize>) -> Vec<u8> {
+    let mut table = fresh(threads);
+    for thread in 0..threads {
+        put(&mut table, thread, r.pick(&[3, 4]));
+    }
+    if let Some(holder) = in_18 {
+        put(&mut table, holder, 18);
+        table[1] = 1;
+    }
+    table
+}
+
+/// A sound table with one thread in a phase that isn't 3, 4 or 18 and all others
+/// in 3 and 4, but another one in 18 where `held` says so and nobody else has
+/// the mutex.
+pub fn but_one(r: &mut Random, threads: usize, one: usize, phase: u8, held: bool) -> Vec<u8> {
+    let holder = if model::is_holder(phase) { phase } else { 0 };
+    let mut table = beside(r, threads, holder);
+    for thread in 0..threads {
+        put(&mut table, thread, r.pick(&[3, 4]));
+    }
+    put(&mut table, one, phase);
+    if held && holder == 0 && threads > 1 {
+        put(&mut table, (one + 1 + r.below(threads - 1)) % threads, 18);
+        table[1] = 1;
     }
     table
 }
@@ -117,7 +192,7 @@ pub fn damaged(r: &mut Random, table: &[u8]) -> Vec<u8> {
     let mut table = table.to_vec();
     let threads = (table.len() - 3) / 3;
     let at = 3 + 3 * r.below(threads);
-    match r.below(14) {
+    match r.below(15) {
         0 => table[0] = near(r, 201) as u8,
         1 => table[1] = r.pick(&[0, 1, 2, 255]),
         2 => table[2] = r.pick(&[0, threads as u8 - 1, threads as u8, 200, 254, 255]),
@@ -137,9 +212,22 @@ pub fn damaged(r: &mut Random, table: &[u8]) -> Vec<u8> {
         10 => table.truncate(r.below(table.len())),
         11 => table.extend([0, 0, 0, 0].iter().take(1 + r.below(4))),
         12 => table = r.bytes(threads),
+        13 => others_back_off(r, &mut table),
         _ => table[3 + 3 * threads - 1] ^= 1,
     }
     table
+}
+
+/// Puts all threads of a sound table in 3 and 4, but the holder and, one time of
+/// two, any one.
+fn others_back_off(r: &mut Random, table: &mut [u8]) {
+    let threads = usize::from(table[0]);
+    let one = r.below(2 * threads);
+    for thread in (0..threads).filter(|&thread| thread != one) {
+        if !model::is_holder(table[3 + 3 * thread]) {
+            put(table, thread, r.pick(&[3, 4]));
+        }
+    }
 }
 
 /// A table for a random call: sound three times of four.
@@ -150,6 +238,49 @@ pub fn any(r: &mut Random) -> Vec<u8> {
         damaged(r, &table)
     } else {
         table
+    }
+}
+
+/// Every table of so many threads whose bytes are in range, or past it by at
+/// most `past`.
+pub fn every(threads: usize, past: u8, mut see: impl FnMut(&[u8])) {
+    let mut cells = Vec::new();
+    for phase in 0..=LAST_PHASE + past {
+        for busy in 0..=1 + past {
+            for forbidden in 0..=1 + past {
+                cells.push([phase, busy, forbidden]);
+            }
+        }
+    }
+    let mut table = fresh(threads);
+    for mutex in 0..=1 + past {
+        for target in (0..threads as u8 + past).chain(NO_TARGET - past..=NO_TARGET) {
+            (table[1], table[2]) = (mutex, target);
+            fill(&mut table, 3, &cells, &mut see);
+        }
+    }
+}
+
+/// Puts each cell in each place of a table from `at` on.
+fn fill(table: &mut [u8], at: usize, cells: &[[u8; 3]], see: &mut impl FnMut(&[u8])) {
+    if at == table.len() {
+        return see(table);
+    }
+    for cell in cells {
+        table[at..at + 3].copy_from_slice(cell);
+        fill(table, at + 3, cells, see);
+    }
+}
+
+/// Every list of bytes that differs from a table in one byte.
+pub fn with_one_byte(table: &[u8], mut see: impl FnMut(&[u8])) {
+    let mut other = table.to_vec();
+    for (at, &was) in table.iter().enumerate() {
+        for byte in (0..=255).filter(|&byte| byte != was) {
+            other[at] = byte;
+            see(&other);
+        }
+        other[at] = was;
     }
 }
 

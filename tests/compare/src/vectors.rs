@@ -5,9 +5,9 @@ use std::fs;
 use std::path::Path;
 
 use crate::model::{HOLD, LAST_MOVE, LAST_PHASE, READER_HOLDS, RUN_ROOM};
-use crate::part::{done, refused, Call, Entry, ENTRIES};
+use crate::part::{done, number_of, refused, Call, Entry, ENTRIES};
 use crate::scripts::map_lines;
-use crate::tables::phases_mut;
+use crate::tables::{all_back_off, phases_mut};
 
 /// The entries that the vectors call. They were made before 02 §2: there are
 /// none of the watcher, none that write or read a script, and none of a plan's
@@ -170,6 +170,26 @@ fn replace_hold(line: &[u8]) -> Option<Vec<u8>> {
     let thread = line.strip_prefix(b"(")?.strip_suffix(b" (hold))")?;
     let is_number = !thread.is_empty() && thread.iter().all(u8::is_ascii_digit);
     is_number.then(|| [b"(", thread, b" (held))"].concat())
+}
+
+/// The rule for the vectors, which were made before 02 §6: that request makes a
+/// table unsound in which every thread is in 3, 4 and 18.
+///
+/// Given is the vector of such a table with refusal 2 for its answer and every
+/// lent byte kept. For one that was refused by 1 or 2 already, and for all
+/// others, none.
+pub fn before_rule(vector: &Vector) -> Option<Vector> {
+    let table = match vector.call.entry {
+        Entry::Move => &vector.call.lent,
+        Entry::Nodes | Entry::OpenMoves => &vector.call.read,
+        _ => return None,
+    };
+    let passed = !matches!(number_of(vector.answer), 1 | 2);
+    (passed && all_back_off(table)).then(|| Vector {
+        answer: refused(2, 0),
+        after: vector.call.lent.clone(),
+        ..vector.clone()
+    })
 }
 
 /// All vectors. That there are none of a kind is an error.
