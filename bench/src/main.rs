@@ -178,6 +178,21 @@ fn requests(kind: &Kind, threads: usize) -> Vec<Request> {
     found
 }
 
+/// Both parts give each request the same answer and do not refuse its table.
+fn assert_same(kind: &Kind, requests: &[Request]) {
+    for request in requests {
+        let make = |part: &dyn Part| {
+            let mut table = request.table.clone();
+            let [thread, target] = [request.thread, request.target].map(|number| number as u16);
+            let answer = part.make_move(&mut table, thread, kind.mov, target);
+            (answer, table)
+        };
+        let made = make(&Archive);
+        assert_eq!(made, make(&Model), "{}", kind.name);
+        assert!(!matches!(number_of(made.0), 1 | 2), "{}", kind.name);
+    }
+}
+
 /// Makes the move on each table in turn. What a move may write is put back
 /// after it: mutex and target, and the bytes of the mover and of the targets.
 fn turns(kind: &Kind, requests: &[Request]) -> impl FnMut(&dyn Part) -> u64 {
@@ -225,6 +240,7 @@ fn moves() {
                 print!("{:>27} ", "-");
                 continue;
             }
+            assert_same(kind, &requests);
             let t = times(turns(kind, &requests));
             *sum = (sum.0 + t.archive, sum.1 + t.model, sum.2 + 1);
             print!("{} ", cell(t));
@@ -276,12 +292,14 @@ fn readings() {
     row("nodes", |threads| {
         let (table, _) = table_with(threads, 14);
         let mut out = [0; 200];
+        assert_eq!(Archive.nodes(&table, &mut out), done(threads as u64));
         times(|part| part.nodes(black_box(&table), &mut out))
     });
     for phase in [0, 10, 15] {
         row(&format!("open moves, phase {phase}"), |threads| {
             let (table, thread) = table_with(threads, phase);
             let mut out = [0; 800];
+            assert_eq!(number_of(Archive.open_moves(&table, thread, &mut out)), 0);
             times(|part| part.open_moves(black_box(&table), thread, &mut out))
         });
     }
