@@ -45,6 +45,14 @@ static void fresh(uint16_t n)
     if (!wospinzo_accepted(wospinzo_fresh(n, table, sizeof table))) failures++;
 }
 
+/* Puts all threads of a fresh table in a phase with busy 0. All in phase 4 breaks one rule of soundness and no other. */
+static void all_in(uint16_t n, uint8_t phase)
+{
+    uint16_t t;
+
+    for (t = 0; t < n; t++) table[3 + 3 * t] = phase;
+}
+
 /* A call that is counted, on the table as it is, which is put back after it. */
 static void counted(unsigned expected, uint16_t n, uint16_t thread, uint16_t mv, uint16_t target, const char *what)
 {
@@ -66,6 +74,9 @@ static void moves(uint16_t n)
     uint16_t last = (uint16_t)(n - 1), t;
 
     fresh(n);
+    all_in(n, WOSPINZO_PHASE_TRY_AGAIN);
+    counted(WOSPINZO_UNSOUND, n, 0, WOSPINZO_GO, 0, "refused by 2, all in 4");
+    all_in(n, WOSPINZO_PHASE_FREE);
     step(n, last, WOSPINZO_CALL_SHARED, 0, "call shared");
     step(n, last, WOSPINZO_GO, 0, "go in 1");
     step(n, last, WOSPINZO_GO, 0, "go in 2, open");
@@ -137,6 +148,10 @@ static void lists(uint16_t n)
     COUNT(WOSPINZO_UNSOUND, wospinzo_nodes(table, WOSPINZO_TABLE_SIZE(n), out, sizeof out), "nodes %u refused by 2", n);
     COUNT(WOSPINZO_UNSOUND, wospinzo_open_moves(table, WOSPINZO_TABLE_SIZE(n), 0, out, sizeof out), "open_moves %u refused by 2", n);
     table[1] = 0;
+    all_in(n, WOSPINZO_PHASE_TRY_AGAIN);
+    COUNT(WOSPINZO_UNSOUND, wospinzo_nodes(table, WOSPINZO_TABLE_SIZE(n), out, sizeof out), "nodes %u refused by 2, all in 4", n);
+    COUNT(WOSPINZO_UNSOUND, wospinzo_open_moves(table, WOSPINZO_TABLE_SIZE(n), 0, out, sizeof out), "open_moves %u refused by 2, all in 4", n);
+    all_in(n, WOSPINZO_PHASE_FREE);
     COUNT(WOSPINZO_ACCEPTED, wospinzo_nodes(table, WOSPINZO_TABLE_SIZE(n), out, sizeof out), "nodes %u", n);
     COUNT(WOSPINZO_ACCEPTED, wospinzo_open_moves(table, WOSPINZO_TABLE_SIZE(n), 0, out, sizeof out), "open_moves %u in 0", n);
     move(0, WOSPINZO_CALL_EXCLUSIVE, 0);
