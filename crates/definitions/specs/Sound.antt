@@ -1,5 +1,5 @@
 -- "A table is sound when": the rules one by one, then all of them.
--- They speak of the threads below N. The holder is the thread that holds the mutex by its phase, if there is one; the rules from the target's to that of 15 ask whether the holder is in certain phases.
+-- They speak of the threads below N. The holder is the thread that holds the mutex by its phase, if there is one; the rules from the target's to that of 15 go by the holder's phase.
 -- A mutex byte above 1 fails the mutex rule.
 use Prim.Native.Nat.{ℕ}
 use mathlib.Core.Bool.{Bool, cond, not, _&&_, _||_}

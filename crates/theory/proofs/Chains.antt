@@ -1,5 +1,5 @@
 -- Lists of requests to the record `Table` that are accepted throughout (`Leads`), one behind the other; lists from the fresh table's bytes as lists from its record;
--- and the numbers of accepted requests.
+-- one request by its effect (`makes`); and the numbers of accepted requests.
 use Prim.Native.Nat.{ℕ, _≤_, _<_, _^_}
 use native.Mathlib.Omega.{arith}
 use mathlib.Core.Bool.{true, not}

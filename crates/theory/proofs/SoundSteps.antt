@@ -52,7 +52,7 @@ module _ (s : Table) (z : Sound s) (i : ℕ) (l : i < s .threads) where
       by (inl q) = quiet (ap (s .busy) (sym q) ∙ (z .busies j k ∙ reading-busy (s .phase j) (z .phases j k) r))
       by (inr h) = z .guarded-11 i l (in-phase s z i l 11 e tt 11 12 tt) j k h f r
 
-  -- some thread's forbidden isn't 0, so a writer is at work, and that isn't a thread in phase 2
+  -- thread i, in 2, finds its forbidden set: another thread, the holder, is a writer at work, which is in none of 3, 4 and 18
   kept-out : s .phase i ≡ 2 → (s .forbidden i ≡ 0 → ⊥) → Some s (λ j. (j ≡ i → ⊥) × Elsewhere s j)
   unfolding rows
   kept-out e f = by (decided (anyHolder s))
