@@ -236,7 +236,8 @@ pub enum Fault {
     LengthBoundMore,
 }
 
-pub const FAULTS: [Fault; 117] = [
+/// The faults but those of the rule below.
+pub const OTHERS: [Fault; 103] = [
     Fault::ThreadsCut,
     Fault::ThreadCut,
     Fault::MoveCut,
@@ -267,20 +268,6 @@ pub const FAULTS: [Fault; 117] = [
     Fault::ForbiddenBesideHold,
     Fault::HoldWithoutHolder,
     Fault::HoldWithTarget,
-    Fault::RuleDropped,
-    Fault::MoveWithoutRule,
-    Fault::NodesWithoutRule,
-    Fault::OpenMovesWithoutRule,
-    Fault::RuleWithout3,
-    Fault::RuleWithout4,
-    Fault::RuleWithout18,
-    Fault::RuleOfSome,
-    Fault::RuleWithoutFirst,
-    Fault::RuleWithoutLast,
-    Fault::RuleOf64,
-    Fault::RuleUpTo127,
-    Fault::RuleTestedLast,
-    Fault::BarredCleared,
     Fault::WatchThreadsCut,
     Fault::WatchThreadCut,
     Fault::WatchEventCut,
@@ -355,6 +342,29 @@ pub const FAULTS: [Fault; 117] = [
     Fault::LengthBoundLess,
     Fault::LengthBoundMore,
 ];
+
+/// Faults of the rule that not every thread is in 3, 4 and 18.
+pub const OF_RULE: [Fault; 14] = [
+    Fault::RuleDropped,
+    Fault::MoveWithoutRule,
+    Fault::NodesWithoutRule,
+    Fault::OpenMovesWithoutRule,
+    Fault::RuleWithout3,
+    Fault::RuleWithout4,
+    Fault::RuleWithout18,
+    Fault::RuleOfSome,
+    Fault::RuleWithoutFirst,
+    Fault::RuleWithoutLast,
+    Fault::RuleOf64,
+    Fault::RuleUpTo127,
+    Fault::RuleTestedLast,
+    Fault::BarredCleared,
+];
+
+/// All of them.
+pub fn faults() -> impl Iterator<Item = Fault> {
+    OTHERS.into_iter().chain(OF_RULE)
+}
 
 /// A line `(T (hold K))` without its target.
 fn without_target(line: &[u8]) -> Option<Vec<u8>> {

@@ -14,7 +14,7 @@ use std::path::Path;
 use std::process::ExitCode;
 
 use compare::comparison::Comparison;
-use compare::faults::{Fault, Faulty, FAULTS};
+use compare::faults::{faults, Fault, Faulty, OF_RULE};
 use compare::part::{Entry, Model, Part, ENTRIES};
 use compare::{examples, lengths, sections, unreached, vectors, written};
 
@@ -277,22 +277,7 @@ const ALONE: [Alone; 4] = [
     (
         "random cases",
         |c| sections::random_cases(c, SEED),
-        &[
-            Fault::RuleDropped,
-            Fault::MoveWithoutRule,
-            Fault::NodesWithoutRule,
-            Fault::OpenMovesWithoutRule,
-            Fault::RuleWithout3,
-            Fault::RuleWithout4,
-            Fault::RuleWithout18,
-            Fault::RuleOfSome,
-            Fault::RuleWithoutFirst,
-            Fault::RuleWithoutLast,
-            Fault::RuleOf64,
-            Fault::RuleUpTo127,
-            Fault::RuleTestedLast,
-            Fault::BarredCleared,
-        ],
+        &OF_RULE,
     ),
 ];
 
@@ -325,7 +310,7 @@ fn find_alone() -> (u64, u64) {
 /// Each fault must be found.
 fn find_faults(vectors: &[vectors::Vector]) -> (u64, u64) {
     let (mut found, mut missed) = find_alone();
-    for fault in FAULTS {
+    for fault in faults() {
         // The vectors alone would find some: what is tested is the rest.
         for (vectors, with) in [(vectors, "with"), (&[][..], "without")] {
             let is_found = finds(fault, |c| {
@@ -341,7 +326,7 @@ fn find_faults(vectors: &[vectors::Vector]) -> (u64, u64) {
     }
     println!(
         "{} faults, each sought with and without the vectors",
-        FAULTS.len()
+        faults().count()
     );
     (found, missed)
 }
