@@ -1,15 +1,14 @@
 -- Every sound table but the fresh one has a step back (`step-or-fresh`): by a thread whose own last move can be undone, else by the holder, else by a thread in 17, else by one in 0.
 use Prim.Native.Nat.{ℕ, _<_}
 use mathlib.Core.Bool.{Bool, not, _&&_, _||_}
-use mathlib.Core.List.{[], _∷_}
 use mathlib.Core.Logic.{_⊎_, inl, inr, ⊎-elim}
-use mathlib.Core.Path.{_≡_, refl}
+use mathlib.Core.Path.{_≡_}
 use lib.Dec.{T, eqb, eqb→eq}
 use Rattle.definitions.specs.Phases.{rows, holds, reading}
 use Rattle.definitions.specs.Sound.{backedOff}
 use Rattle.definitions.specs.Table.{Table}
-use Rattle.definitions.specs.Threads.{every, some, gather, among}
-use Rattle.theory.proofs.Cases.{or-at, none-of, phasesWhere, holder-is-phase}
+use Rattle.definitions.specs.Threads.{every, some, among}
+use Rattle.theory.proofs.Cases.{or-at, none-of, is-holder}
 use Rattle.theory.proofs.Quantifiers.{some-e, none-at}
 use Rattle.theory.proofs.SoundChanges.{bit-0, bit-1}
 use Rattle.theory.proofs.Soundness.{All, Some, Holds, Reads, Sound}
@@ -21,10 +20,6 @@ use Rattle.completeness.proofs.BeforeHolder.{back-15, back-15-set, back
 -- f holds of some thread, or of none
 some-or-none : (s : Table) (f : ℕ → Bool) → Some s (λ j. T (f j)) ⊎ All s (λ j. T (not (f j)))
 some-or-none s f = ⊎-elim (λ t. inl (some-e f (s .threads) t)) (λ t. inr (none-at f (s .threads) t)) (decided (some (s .threads) f))
-
-is-holder : (p : ℕ) → T (holds p) → T (among p (10 ∷ 11 ∷ 12 ∷ 13 ∷ 14 ∷ 15 ∷ 16 ∷ 18 ∷ []))
-unfolding rows gather phasesWhere
-is-holder p t = holder-is-phase p _ refl t
 
 module _ (s : Table) (z : Sound s) (rest : Rest s) where
   module _ (h : ℕ) (l : h < s .threads) where

@@ -8,25 +8,20 @@ use mathlib.Core.Path.{_≡_, refl, sym, subst, ap, _∙_}
 use borrow.Author.Tests.{le-leb, lt-leb, ne-eqb}
 use lib.Dec.{T, leb, ltb, eqb}
 use Rattle.definitions.specs.Bounds.{lastPhase, noTarget}
-use Rattle.definitions.specs.Phases.{rows, holds, reading}
+use Rattle.definitions.specs.Phases.{holds, reading}
 use Rattle.definitions.specs.Sound.{phaseRule, flagRule, busyRule, holderRule, targetRule, openRule, rule10, rule11, rule13, rule15, elsewhereRule, mutexRule, opened, sound}
 use Rattle.definitions.specs.Table.{Table}
-use Rattle.definitions.specs.Threads.{gather, howMany, among, between, allOf, implies}
+use Rattle.definitions.specs.Threads.{howMany, among, between, allOf, implies}
 use Rattle.soundness.specs.Pass.{tallyBelow, fitBelow, foundOf, mutexAgrees, someElsewhere, aimFits, restFits, soundBy, aimOf, passes}
 use Rattle.soundness.specs.declared.Aim.{Aim}
 use Rattle.soundness.specs.declared.Found.the-variants.{Good, Bad}
 use Rattle.soundness.specs.declared.Tally.{Tally}
-use Rattle.theory.proofs.Cases.{or-at, none-of, phasesWhere, holder-is-phase}
+use Rattle.theory.proofs.Cases.{or-at, none-of, is-holder}
 use Rattle.theory.proofs.Tests.{and-cong, and-l, and-r}
 use Rattle.soundness.proofs.Holders.{Holders, none, one, many, holders}
 use Rattle.soundness.proofs.Rules.{each-fits, flags-of, mutex-is, target-is, open-is, is-10, is-11, is-13, is-15, elsewhere-is}
 
 -- ---- the decision, by the sum of the holders' phases
-
--- the holder's phases
-is-holder : (p : ℕ) → T (holds p) → T (among p (10 ∷ 11 ∷ 12 ∷ 13 ∷ 14 ∷ 15 ∷ 16 ∷ 18 ∷ []))
-unfolding rows gather phasesWhere
-is-holder p t = holder-is-phase p _ refl t
 
 -- what holds of each number of a list holds of one that is among them
 abbrev Each : (ℕ → Type 0) → List ℕ → Type 0

@@ -1,4 +1,4 @@
--- Cases of a number: one of a list (`or-at`), one of f 0, f 1, .. (`among-list`), one of a range (`among-range`), a phase that has a move (`has-phase`) or holds the mutex (`holder-is-phase`).
+-- Cases of a number: one of a list (`or-at`), one of f 0, f 1, .. (`among-list`), one of a range (`among-range`), a phase that has a move (`has-phase`) or holds the mutex (`is-holder`).
 use Prim.Native.Nat.{ℕ, zero, suc, _+_, _-_, _≤_, _<_}
 use native.Mathlib.Nat.{not-suc-le-zero}
 use native.Mathlib.Omega.{arith}
@@ -116,5 +116,6 @@ pub has-phase : (mv p : ℕ) (ks : List ℕ) → phasesWhere (hasMove mv) ≡ ks
 has-phase mv = is-phase (hasMove mv) (λ p l t. none-of mv (subst (λ (row : Row). T (among mv (row .moves))) (no-row p l) t))
 
 -- a phase that holds the mutex
-pub holder-is-phase : (p : ℕ) (ks : List ℕ) → phasesWhere holds ≡ ks → T (holds p) → T (among p ks)
-holder-is-phase = is-phase holds no-holder
+pub is-holder : (p : ℕ) → T (holds p) → T (among p (10 ∷ 11 ∷ 12 ∷ 13 ∷ 14 ∷ 15 ∷ 16 ∷ 18 ∷ []))
+unfolding rows gather phasesWhere
+is-holder p t = is-phase holds no-holder p _ refl t
