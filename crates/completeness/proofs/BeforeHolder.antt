@@ -1,6 +1,6 @@
--- The step back where no thread's own last move can be undone, by the holder's phase, and where there is no holder (`held-back`, `free-back`).
--- The holder goes back from 18 to 4 and from 16 to 9, with the flags set in 15 and cleared in 10; a thread in 17 to 16; and where only threads in 0 and 3 are left, one in 0 to 17,
--- which is the only place where the rule is needed that not every thread is in 3, 4 and 18.
+-- The steps back where no thread's own last move can be undone: by the holder's phase, and where there is no holder.
+-- The holder goes back from 18 to 4 and from 16 to 9, with the flags set in 15 and cleared in 11; a thread in 17 goes back to 16; and where only threads in 0 and 3 are left, one in 0 to 17.
+-- There the rule is used that not every thread is in 3, 4 and 18; in the other steps it is only kept.
 use Prim.Native.Nat.{ℕ, suc, _+_, _*_, _≤_, _<_}
 use native.Mathlib.Omega.{arith}
 use mathlib.Core.Bool.{Bool, true, false, cond, not, _&&_, _||_}
@@ -18,7 +18,7 @@ use Rattle.definitions.specs.Threads.{every, listOf, among, between, implies}
 use Rattle.theory.proofs.Cases.{or-at, none-of, among-range}
 use Rattle.theory.proofs.Columns.{update-kept, update-twice}
 use Rattle.theory.proofs.Quantifiers.{every-at, every-i, howMany-most}
-use Rattle.theory.proofs.SoundChanges.{Column, put, keep, after, other-elsewhere, phase-moves, flags-after, read-before, in-phase}
+use Rattle.theory.proofs.SoundChanges.{Column, put, keep, put-all, after, other-elsewhere, phase-moves, flags-after, read-before, in-phase}
 use Rattle.theory.proofs.SoundChanges.{holder-alone, holder-locked, idle-target, holds-on, idle, takes-mutex, lets-go}
 use Rattle.theory.proofs.SoundSteps.{sets-again, clears}
 use Rattle.theory.proofs.Soundness.{All, Holds, Reads, Sound}
@@ -378,15 +378,15 @@ module _ (s : Table) (z : Sound s) (none : All s (λ j. Holds s j → ⊥)) (i :
       (phase-moves s z i l 0 17 e tt tt (λ r. absurd r) (λ b. absurd b) (omega arith) refl)
       l at (omega arith) tt tt tt (rw at)
       (same-table _ s refl refl refl (update-twice (s .phase) i 17 0 ∙ update-kept (s .phase) i 0 e) refl refl)
-      (falls-free s i (s .mutex) (s .target) (update (s .phase) i 17) (s .busy) (s .forbidden) l (λ j m. nobody j m (same? j i))
+      (falls-free s i (s .mutex) (s .target) (update (s .phase) i 17) (s .busy) (s .forbidden) l nobody
       (let sum = rw e at (weights-phase n (s .phase) (update (s .phase) i 17) (s .forbidden) i 17 l (put (s .phase) i 17)) in
       let before = without-writer n (s .phase) t k (rw at-3 tt) no-writer in
       let after = with-writer n (update (s .phase) i 17) i l (rw at tt) in
       omega arith))
     where
-      nobody : (j : ℕ) → j < s .threads → (j ≡ i) ⊎ (j ≡ i → ⊥) → T (not (holds (update (s .phase) i 17 j)))
-      nobody j m (inl q) = subst (λ (x : ℕ). T (not (holds x))) (sym (update-same (s .phase) i 17 j q)) tt
-      nobody j m (inr o) = subst (λ (x : ℕ). T (not (holds x))) (sym (update-other (s .phase) i 17 j o)) (not-i (holds (s .phase j)) (none j m))
+      nobody : All s (λ j. T (not (holds (update (s .phase) i 17 j))))
+      nobody j m =
+          put-all (λ x q. T (not (holds q))) (s .phase) (update (s .phase) i 17) i 17 (put (s .phase) i 17) tt j (not-i (holds (s .phase j)) (none j m))
 
       no-writer : (j : ℕ) → j < s .threads → T (between 10 17 (s .phase j)) → ⊥
       no-writer j m b =

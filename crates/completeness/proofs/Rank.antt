@@ -73,12 +73,12 @@ writerless n phase = some n (λ j. backedOff (phase j)) && not (some n (λ j. be
 abbrev pub writerlessWeight : ℕ → (ℕ → ℕ) → ℕ
 writerlessWeight n phase = cond (writerless n phase) (3 * n + 7) 0
 
--- the number, where thread j is the holder
+-- the number, if thread j is the holder
 unfoldable pub rankAt : Table → ℕ → ℕ
 rankAt s j =
     weights (s .threads) (s .phase) (s .forbidden) + holderWeight (s .threads) (flagsSet (s .threads) (s .forbidden)) (s .phase j) + writerlessWeight (s .threads) (s .phase)
 
--- whoever the holder is; for every other thread it is less
+-- it is less than b, whoever the holder is; a thread that isn't the holder adds nothing by being asked
 abbrev pub Below : Table → ℕ → Type 0
 Below s b = All s (λ j. rankAt s j < b)
 
@@ -191,19 +191,18 @@ module _ (s : Table) (i p v : ℕ) (β : ℕ → ℕ) (l : i < s .threads) (e : 
       w : Column (s .phase) i v φ
       w = put (s .phase) i v
 
+      lighter : weights n φ (s .forbidden) < weights n (s .phase) (s .forbidden)
+      lighter =
+          let sum = weights-phase n (s .phase) φ (s .forbidden) i v l w in
+          let before = ap (λ (x : ℕ). weight n x (s .forbidden i)) e in
+          omega arith
+
+      extra : writerlessWeight n φ ≤ writerlessWeight n (s .phase)
+      extra = writerless-kept n (s .phase) φ i p v l e w out back
+
       by : (j ≡ i) ⊎ (j ≡ i → ⊥) → weights n φ (s .forbidden) + holderWeight n up (φ j) + writerlessWeight n φ < b
-      by (inl q) =
-          let sum = weights-phase n (s .phase) φ (s .forbidden) i v l w in
-          let before = ap (λ (x : ℕ). weight n x (s .forbidden i)) e in
-          let none = ap (holderWeight n up) (ap φ q ∙ w .here) ∙ no-holder-weight n up v nv in
-          let extra = writerless-kept n (s .phase) φ i p v l e w out back in
-          omega (arith, below i l)
-      by (inr h) =
-          let sum = weights-phase n (s .phase) φ (s .forbidden) i v l w in
-          let before = ap (λ (x : ℕ). weight n x (s .forbidden i)) e in
-          let same = ap (holderWeight n up) (w .others j h) in
-          let extra = writerless-kept n (s .phase) φ i p v l e w out back in
-          omega (arith, below j k)
+      by (inl q) = let none = ap (holderWeight n up) (ap φ q ∙ w .here) ∙ no-holder-weight n up v nv in omega (arith, lighter, extra, below i l)
+      by (inr h) = let same = ap (holderWeight n up) (w .others j h) in omega (arith, lighter, extra, below j k)
 
 -- thread h is the holder, alone, in phase v of 10 to 16
 module _ (s : Table) (h v m g : ℕ) (φ β F : ℕ → ℕ) (l : h < s .threads) (at : φ h ≡ v) (writer : T (between 10 16 v)) (alone : All s (λ j. (j ≡ h → ⊥) → T (not (holds (φ j))))) where

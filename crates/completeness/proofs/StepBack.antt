@@ -26,10 +26,13 @@ module _ (s : Table) (z : Sound s) (rest : Rest s) where
     from-10 : s .phase h ≡ 10 → Before s
     from-10 e = by (some-or-none s (λ j. eqb (s .forbidden j) 1)) (some-or-none s (λ j. eqb (s .phase j) 3))
       where
+        all-clear : All s (λ j. T (not (eqb (s .forbidden j) 1))) → All s (λ j. s .forbidden j ≡ 0)
+        all-clear down j m = bit-0 (s .forbidden j) (z .flags j m) (T-ne (s .forbidden j) 1 (down j m))
+
         by : Some s (λ j. T (eqb (s .forbidden j) 1)) ⊎ All s (λ j. T (not (eqb (s .forbidden j) 1))) → Some s (λ j. T (eqb (s .phase j) 3)) ⊎ All s (λ j. T (not (eqb (s .phase j) 3))) → Before s
         by (inl (t, k, u)) x = back-10-next s z h l rest e t k (eqb→eq (s .forbidden t) 1 u)
-        by (inr down) (inl (t, k, u)) = back-10-given-up s z h l rest e (λ j m. bit-0 (s .forbidden j) (z .flags j m) (T-ne (s .forbidden j) 1 (down j m))) t k (eqb→eq (s .phase t) 3 u)
-        by (inr down) (inr no-3) = back-10 s z h l rest e (λ j m. bit-0 (s .forbidden j) (z .flags j m) (T-ne (s .forbidden j) 1 (down j m))) (λ j m. T-ne (s .phase j) 3 (no-3 j m))
+        by (inr down) (inl (t, k, u)) = back-10-given-up s z h l rest e (all-clear down) t k (eqb→eq (s .phase t) 3 u)
+        by (inr down) (inr no-3) = back-10 s z h l rest e (all-clear down) (λ j m. T-ne (s .phase j) 3 (no-3 j m))
 
     from-15 : s .phase h ≡ 15 → Before s
     unfolding rows among every

@@ -26,7 +26,7 @@ fn tables() {
     say(b"\n");
 }
 
-// A table that no moves leave, every thread in 3, 4 and 18, and one that they leave, with a thread elsewhere.
+// Tables that no moves leave, with every thread in 3, 4 and 18, and one that they leave, with a thread elsewhere.
 fn kept_tables() {
     let mut backed_off = [2, 0, 255, 3, 1, 0, 4, 0, 0];
     show_move(b"both in 3 and 4", &mut backed_off, 0, 0, 0);

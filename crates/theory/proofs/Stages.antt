@@ -2,7 +2,7 @@
 use Prim.Native.Nat.{ℕ, _≤_, _<_}
 use native.Mathlib.Omega.{arith}
 use mathlib.Core.Bool.{Bool, not, _||_}
-use mathlib.Core.Logic.{_⊎_, inl, inr, ⊎-elim}
+use mathlib.Core.Logic.{_⊎_, ⊎-elim}
 use mathlib.Core.Path.{_≡_, refl, sym, subst, ap, _∙_}
 use lib.Dec.{T, leb, eqb, leb→le, le→leb, eqb→eq}
 use Rattle.definitions.specs.Bounds.{mostThreads, lastPhase, noTarget}
@@ -53,13 +53,9 @@ pub backed-apart : (a b p : ℕ) → 5 ≤ a → b ≤ 17 → T (between a b p) 
 backed-apart a b p k l t u =
     let x = between-e a b p t in
     ⊎-elim
-    (⊎-elim (λ v. let e = eqb→eq p 3 v in omega arith) (λ v. let e = eqb→eq p 4 v in omega arith))
+    (λ v. ⊎-elim (λ w. let e = eqb→eq p 3 w in omega arith) (λ w. let e = eqb→eq p 4 w in omega arith) (or-e (eqb p 3) (eqb p 4) v))
     (λ v. let e = eqb→eq p 18 v in omega arith)
-    (map-or (or-e (eqb p 3 || eqb p 4) (eqb p 18) u))
-  where
-    map-or : T (eqb p 3 || eqb p 4) ⊎ T (eqb p 18) → (T (eqb p 3) ⊎ T (eqb p 4)) ⊎ T (eqb p 18)
-    map-or (inl v) = inl (or-e (eqb p 3) (eqb p 4) v)
-    map-or (inr v) = inr v
+    (or-e (eqb p 3 || eqb p 4) (eqb p 18) u)
 
 -- ---- what is to be shown
 
