@@ -135,7 +135,7 @@ module _ (s : Table) where
   -- the target's bytes are asked for where it is a thread
   aim-same : soundBy (tallyBelow s (s .threads)) (s .threads) (s .mutex) (s .target) (aimOf s) ≡ by-sum holder
   unfolding soundBy aimOf
-  aim-same = ap (λ (x : Bool). before && cond (between 11 12 holder) x unaimed) (by (ltb (s .target) (s .threads)) _ _)
+  aim-same = ap (λ (x : Bool). before && cond (between 11 12 holder) x unaimed) (by (ltb (s .target) (s .threads)))
     where
       before : Bool
       before = mutexAgrees (tally holder) (s .mutex) && someElsewhere (tally holder) (s .threads)
@@ -143,9 +143,12 @@ module _ (s : Table) where
       unaimed : Bool
       unaimed = eqb (s .target) noTarget && restFits (tally holder) (s .threads)
 
-      by : (b : Bool) (x y : Aim) → (b && aimFits (tally holder) (cond b x y)) ≡ (b && aimFits (tally holder) x)
-      by true x y = refl
-      by false x y = refl
+      at : ℕ → Aim
+      at i = record { phase = s .phase i; forbidden = s .forbidden i }
+
+      by : (b : Bool) → (b && aimFits (tally holder) (at (cond b (s .target) 0))) ≡ (b && aimFits (tally holder) (at (s .target)))
+      by true = refl
+      by false = refl
 
 -- ---- the theorem
 

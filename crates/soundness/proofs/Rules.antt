@@ -7,15 +7,16 @@ use mathlib.Core.Bool.{Bool, true, false, cond, not, _&&_, _||_, and-true, and-f
 use mathlib.Core.Logic.{⊎-elim}
 use mathlib.Core.Path.{_≡_, refl, sym, subst, ap, _∙_}
 use borrow.Author.Tests.{eq-eqb, ne-eqb, lt-ltb, le-ltb}
-use lib.Dec.{T, leb, ltb, eqb, leb→le, eqb→eq, ltb→lt}
+use lib.Dec.{T, leb, ltb, eqb, leb→le, le→leb, eqb→eq, ltb→lt}
 use Rattle.definitions.specs.Bounds.{lastPhase, noTarget}
-use Rattle.definitions.specs.Phases.{rows, busyIn, holds, reading}
+use Rattle.definitions.specs.Phases.{busyIn, holds, reading}
 use Rattle.definitions.specs.Sound.{anyHolder, holderIn, opened, holderOpened, phaseRule, flagRule, busyRule, mutexRule, targetRule, openRule, rule10, rule11, rule13, rule15, backedOff, elsewhereRule}
 use Rattle.definitions.specs.Table.{Table}
 use Rattle.definitions.specs.Threads.{every, some, howMany, between, implies}
 use Rattle.soundness.specs.Pass.{threadFits, forbiddenReader, tallyBelow, fitBelow, mutexAgrees, someElsewhere}
 use Rattle.soundness.specs.declared.Tally.{Tally}
 use Rattle.theory.proofs.Quantifiers.{every-at, every-i, every-same, howMany-most, some-howMany}
+use Rattle.theory.proofs.Soundness.{busy-bit}
 use Rattle.theory.proofs.Stages.{range-holds, opened-holds}
 use Rattle.theory.proofs.Tests.{and-cong, and-l, and-r, and-i, T-true, same-test}
 use Rattle.soundness.proofs.Bools.{implies-cong, not-not}
@@ -23,11 +24,6 @@ use Rattle.soundness.proofs.Holders.{holder-is, holder-any}
 use Rattle.soundness.proofs.Threads.{some-not-none, every-count, none-count, except-count}
 
 -- ---- one thread by itself
-
--- "flags 0 or 1" follows for busy, by trying the phases
-busy-flag : (p : ℕ) → p ≤ lastPhase → T (leb (busyIn p) 1)
-unfolding rows every
-busy-flag p l = every-at (λ q. leb (busyIn q) 1) (suc lastPhase) tt p (omega arith)
 
 module _ (s : Table) where
   abbrev each : ℕ → Bool
@@ -52,7 +48,7 @@ module _ (s : Table) where
       flags : (i : ℕ) → i < s .threads → T (leb (s .busy i) 1 && leb (s .forbidden i) 1)
       flags i l =
           and-i (leb (s .busy i) 1) _
-          (subst (λ (k : ℕ). T (leb k 1)) (sym (eqb→eq (s .busy i) (busyIn (s .phase i)) (busy i l))) (busy-flag (s .phase i) (leb→le (s .phase i) lastPhase (phase i l))))
+          (subst (λ (k : ℕ). T (leb k 1)) (sym (eqb→eq (s .busy i) (busyIn (s .phase i)) (busy i l))) (le→leb (busyIn (s .phase i)) 1 (busy-bit (s .phase i) (leb→le (s .phase i) lastPhase (phase i l)))))
           (and-l (leb (s .forbidden i) 1) _ (and-r (leb (s .phase i) lastPhase) _ (at i l)))
 
   from-rules : T (phaseRule s && (flagRule s && busyRule s)) → T (every (s .threads) each)

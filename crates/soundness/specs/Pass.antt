@@ -2,7 +2,7 @@
 -- First the pass: `foundOf s i` is what is found of the threads below i, each field a word on those threads.
 -- Then `soundBy`, the decision from what was found of all threads, N, the mutex, the target and the target's bytes.
 -- That it is the decision of `sound` stands in proofs/OnePass.
-use Prim.Native.Nat.{ℕ, zero, suc, _+_, _<_}
+use Prim.Native.Nat.{ℕ, zero, suc, _+_}
 use mathlib.Core.Bool.{Bool, false, cond, not, _&&_, _||_}
 use lib.Dec.{leb, ltb, eqb}
 use Rattle.definitions.specs.Bounds.{lastPhase, noTarget}
@@ -14,7 +14,6 @@ use Rattle.soundness.specs.declared.Aim.{Aim}
 use Rattle.soundness.specs.declared.Found.{Found}
 use Rattle.soundness.specs.declared.Found.the-variants.{Good, Bad}
 use Rattle.soundness.specs.declared.Tally.{Tally}
-use Rattle.soundness.specs.declared.TallyRow.{TallyRow}
 
 -- ---- one thread
 
@@ -29,16 +28,6 @@ forbiddenReader phase forbidden = eqb forbidden 1 && reading phase
 -- a holder's phase, 0 for another thread
 abbrev pub holderPhase : ℕ → ℕ
 holderPhase phase = cond (holds phase) phase 0
-
--- what a phase tells of its thread: its busy byte, with 256 for no phase, a holder's phase, whether it reads, and whether it is one of 3, 4 and 18
-unfoldable pub tallyRow : ℕ → TallyRow
-tallyRow phase =
-    record {
-      0 = cond (leb phase lastPhase) (busyIn phase) 256;
-      1 = holderPhase phase;
-      2 = cond (reading phase) 1 0;
-      3 = cond (backedOff phase) 1 0;
-    }
 
 -- ---- the pass
 
@@ -64,30 +53,6 @@ fitBelow s i = every i (λ j. threadFits (s .phase j) (s .busy j) (s .forbidden 
 -- what is found of the threads below i
 unfoldable pub foundOf : Table → ℕ → Found
 foundOf s i = cond (fitBelow s i) (Good (tallyBelow s i)) Bad
-
--- of no thread
-abbrev pub nobody : Tally
-nobody = record { holder = 0; forbidden = 0; readers = 0; «backed_off» = 0 }
-
--- with one more thread
-unfoldable pub withThread : Tally → ℕ → ℕ → ℕ → Found
-withThread t phase busy forbidden =
-    cond (threadFits phase busy forbidden)
-    (Good
-    (record {
-      holder = t .holder + holderPhase phase;
-      forbidden = t .forbidden + cond (eqb forbidden 1) 1 0;
-      readers = t .readers + cond (forbiddenReader phase forbidden) 1 0;
-      «backed_off» = t .«backed_off» + cond (backedOff phase) 1 0;
-    }))
-    Bad
-
--- there is room in a tally for one more
-pub record TallyRoom (t : Tally) : Type 0 where
-  pub holder : t .holder < 65536
-  pub forbidden : t .forbidden < 256
-  pub readers : t .readers < 256
-  pub backedOff : t .«backed_off» < 256
 
 -- ---- the decision
 
@@ -125,12 +90,13 @@ soundBy t n mutex target aim =
     && someElsewhere t n
     && cond (between 11 12 (t .holder)) (ltb target n && aimFits t aim) (eqb target noTarget && restFits t n)
 
--- the target's bytes; where the target is no thread, 0 and 0
+-- the thread that the target names, and thread 0 where it names none
+abbrev pub aimed : Table → ℕ
+aimed s = cond (ltb (s .target) (s .threads)) (s .target) 0
+
+-- its bytes
 unfoldable pub aimOf : Table → Aim
-aimOf s =
-    cond (ltb (s .target) (s .threads))
-    (record { phase = s .phase (s .target); forbidden = s .forbidden (s .target) })
-    (record { phase = 0; forbidden = 0 })
+aimOf s = record { phase = s .phase (aimed s); forbidden = s .forbidden (aimed s) }
 
 -- the whole decision
 unfoldable pub passes : Table → Found → Bool

@@ -1,8 +1,9 @@
-// The soundness test by value: what one pass finds of the threads, and the decision from it.
+// The soundness test by value: what one pass finds of the threads, and the decision from it. How the pass finds it stands in the
+// crate rows.
 // It knows of no storage. proofs/OnePass.antt shows that it decides the rules of the definitions.
 use definitions::NO_TARGET;
 ghost use mathlib.Core.Path.{_≡_};
-ghost use Rattle.soundness.specs.Pass.{TallyRoom, nobody, tallyRow, withThread, mutexAgrees, someElsewhere, aimFits, restFits, soundBy};
+ghost use Rattle.soundness.specs.Pass.{mutexAgrees, someElsewhere, aimFits, restFits, soundBy};
 
 // What one pass finds of threads that pass the rules on one thread by itself.
 pub struct Tally {
@@ -23,73 +24,6 @@ pub enum Found {
     Bad,
 }
 
-// What is found of no thread.
-pub fn no_threads() -> Tally
-    ensures { λ r. ⌜ r ≡ nobody ⌝ }
-{
-    Tally {
-        holder: 0,
-        forbidden: 0,
-        readers: 0,
-        backed_off: 0,
-    }
-}
-
-// What a phase tells of its thread: the busy byte, with 256 for a number that is no phase; the phase itself where its
-// thread holds the mutex, else 0; 1 in 5 to 7, else 0; 1 in 3, 4 and 18, else 0.
-struct TallyRow(u16, usize, usize, usize);
-
-// Rows of constants: they are compiled to tables, which take half the time of comparisons.
-fn row_of(phase: u8) -> TallyRow
-    ensures { λ r. ⌜ r ≡ tallyRow phase ⌝ }
-{
-    match phase {
-        0 => TallyRow(0, 0, 0, 0),
-        1 => TallyRow(0, 0, 0, 0),
-        2 => TallyRow(1, 0, 0, 0),
-        3 => TallyRow(1, 0, 0, 1),
-        4 => TallyRow(0, 0, 0, 1),
-        5 => TallyRow(1, 0, 1, 0),
-        6 => TallyRow(1, 0, 1, 0),
-        7 => TallyRow(1, 0, 1, 0),
-        8 => TallyRow(0, 0, 0, 0),
-        9 => TallyRow(0, 0, 0, 0),
-        10 => TallyRow(0, 10, 0, 0),
-        11 => TallyRow(0, 11, 0, 0),
-        12 => TallyRow(0, 12, 0, 0),
-        13 => TallyRow(0, 13, 0, 0),
-        14 => TallyRow(0, 14, 0, 0),
-        15 => TallyRow(0, 15, 0, 0),
-        16 => TallyRow(0, 16, 0, 0),
-        17 => TallyRow(0, 0, 0, 0),
-        18 => TallyRow(0, 18, 0, 1),
-        _ => TallyRow(256, 0, 0, 0),
-    }
-}
-
-// What is found with one more thread.
-pub fn add_thread(t: Tally, phase: u8, busy: u8, forbidden: u8) -> Found
-    requires { ⌜ TallyRoom t ⌝ }
-    ensures { λ r. ⌜ r ≡ withThread t phase busy forbidden ⌝ }
-{
-    let TallyRow(expected, holder, reading, backed) = row_of(phase);
-    let fits = (busy as u16 == expected) & (forbidden <= 1);
-    if !fits {
-        return Found::Bad;
-    }
-    let flag = forbidden as usize;
-    let sum = t.holder + holder;
-    let flags = t.forbidden + flag;
-    let readers = t.readers + flag * reading;
-    let backed_off = t.backed_off + backed;
-    Found::Good(Tally {
-        holder: sum,
-        forbidden: flags,
-        readers,
-        backed_off,
-    })
-}
-
 // "the mutex is 1 exactly if there is one"
 fn mutex_agrees(t: Tally, mutex: u8) -> bool
     ensures { λ r. ⌜ r ≡ mutexAgrees t mutex ⌝ }
@@ -105,7 +39,7 @@ fn some_elsewhere(t: Tally, threads: usize) -> bool
     t.backed_off < threads
 }
 
-// The target's phase and forbidden; where the target is no thread, 0 and 0.
+// The target's phase and forbidden; where the target is no thread, those of thread 0.
 pub struct Aim {
     pub phase: u8,
     pub forbidden: u8,
@@ -115,8 +49,8 @@ pub struct Aim {
 fn aim_fits(t: Tally, aim: Aim) -> bool
     ensures { λ r. ⌜ r ≡ aimFits t aim ⌝ }
 {
-    let TallyRow(_, _, reading, _) = row_of(aim.phase);
-    (aim.forbidden == 1) & (t.readers == reading)
+    let reading = (5 <= aim.phase) & (aim.phase <= 7);
+    (aim.forbidden == 1) & (t.readers == reading as usize)
 }
 
 // The rules for no holder, or one in another phase.
@@ -124,7 +58,10 @@ fn rest_fits(t: Tally, threads: usize) -> bool
     ensures { λ r. ⌜ r ≡ restFits t threads ⌝ }
 {
     let h = t.holder;
-    if (h == 0) | ((h == 16) | (h == 18)) {
+    if h == 0 {
+        return t.forbidden == 0;
+    }
+    if (h == 16) | (h == 18) {
         return t.forbidden == 0;
     }
     if h == 10 {

@@ -1,2 +1,3 @@
--- What the answers of `examine` mean.
+-- What the answers of `examine` mean; the pass over the words of threads.
 pub mod TableTests
+pub mod Collected

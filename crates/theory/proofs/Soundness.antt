@@ -317,7 +317,7 @@ module _ (s : Table) where
 -- ---- all of them
 
 -- a busy flag of the table of phases is 0 or 1, by trying the phases
-busy-bit : (p : ℕ) → p ≤ lastPhase → busyIn p ≤ 1
+pub busy-bit : (p : ℕ) → p ≤ lastPhase → busyIn p ≤ 1
 unfolding rows every
 busy-bit p l = leb→le (busyIn p) 1 (every-at (λ q. leb (busyIn q) 1) (suc lastPhase) tt p (omega arith))
 

@@ -1,0 +1,4 @@
+-- Bounds of rows; what a word tells of its thread; what the total of all rows and all bits seen tell.
+pub mod RowBounds
+pub mod Words
+pub mod Packed
