@@ -5,7 +5,7 @@ use native.Mathlib.Omega.{arith}
 use mathlib.Core.Bool.{Bool, true, false, cond, _&&_, and-true, and-false}
 use mathlib.Core.Logic.{⊎-elim}
 use mathlib.Core.Path.{_≡_, refl, sym, subst, ap, ap₂, _∙_}
-use borrow.Author.Tests.{eqb-true}
+use borrow.Author.Tests.{eqb-true, eqb-false}
 use lib.Bits.{bitAnd, bitOr}
 use lib.Dec.{T, eqb}
 use Rattle.definitions.specs.Bounds.{mostThreads}
@@ -18,7 +18,7 @@ use Rattle.table.specs.Words.{threadWord, oddWord}
 use Rattle.rows.proofs.Packed.{packed}
 use Rattle.rows.proofs.RowBounds.{row-most}
 use Rattle.rows.proofs.Words.{row-in, few-word, few-both}
-use Rattle.theory.proofs.Tests.{and-l, and-r, either}
+use Rattle.theory.proofs.Tests.{and-l, and-r, and-i, either}
 
 -- ---- tests of a word
 
@@ -116,7 +116,7 @@ module _ (s : Table) (last : ℕ) where
           most = omega arith;
           few = few-both (threadWord s last 0) (oddWord s last) high ∙ ap₂ (λ (a b : Bool). a && b) (word-few s last 0 here) odd-few;
           added = λ t.
-          ap₂ (λ (a b : ℕ). a + b) (word-row s last 0 here (and-l (fewAt s last) _ t)) (odd-row (and-r (fewAt s last) _ t));
+          omega (arith, word-row s last 0 here (and-l (fewAt s last) _ t), odd-row (and-r (fewAt s last) _ t));
         }
 
   module _ (k sum seen first second : ℕ) (c : Collected k sum seen first second) where
@@ -145,8 +145,35 @@ module _ (s : Table) (last : ℕ) where
       where
         more : T (every k (fewAt s) && fewAt s k && fewAt s (suc k)) → T restFew
             → sum′ + (rowAt (stateIn (threadWord s k above)) + rowAt (stateIn (threadWord s (suc k) above′))) ≡ total k (threadRow s) + threadRow s k + threadRow s (suc k) + restRows
-        more t r = ?
+        more t r =
+            let both = and-l (every k (fewAt s) && fewAt s k) (fewAt s (suc k)) t in
+            let before = c .added (and-i (every k (fewAt s)) restFew (and-l (every k (fewAt s)) (fewAt s k) both) r) in
+            omega (
+              arith,
+              before,
+              word-row s k above one (and-r (every k (fewAt s)) (fewAt s k) both),
+              word-row s (suc k) above′ two (and-r (every k (fewAt s) && fewAt s k) (fewAt s (suc k)) t),
+            )
 
     -- all threads were at hand
     pub ended : (n : ℕ) → k ≡ 2 * (last / 2) → n ≡ suc last → n ≤ mostThreads → foundBy sum′ seen′ ≡ foundOf s n
-    ended n even is most = ?
+    unfolding every total
+    ended n even is most = ⊎-elim by-itself with-one (either alone)
+      where
+        all : every n (fewAt s) ≡ fewIn k → total n (threadRow s) ≡ total k (threadRow s) + restRows → foundBy sum′ seen′ ≡ foundOf s n
+        all e f = packed s n sum′ seen′ most (c .few ∙ sym e) (λ t. c .added (subst T e t) ∙ sym f)
+
+        by-itself : alone ≡ true → foundBy sum′ seen′ ≡ foundOf s n
+        by-itself a =
+            let at : k ≡ last = omega (arith, eqb-true (last % 2) 0 a) in
+            all
+            (rw (is, at, a) (ap (λ (b : Bool). every last (fewAt s) && b) (sym (and-true (fewAt s last)))))
+            (rw (is, at, a) (omega arith))
+
+        with-one : alone ≡ false → foundBy sum′ seen′ ≡ foundOf s n
+        with-one a =
+            let at : last ≡ suc k = omega (arith, eqb-false (last % 2) 0 a) in
+            let before : last - 1 ≡ k = omega arith in
+            all
+            (rw (is, a, before, at) (sym (swapped (every k (fewAt s)) (fewAt s k) (fewAt s (suc k)))))
+            (rw (is, a, before, at) (omega arith))

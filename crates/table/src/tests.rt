@@ -11,7 +11,9 @@ use soundness::Aim;
 use soundness::Found;
 use soundness::Tally;
 ghost use Prim.Native.Nat.{_+_, _<_};
+ghost use mathlib.Core.Bool.{cond};
 ghost use mathlib.Core.Path.{_≡_};
+ghost use lib.Dec.{ltb};
 ghost use lib.ListN.{length};
 ghost use Rattle.definitions.specs.Table.{tableOf, sized};
 ghost use Rattle.soundness.specs.Pass.{foundOf, aimOf, passes};
@@ -107,16 +109,23 @@ fn found(table: &[u8], threads: usize) -> Found
     }
 }
 
-// The bytes of the thread that the target names, of thread 0 where it names none: bytes that are there in either case are
-// loaded without a branch.
+// The thread that the target names, and thread 0 where it names none, whose bytes are there too.
+fn aimed_at(threads: usize, target: usize) -> usize
+    ensures { λ r. ⌜ r ≡ cond (ltb target threads) target 0 ⌝ }
+{
+    if target < threads {
+        return target;
+    }
+    0
+}
+
+// Its phase and forbidden.
 fn aim_of(table: &[u8], threads: usize) -> Aim
     requires { ⌜ Sized (now table) × (threads ≡ tableOf (now table) .threads) ⌝ }
     ensures { λ r. ⌜ r ≡ aimOf (tableOf (now (table .entry))) ⌝ }
 {
-    let mut at = table[TARGET_AT] as usize;
-    if threads <= at {
-        at = 0;
-    }
+    let target = table[TARGET_AT] as usize;
+    let at = aimed_at(threads, target);
     let phase = table[phase_at(at)];
     let forbidden = table[forbidden_at(at)];
     Aim { phase, forbidden }

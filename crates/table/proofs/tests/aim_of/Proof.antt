@@ -1,55 +1,64 @@
--- `aim_of` meets its contract: what it reads are the target's bytes, where the target is a thread.
+-- `aim_of` meets its contract: what it reads are the bytes of a thread of the table.
+use Prim.Native.Nat.{ℕ, _≤_, _<_}
 use native.Mathlib.Omega.{arith}
+use mathlib.Core.Bool.{cond}
+use mathlib.Core.Path.{_≡_, sym, subst}
 use borrow.Author.Needs.{needs}
-use borrow.Author.Tests.{lt-ltb, le-ltb}
-use lib.ListN.{getD}
+use lib.Dec.{ltb, ltb→lt}
 use Rattle.soundness.specs.Pass.{aimOf}
+use Rattle.theory.proofs.Tests.{cond-either}
 use Rattle.table.proofs.tests.aim_of.Statement.{statement}
 use Rattle.table.proofs.tests.aim_of.Tie as tie
 
-shared-slice-read-at : tie.Need-shared-slice-read-at
-shared-slice-read-at c = search needs
+-- there is a thread 0
+is-thread : (n target at : ℕ) → 1 ≤ n → at ≡ cond (ltb target n) target 0 → at < n
+is-thread n target at l e =
+    subst (λ (i : ℕ). i < n) (sym e) (cond-either (λ (i : ℕ). i < n) (ltb target n) target 0 (ltb→lt target n) (λ _. l))
 
-cast-at : tie.Need-cast-at
-cast-at c = omega (arith, c .shared-slice-known2 .given 2)
+shared-slice-read-target : tie.Need-shared-slice-read-target
+shared-slice-read-target c = search needs
+
+cast-target : tie.Need-cast-target
+cast-target c = omega (arith, c .shared-slice-known2 .given 2)
+
+aimed-at-requires : tie.Need-aimed-at-requires
+aimed-at-requires c κs = search needs
+
+aimed : (c : tie.After-aimed-at) → c .aimed-at .result < c .before .before .before .args .threads
+aimed c = is-thread _ _ _ (omega (arith, c .before .before .before .pre)) (c .aimed-at .ensures)
+
+phase-at-requires : tie.Need-phase-at-requires
+phase-at-requires c κs = omega (arith, aimed c)
+
+shared-slice-read-phase : tie.Need-shared-slice-read-phase
+shared-slice-read-phase c = omega (arith, aimed (c .before .before))
+
+forbidden-at-requires : tie.Need-forbidden-at-requires
+forbidden-at-requires c κs = omega (arith, aimed (c .before .before))
+
+shared-slice-read-forbidden : tie.Need-shared-slice-read-forbidden
+shared-slice-read-forbidden c = omega (arith, aimed (c .before .before .before .before))
 
 returns : tie.Need-returns
 unfolding aimOf
 returns c =
-    let table = c .before .before .before .args .table .now in
-    simp (le-ltb (getD table 2 0) (getD table 0 0) (omega arith))
-
-phase-at-requires : tie.Need-phase-at-requires
-phase-at-requires c κs = search needs
-
-shared-slice-read-phase : tie.Need-shared-slice-read-phase
-shared-slice-read-phase c = search needs
-
-forbidden-at-requires : tie.Need-forbidden-at-requires
-forbidden-at-requires c κs = search needs
-
-shared-slice-read-forbidden : tie.Need-shared-slice-read-forbidden
-shared-slice-read-forbidden c = search needs
-
-returns-2 : tie.Need-returns-2
-unfolding aimOf
-returns-2 c =
-    let table = c .before .before .before .before .before .before .before .args .table .now in
+    let called = c .before .before .before .before in
     simp (
-      lt-ltb (getD table 2 0) (getD table 0 0) (omega arith),
       c .before .before .before .phase-at .ensures,
       c .before .forbidden-at .ensures,
+      called .aimed-at .ensures,
+      called .before .before .before .pre .1,
     )
 
 pub aim-of-spec : {M : Type 1} → statement M
 aim-of-spec =
     tie.close
     (tie.spec
-    shared-slice-read-at
-    cast-at
-    returns
+    shared-slice-read-target
+    cast-target
+    aimed-at-requires
     phase-at-requires
     shared-slice-read-phase
     forbidden-at-requires
     shared-slice-read-forbidden
-    returns-2)
+    returns)

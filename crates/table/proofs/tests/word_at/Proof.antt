@@ -1,0 +1,92 @@
+-- `word_at` meets its contract: four bytes are below 2^32 as one number.
+use Prim.Native.Nat.{ℕ, _+_, _<_}
+use native.Mathlib.Omega.{arith}
+use borrow.Author.Needs.{needs}
+use lib.ListN.{getD}
+use Rattle.table.proofs.tests.word_at.Statement.{statement}
+use Rattle.table.proofs.tests.word_at.Tie as tie
+
+shared-slice-read-a : tie.Need-shared-slice-read-a
+shared-slice-read-a c = search needs
+
+cast-a : tie.Need-cast-a
+cast-a c = omega (arith, c .shared-slice-known .given (c .before .args .at))
+
+add-b : tie.Need-add-b
+add-b c = search needs
+
+shared-slice-read-b : tie.Need-shared-slice-read-b
+shared-slice-read-b c = search needs
+
+cast-b : tie.Need-cast-b
+cast-b c = omega (arith, c .shared-slice-known2 .given (c .before .before .args .at + 1))
+
+add-c : tie.Need-add-c
+add-c c = search needs
+
+shared-slice-read-c : tie.Need-shared-slice-read-c
+shared-slice-read-c c = search needs
+
+cast-c : tie.Need-cast-c
+cast-c c = omega (arith, c .shared-slice-known3 .given (c .before .before .before .args .at + 2))
+
+add-d : tie.Need-add-d
+add-d c = search needs
+
+shared-slice-read-d : tie.Need-shared-slice-read-d
+shared-slice-read-d c = search needs
+
+-- what stands at a place is a byte
+module _ (c : tie.After-shared-slice-known4) where
+  abbrev at : ℕ
+  at = c .before .before .before .before .args .at
+
+  is-byte : (k : ℕ) → getD (c .before .before .before .before .args .table .now) k 0 < 256
+  is-byte k = omega (arith, c .shared-slice-known4 .given k)
+
+cast-d : tie.Need-cast-d
+cast-d c = omega (arith, is-byte c (at c + 3))
+
+mul-result : tie.Need-mul-result
+mul-result c = omega (arith, is-byte c (at c + 1))
+
+add-result : tie.Need-add-result
+add-result c = omega (arith, is-byte c (at c), is-byte c (at c + 1))
+
+mul-result-2 : tie.Need-mul-result-2
+mul-result-2 c = omega (arith, is-byte c (at c + 2))
+
+add-result-2 : tie.Need-add-result-2
+add-result-2 c = omega (arith, is-byte c (at c), is-byte c (at c + 1), is-byte c (at c + 2))
+
+mul-result-3 : tie.Need-mul-result-3
+mul-result-3 c = omega (arith, is-byte c (at c + 3))
+
+add-result-3 : tie.Need-add-result-3
+add-result-3 c = omega (arith, is-byte c (at c), is-byte c (at c + 1), is-byte c (at c + 2), is-byte c (at c + 3))
+
+returns : tie.Need-returns
+returns c = search needs
+
+pub word-at-spec : {M : Type 1} → statement M
+word-at-spec =
+    tie.close
+    (tie.spec
+    shared-slice-read-a
+    cast-a
+    add-b
+    shared-slice-read-b
+    cast-b
+    add-c
+    shared-slice-read-c
+    cast-c
+    add-d
+    shared-slice-read-d
+    cast-d
+    mul-result
+    add-result
+    mul-result-2
+    add-result-2
+    mul-result-3
+    add-result-3
+    returns)
