@@ -86,11 +86,24 @@ pub struct Decided {
     pub outcome: Outcome,
 }
 
+// The mover in a phase. Its cells are named one by one, so that the compiler keeps each in a register of its own.
+fn in_phase(cells: Cells, phase: u8) -> Cells
+    ensures { λ r. ⌜ r ≡ withPhase cells phase ⌝ }
+{
+    Cells {
+        phase,
+        busy: cells.busy,
+        mutex: cells.mutex,
+        target: cells.target,
+        forbidden: cells.forbidden,
+    }
+}
+
 // The mover goes to a phase, quietly.
-fn step(mut cells: Cells, phase: u8) -> Decided
+fn step(cells: Cells, phase: u8) -> Decided
     ensures { λ r. ⌜ r ≡ quietBy (withPhase cells phase) ⌝ }
 {
-    cells.phase = phase;
+    let cells = in_phase(cells, phase);
     Decided {
         cells,
         outcome: Outcome::Quiet,
@@ -98,10 +111,10 @@ fn step(mut cells: Cells, phase: u8) -> Decided
 }
 
 // The same, with an event.
-fn show(mut cells: Cells, phase: u8, event: Event) -> Decided
+fn show(cells: Cells, phase: u8, event: Event) -> Decided
     ensures { λ r. ⌜ r ≡ shownBy (withPhase cells phase) event ⌝ }
 {
-    cells.phase = phase;
+    let cells = in_phase(cells, phase);
     Decided {
         cells,
         outcome: Outcome::Shown(event),

@@ -58,11 +58,12 @@ fn rest_fits(t: Tally, threads: usize) -> bool
     ensures { λ r. ⌜ r ≡ restFits t threads ⌝ }
 {
     let h = t.holder;
+    let clear = t.forbidden == 0;
     if h == 0 {
-        return t.forbidden == 0;
+        return clear;
     }
     if (h == 16) | (h == 18) {
-        return t.forbidden == 0;
+        return clear;
     }
     if h == 10 {
         return (t.forbidden < threads) & (t.readers == 0);

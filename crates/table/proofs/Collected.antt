@@ -116,7 +116,7 @@ module _ (s : Table) (last : ℕ) where
           most = omega arith;
           few = few-both (threadWord s last 0) (oddWord s last) high ∙ ap₂ (λ (a b : Bool). a && b) (word-few s last 0 here) odd-few;
           added = λ t.
-          omega (arith, word-row s last 0 here (and-l (fewAt s last) _ t), odd-row (and-r (fewAt s last) _ t));
+              omega (arith, word-row s last 0 here (and-l (fewAt s last) _ t), odd-row (and-r (fewAt s last) _ t));
         }
 
   module _ (k sum seen first second : ℕ) (c : Collected k sum seen first second) where

@@ -35,12 +35,10 @@ module _ (t : Tally) (n : ℕ) where
         in-15 e = simp (ne-eqb (t .holder) 0 a, b, ne-eqb (t .holder) 10 d, e)
 
 returns : tie.Need-returns
-returns c = in-none _ _ (c .before .if1 .taken)
+returns c = in-none _ _ (c .if1 .taken)
 
 returns-2 : tie.Need-returns-2
-returns-2 c =
-    let at = c .before in
-    in-opened _ _ (at .before .if1 .left) (at .if2 .taken)
+returns-2 c = in-opened _ _ (c .before .if1 .left) (c .if2 .taken)
 
 returns-3 : tie.Need-returns-3
 returns-3 c =
