@@ -10,13 +10,13 @@ use lib.ListN.{length, getD, set, take, replicate, length-set, length-replicate}
 use lib.Seq.{getD-set-same, getD-set-other}
 use Rattle.definitions.specs.Answers.{numberOf, answerReply, accepted, refused, Test, test, answered, passesAll}
 use Rattle.definitions.specs.Bounds.{mostThreads, mostHistory}
-use Rattle.definitions.specs.PlainLock.{Pair, pairsOf, Places, placesIn, atStart, placeAfter, advanced, placesAfter, pairTests, testsOf, formTests, pairsTests, checkTests, howManyAt}
+use Rattle.definitions.specs.PlainLock.{Pair, pairsOf, Places, placesIn, atStart, placeAfter, advanced, placesAfter, pairTests, testsOf, formTests, pairsTests, checkTests}
 use Rattle.definitions.specs.Table.{countFits}
 use Rattle.definitions.specs.Threads.{gather}
 use Rattle.definitions.specs.declared.Answer.{Answer}
 use Rattle.definitions.specs.declared.Answer.the-variants.{Done, Refused}
 use Rattle.definitions.specs.declared.Refusal.{Refusal}
-use Rattle.history.specs.Counts.{standingOf, standingAfter, Counted}
+use Rattle.history.specs.Counts.{totalAt, standingOf, standingAfter, Counted}
 use Rattle.history.specs.Pairs.{Passed}
 use Rattle.history.specs.declared.Standing.{Standing}
 use Rattle.history.specs.declared.Verdict.{Verdict}
@@ -64,40 +64,43 @@ pair-at (t ∷ e ∷ rest) (suc k) l = pair-at rest k (omega arith) ∙ rw (even
 
 -- ---- a pass
 
-pub passed-none : (n : ℕ) (bytes : List ℕ) → Passed n bytes (replicate 256 0) 0 0 0
+pub passed-none : (n : ℕ) (bytes : List ℕ) → Passed n bytes (replicate 256 0) 0 0
 unfolding placesAfter gather passesAll
 passed-none n bytes =
     record {
       within = omega arith;
       size = length-replicate {A = ℕ} 256 0;
       after = fun-ext (zeros 256);
-      in-shared = sym (howMany-none (λ t. eqb (placesIn (replicate 256 0) t) 2) n (λ t l. rw (zeros 256 t) tt));
-      in-exclusive = sym (howMany-none (λ t. eqb (placesIn (replicate 256 0) t) 6) n (λ t l. rw (zeros 256 t) tt));
+      counted = omega (
+        arith,
+        howMany-none (λ t. eqb (placesIn (replicate 256 0) t) 2) n (λ t l. rw (zeros 256 t) tt),
+        howMany-none (λ t. eqb (placesIn (replicate 256 0) t) 6) n (λ t l. rw (zeros 256 t) tt),
+      );
       tested = tt;
     }
 
 -- past the last pair all have passed
-pub passed-all : (n : ℕ) (bytes places : List ℕ) (shared exclusive k : ℕ) → Passed n bytes places shared exclusive k → length bytes / 2 ≤ k
+pub passed-all : (n : ℕ) (bytes places : List ℕ) (inside k : ℕ) → Passed n bytes places inside k → length bytes / 2 ≤ k
     → (answer : ℕ) → accepted answer ≡ answered (pairsTests n bytes) answer
-passed-all n bytes places shared exclusive k s l answer =
+passed-all n bytes places inside k s l answer =
     let e : k ≡ length (pairsOf bytes) = omega (arith, s .within, pairs-length bytes) in
     sym (all-passed answer (pairsTests n bytes) (subst (λ (j : ℕ). T (passesAll (gather j (testsOf n (pairsOf bytes))))) e (s .tested)))
 
 -- pair k, as a turn of the pass judges it
-module _ (n : ℕ) (bytes a : List ℕ) (shared exclusive k : ℕ) (s : Passed n bytes a shared exclusive k) (l : k < length bytes / 2) where
+module _ (n : ℕ) (few : n ≤ mostThreads) (bytes a : List ℕ) (inside k : ℕ) (s : Passed n bytes a inside k) (l : k < length bytes / 2) where
   abbrev x : Pair
   x = pairAt bytes k
 
   abbrev standing : Standing
-  standing = record { place = placesIn a (x .thread); shared = shared; exclusive = exclusive }
+  standing = record { place = placesIn a (x .thread); inside = inside }
 
   standing-is : standing ≡ standingOf n (placesIn a) (x .thread)
-  standing-is = same-standing refl (s .in-shared) (s .in-exclusive)
+  standing-is = same-standing refl (s .counted)
 
-  pub counted-here : n ≤ mostThreads → Counted n (x .thread) standing
-  counted-here few =
+  pub counted-here : Counted n (x .thread) standing
+  counted-here =
       subst (Counted n (x .thread)) (sym standing-is)
-      (is-counted n (placesIn a) (x .thread) few
+      (is-counted n (placesIn a) few (x .thread)
       (λ e. in-round atStart (take k (pairsOf bytes)) (λ t z. omega arith) (x .thread) (sym (ap (λ (p : Places). p (x .thread)) (s .after)) ∙ e)))
 
   tests-here : testsOf n (pairsOf bytes) k ≡ pairTests n (placesIn a) k x
@@ -111,14 +114,14 @@ module _ (n : ℕ) (bytes a : List ℕ) (shared exclusive k : ℕ) (s : Passed n
       let after = standingAfter standing (x .event) in
       sym (first-failed (testsOf n (pairsOf bytes)) answer after k (length (pairsOf bytes)) (numberOf r) k
       (omega (arith, pairs-length bytes)) (s .tested)
-      (ap (λ (ts : List Test). answered ts after) tests-here ∙ bad-verdict n (placesIn a) x standing standing-is v r w judged k))
+      (ap (λ (ts : List Test). answered ts after) tests-here ∙ bad-verdict n (placesIn a) x few standing standing-is v r w judged k))
 
   -- one that fits leads on
   pub goes-on : (v : Verdict) (z : Standing) → v ≡ Fits z → VerdictOf n x standing v → x .thread < 256
-      → Passed n bytes (set a (x .thread) (z .place)) (z .shared) (z .exclusive) (k + 1)
+      → Passed n bytes (set a (x .thread) (z .place)) (z .inside) (k + 1)
   goes-on v z w judged byte =
       let h = pairsOf bytes in
-      let fit = fit-verdict n (placesIn a) x standing standing-is v z w judged k in
+      let fit = fit-verdict n (placesIn a) x few standing standing-is v z w judged k in
       let m : placesIn (set a (x .thread) (z .place)) ≡ advanced (placesIn a) x = rw (fit .placed) (placesIn-set a x (omega (arith, s .size))) in
       record {
         within = omega arith;
@@ -126,8 +129,7 @@ module _ (n : ℕ) (bytes a : List ℕ) (shared exclusive k : ℕ) (s : Passed n
         after = m
             ∙ (ap (λ (p : Places). advanced p x) (s .after)
             ∙ (ap (advanced (placesAfter atStart (take k h))) (sym (pair-at bytes k l)) ∙ sym (places-more h k (omega (arith, pairs-length bytes)))));
-        in-shared = ap (λ (y : Standing). y .shared) (fit .after) ∙ ap (λ (p : Places). howManyAt n p 2) (sym m);
-        in-exclusive = ap (λ (y : Standing). y .exclusive) (fit .after) ∙ ap (λ (p : Places). howManyAt n p 6) (sym m);
+        counted = ap (λ (y : Standing). y .inside) (fit .after) ∙ ap (totalAt n) (sym m);
         tested = one-more (testsOf n h) k (s .tested) (subst (λ (ts : List Test). T (passesAll ts)) (sym tests-here) (fit .passes));
       }
 

@@ -1,18 +1,17 @@
 -- What the row of a code says: which place an event follows, that a total meets its need, and what it does to a standing.
-use Prim.Native.Nat.{ℕ, zero, suc, _+_, _-_, _*_, _%_, _^_, _≤_, _<_}
+use Prim.Native.Nat.{ℕ, _+_, _-_, _/_, _%_, _^_, _≤_, _<_}
 use native.Mathlib.Omega.{arith}
-use mathlib.Core.Bool.{Bool, true, false, cond, not, _&&_, _||_}
-use mathlib.Core.Logic.{_⊎_, inl, inr}
-use mathlib.Core.Path.{_≡_, refl, sym, subst, ap, _∙_}
-use borrow.Author.Tests.{eq-eqb, ne-eqb, le-leb, lt-leb}
-use lib.Dec.{T, leb, eqb, eqb→eq, eqb·suc-zero, leb→le}
-use Rattle.definitions.specs.PlainLock.{isNext}
+use mathlib.Core.Bool.{Bool, true, false, cond, not, _||_}
+use mathlib.Core.Logic.{_⊎_, inl, inr, ⊎-elim}
+use mathlib.Core.Path.{_≡_, sym, subst, ap, _∙_}
+use borrow.Author.Tests.{eq-eqb, ne-eqb}
+use lib.Dec.{T, leb, eqb, eqb→eq, leb→le}
+use Rattle.definitions.specs.PlainLock.{placeAfter, isNext}
 use Rattle.definitions.specs.Threads.{between}
-use Rattle.history.specs.Counts.{countsMeet, standingAfter, Counted}
-use Rattle.history.specs.Rows.{writer, readers, any, less, mostFor, placeBefore, change, knownRow, unknownRow, eventRow}
-use Rattle.history.specs.declared.EventRow.{EventRow}
+use Rattle.history.specs.Counts.{writer, total, readers, any, mostFor, countsMeet, countedIn, countedOut, standingAfter, Counted}
+use Rattle.history.specs.Rows.{placeBefore, change, packed, knownRow, noPlace, unknownRow, eventRow, movedBy}
 use Rattle.history.specs.declared.Standing.{Standing}
-use Rattle.theory.proofs.Tests.{and-l, or-l, same-test, no-both, eq-T, decided, cond-yes, cond-no, same?}
+use Rattle.theory.proofs.Tests.{and-l, and-r, or-l, same-test, no-both, eq-T, decided, cond-yes, cond-no, cond-either, same?}
 use Rattle.history.proofs.PlainLaws.{Next, calls-shared, calls-exclusive, goes-on, next-e, leaves-by}
 use Rattle.history.proofs.StandingLaws.{same-standing}
 
@@ -23,6 +22,43 @@ row-known code t = cond-yes (between 1 8 code) (knownRow code) unknownRow t
 pub row-unknown : (code : ℕ) → T (not (between 1 8 code)) → eventRow code ≡ unknownRow
 unfolding eventRow
 row-unknown code t = cond-no (between 1 8 code) (knownRow code) unknownRow t
+
+-- ---- the digits of a row
+
+-- what is read of a row is what was packed
+record Unpacked (row before after added most : ℕ) : Type 0 where
+  pub before-is : row % 2 ^ 8 ≡ before
+  pub after-is : row / 2 ^ 8 % 2 ^ 8 ≡ after
+  pub added-is : row / 2 ^ 16 % 2 ^ 16 ≡ added
+  pub most-is : row / 2 ^ 32 ≡ most
+  pub short : row < 2 ^ 48
+
+unpacked : (before after added most : ℕ) → before < 2 ^ 8 → after < 2 ^ 8 → added < 2 ^ 16 → most < 2 ^ 16 → Unpacked (packed before after added most) before after added most
+unpacked before after added most b a d m =
+    record { before-is = omega arith; after-is = omega arith; added-is = omega arith; most-is = omega arith; short = omega arith }
+
+known-digits : (event : ℕ) → T (between 1 8 event) → Unpacked (eventRow event) (placeBefore event) (placeAfter event) (change event) (mostFor event)
+known-digits event known =
+    rw (row-known event known)
+    (unpacked (placeBefore event) (placeAfter event) (change event) (mostFor event)
+    (cond-either (λ p. p < 2 ^ 8) (eqb event 1 || eqb event 5) 0 (event - 1) (λ t. omega arith) (λ t. omega (arith, most)))
+    (cond-either (λ p. p < 2 ^ 8) (eqb event 4 || eqb event 8) 0 event (λ t. omega arith) (λ t. omega (arith, most)))
+    (omega arith)
+    (totals (eqb event 2) (eqb event 6)))
+  where
+    most : event ≤ 8
+    most = leb→le event 8 (and-r (leb 1 event) (leb event 8) known)
+
+    totals : (a b : Bool) → cond a readers (cond b 0 any) < 2 ^ 16
+    totals true b = omega arith
+    totals false true = omega arith
+    totals false false = omega arith
+
+unknown-digits : (code : ℕ) → T (not (between 1 8 code)) → Unpacked (eventRow code) noPlace 0 0 any
+unknown-digits code unknown = rw (row-unknown code unknown) (unpacked noPlace 0 0 any (omega arith) (omega arith) (omega arith) (omega arith))
+
+pub row-short : (code : ℕ) → eventRow code < 2 ^ 48
+row-short code = ⊎-elim (λ t. known-digits code t .short) (λ t. unknown-digits code t .short) (decided (between 1 8 code))
 
 -- ---- the place before
 
@@ -51,62 +87,55 @@ follows place event known fine =
     from (goes-on c) (inr a) (inl b) = absurd (fine (omega arith))
     from (goes-on c) (inr a) (inr b) = rw (ne-eqb event 1 a, ne-eqb event 5 b) (omega arith)
 
--- ---- the total
+-- ---- what is done to a total
 
-most-readers : (s e : ℕ) → s < writer → leb (s + writer * e) readers ≡ eqb e 0
-most-readers s zero l = le-leb (s + writer * 0) readers (omega arith)
-most-readers s (suc e) l = lt-leb (s + writer * suc e) readers (omega arith) ∙ sym (eqb·suc-zero e)
-
-most-none : (s e : ℕ) → leb (s + writer * e) 0 ≡ eqb s 0 && eqb e 0
-most-none zero zero = refl
-most-none zero (suc e) = lt-leb (0 + writer * suc e) 0 (omega arith) ∙ sym (eqb·suc-zero e)
-most-none (suc s) e = lt-leb (suc s + writer * e) 0 (omega arith) ∙ ap (λ (b : Bool). b && eqb e 0) (sym (eqb·suc-zero s))
-
-meets : (s : Standing) (event : ℕ) → s .shared < writer → s .exclusive < writer → leb (s .shared + writer * s .exclusive) (mostFor event) ≡ countsMeet s event
-meets s event few-shared few-exclusive = by (eqb event 2) (eqb event 6)
+-- an event counts at most one thread of each kind into it
+in-most : (event : ℕ) → countedIn event ≤ writer + 1
+in-most event = by (eqb event 2) (eqb event 6)
   where
-    by : (a b : Bool) → leb (s .shared + writer * s .exclusive) (cond a readers (cond b 0 any)) ≡ cond a (eqb (s .exclusive) 0) (cond b (eqb (s .shared) 0 && eqb (s .exclusive) 0) true)
-    by true b = most-readers (s .shared) (s .exclusive) few-shared
-    by false true = most-none (s .shared) (s .exclusive)
-    by false false = le-leb (s .shared + writer * s .exclusive) any (omega arith)
+    by : (a b : Bool) → total (cond a 1 0) (cond b 1 0) ≤ writer + 1
+    by true true = omega arith
+    by true false = omega arith
+    by false true = omega arith
+    by false false = omega arith
 
--- ---- what is count-after to a count
-
-count-after : (count place event : ℕ) → count < less → (event ≡ place + 1 → 1 ≤ count)
-    → (count + change place event) % 2 ^ 16 ≡ count + cond (eqb event place) 1 0 - cond (eqb event (place + 1)) 1 0
-count-after count place event few some = by (same? event place) (same? event (place + 1))
+-- and out of it what it holds
+out-most : (inside event : ℕ) → (event ≡ 3 → 1 ≤ inside) → (event ≡ 7 → writer ≤ inside) → countedOut event ≤ inside
+out-most inside event shared exclusive = by (same? event 3) (same? event 7)
   where
-    by : (event ≡ place) ⊎ (event ≡ place → ⊥) → (event ≡ place + 1) ⊎ (event ≡ place + 1 → ⊥)
-        → (count + change place event) % 2 ^ 16 ≡ count + cond (eqb event place) 1 0 - cond (eqb event (place + 1)) 1 0
-    by (inl e) w = rw (eq-eqb event place e, ne-eqb event (place + 1) (λ d. omega arith)) (omega arith)
-    by (inr d) (inl e) = let l = some e in rw (ne-eqb event place d, eq-eqb event (place + 1) e) (omega arith)
-    by (inr d) (inr e) = rw (ne-eqb event place d, ne-eqb event (place + 1) e) (omega arith)
+    by : (event ≡ 3) ⊎ (event ≡ 3 → ⊥) → (event ≡ 7) ⊎ (event ≡ 7 → ⊥) → countedOut event ≤ inside
+    by (inl e) w = let l = shared e in rw (eq-eqb event 3 e, ne-eqb event 7 (λ d. omega arith)) (omega arith)
+    by (inr d) (inl e) = let l = exclusive e in rw (ne-eqb event 3 d, eq-eqb event 7 e) (omega arith)
+    by (inr d) (inr e) = rw (ne-eqb event 3 d, ne-eqb event 7 e) (omega arith)
+
+-- what is added, modulo 2 ^ 16, leaves what the event leaves
+wrapped : (inside added taken : ℕ) → inside + added < 2 ^ 16 → taken ≤ inside → (inside + (added + (2 ^ 16 - taken)) % 2 ^ 16) % 2 ^ 16 ≡ inside + added - taken
+wrapped inside added taken few some = omega arith
 
 -- ---- a code's row at a standing
 
 module _ (n thread : ℕ) (s : Standing) (code : ℕ) (c : Counted n thread s) where
   -- of an event
   module _ (known : T (between 1 8 code)) where
-    pub next-known : eqb (s .place) (eventRow code .before) ≡ isNext (s .place) code
-    next-known = ap (λ (r : EventRow). eqb (s .place) (r .before)) (row-known code known) ∙ follows (s .place) code known (c .in-round)
+    pub next-known : eqb (s .place) (eventRow code % 2 ^ 8) ≡ isNext (s .place) code
+    next-known = ap (eqb (s .place)) (known-digits code known .before-is) ∙ follows (s .place) code known (c .in-round)
 
-    pub met-known : leb (s .shared + writer * s .exclusive) (eventRow code .most) ≡ countsMeet s code
-    met-known =
-        ap (λ (r : EventRow). leb (s .shared + writer * s .exclusive) (r .most)) (row-known code known)
-        ∙ meets s code (omega (arith, c .few, c .shared-most)) (omega (arith, c .few, c .exclusive-most))
+    pub met-known : leb (s .inside) (eventRow code / 2 ^ 32) ≡ countsMeet s code
+    met-known = ap (leb (s .inside)) (known-digits code known .most-is)
 
-    pub moved-known : thread < n → T (isNext (s .place) code)
-        → record { place = eventRow code .after; shared = (s .shared + eventRow code .shared) % 2 ^ 16; exclusive = (s .exclusive + eventRow code .exclusive) % 2 ^ 16 } ≡ standingAfter s code
+    pub moved-known : thread < n → T (isNext (s .place) code) → movedBy s (eventRow code) ≡ standingAfter s code
     moved-known l next =
-        rw (row-known code known)
-        (same-standing refl
-        (count-after (s .shared) 2 code (omega (arith, c .few, c .shared-most)) (λ e. c .in-shared l (left 2 (omega arith) (λ d. omega arith) e)))
-        (count-after (s .exclusive) 6 code (omega (arith, c .few, c .exclusive-most)) (λ e. c .in-exclusive l (left 6 (omega arith) (λ d. omega arith) e))))
+        let digits = known-digits code known in
+        same-standing (digits .after-is)
+        (ap (λ (added : ℕ). (s .inside + added) % 2 ^ 16) (digits .added-is)
+        ∙ wrapped (s .inside) (countedIn code) (countedOut code) (omega (arith, c .few, c .most, in-most code))
+        (out-most (s .inside) code
+        (λ e. c .in-shared l (left 2 (omega arith) (λ d. omega arith) e))
+        (λ e. c .in-exclusive l (left 6 (omega arith) (λ d. omega arith) e))))
       where
         left : (at : ℕ) → 1 ≤ at → (at ≡ 4 → ⊥) → code ≡ at + 1 → s .place ≡ at
         left at some no-4 e = eqb→eq (s .place) at (subst T (sym (leaves-by (s .place) code at some no-4 next)) (eq-T code (at + 1) e))
 
   -- of a code that is no event
-  pub next-unknown : s .place < 256 → T (not (between 1 8 code)) → eqb (s .place) (eventRow code .before) ≡ false
-  next-unknown byte unknown =
-      ap (λ (r : EventRow). eqb (s .place) (r .before)) (row-unknown code unknown) ∙ ne-eqb (s .place) 256 (λ e. omega arith)
+  pub next-unknown : T (not (between 1 8 code)) → eqb (s .place) (eventRow code % 2 ^ 8) ≡ false
+  next-unknown unknown = ap (eqb (s .place)) (unknown-digits code unknown .before-is) ∙ ne-eqb (s .place) noPlace (c .in-round)

@@ -1,12 +1,12 @@
 -- What `judge` promises of its verdict (`VerdictOf`), read by the plain lock's tests: a bad verdict is the first test that fails (`bad-verdict`), and one that fits passes all and leaves
--- the place and the counts of the places after the event (`fit-verdict`). The check's loop and the watcher both go by these.
-use Prim.Native.Nat.{ℕ, _<_}
+-- the place and the total of the places after the event (`fit-verdict`). The check's loop and the watcher both go by these.
+use Prim.Native.Nat.{ℕ, _≤_, _<_}
 use mathlib.Core.Bool.{_&&_}
 use mathlib.Core.List.{List, [], _∷_}
 use mathlib.Core.Path.{_≡_, sym, subst, ap, _∙_}
 use lib.Dec.{T, ltb, ltb→lt}
 use Rattle.definitions.specs.Answers.{numberOf, refused, Test, testAt, answered, passesAll}
-use Rattle.definitions.specs.Bounds.{firstEvent, lastEvent}
+use Rattle.definitions.specs.Bounds.{mostThreads, firstEvent, lastEvent}
 use Rattle.definitions.specs.PlainLock.{Pair, Places, placeAfter, advanced, isNext, needMet, pairTests}
 use Rattle.definitions.specs.Threads.{between}
 use Rattle.definitions.specs.declared.Refusal.{Refusal}
@@ -22,10 +22,10 @@ use Rattle.history.proofs.StandingLaws.{tests-same, standing-after}
 abbrev pub VerdictOf : ℕ → Pair → Standing → Verdict → Type 0
 VerdictOf n x s v = (k : ℕ) → verdictReply k v ≡ answered (countTests n s k x) (standingAfter s (x .event))
 
-module _ (n : ℕ) (p : Places) (x : Pair) (s : Standing) (same : s ≡ standingOf n p (x .thread)) where
+module _ (n : ℕ) (p : Places) (x : Pair) (few : n ≤ mostThreads) (s : Standing) (same : s ≡ standingOf n p (x .thread)) where
   -- by counts or by places
   tests-are : (k : ℕ) → countTests n s k x ≡ pairTests n p k x
-  tests-are k = ap (λ (z : Standing). countTests n z k x) same ∙ tests-same n p k x
+  tests-are k = ap (λ (z : Standing). countTests n z k x) same ∙ tests-same n p few k x
 
   pub bad-verdict : (v : Verdict) (r : Refusal) → v ≡ Bad r → VerdictOf n x s v → (k : ℕ) → answered (pairTests n p k x) (standingAfter s (x .event)) ≡ refused (numberOf r) k
   bad-verdict v r w judged k =

@@ -1,16 +1,15 @@
 -- The plan of the pairs from an index on (`planFrom`), and what a loop that adds up the events' shares has counted of the pairs before it (`Counting`).
-use Prim.Native.Nat.{ℕ, _+_, _*_, _/_, _≤_, _<_}
+use Prim.Native.Nat.{ℕ, _+_, _*_, _/_, _%_, _≤_, _<_}
 use native.Mathlib.Nat.{add-mul, mul-le-mul-left}
 use native.Mathlib.Omega.{arith}
 use mathlib.Core.List.{List, [], _++_}
 use mathlib.Core.Path.{_≡_, ap}
 use lib.ListN.{length, getD, drop, length-append}
-use Rattle.definitions.specs.Bounds.{mostThreads}
+use Rattle.definitions.specs.Bounds.{mostThreads, mostHistory}
 use Rattle.definitions.specs.PlainLock.{pairsOf}
 use Rattle.definitions.specs.Plan.{planOf, plan}
 use Rattle.definitions.specs.declared.Request.{Request}
-use Rattle.plan.specs.Shares.{ShareOf}
-use Rattle.plan.specs.declared.Share.{Share}
+use Rattle.plan.specs.Shares.{each, movesOf, ShareOf}
 use Rattle.theory.proofs.Pairs.{pairAt, pairs-next, pairs-end}
 
 -- ---- the plan of the pairs from index k on
@@ -28,38 +27,46 @@ from-end n bytes k l = ap (plan n) (pairs-end bytes k l)
 
 -- ---- counted
 
--- k pairs are counted: the moves made once, and those made for each thread
-pub record Counting (n : ℕ) (bytes : List ℕ) (k once each : ℕ) : Type 0 where
+-- k pairs are counted: the shares of their events are added up
+pub record Counting (n : ℕ) (bytes : List ℕ) (k shares : ℕ) : Type 0 where
   pub within : k ≤ length bytes / 2
-  pub total : once + each * n + length (planFrom n bytes k) ≡ length (plan n (pairsOf bytes))
-  pub once-most : once ≤ 3 * k
-  pub each-most : each ≤ 2 * k
+  pub total : movesOf n shares + length (planFrom n bytes k) ≡ length (plan n (pairsOf bytes))
+  pub once-most : shares % each ≤ 3 * k
+  pub each-most : shares / each ≤ 2 * k
 
-pub counting-none : (n : ℕ) (bytes : List ℕ) → Counting n bytes 0 0 0
+pub counting-none : (n : ℕ) (bytes : List ℕ) → Counting n bytes 0 0
 counting-none n bytes = record { within = omega arith; total = omega arith; once-most = omega arith; each-most = omega arith }
 
-module _ (n : ℕ) (bytes : List ℕ) (k once each : ℕ) (a : Counting n bytes k once each) where
-  pub counting-more : (s : Share) → k < length bytes / 2 → ShareOf (getD bytes (2 * k + 1) 0) s → Counting n bytes (k + 1) (once + s .once) (each + s .each)
-  counting-more s l f =
+module _ (n : ℕ) (bytes : List ℕ) (k shares : ℕ) (a : Counting n bytes k shares) where
+  -- a history is too short for the moves made once to reach the others
+  pub counting-more : (share : ℕ) → length bytes ≤ mostHistory → k < length bytes / 2 → ShareOf (getD bytes (2 * k + 1) 0) share → Counting n bytes (k + 1) (shares + share)
+  counting-more share short l f =
       record {
         within = omega arith;
         total =
-            omega (
+            rw (once-sum, each-sum)
+            (omega (
               arith,
               a .total,
               f .whole n (getD bytes (2 * k) 0),
-              add-mul each (s .each) n,
+              add-mul (shares / each) (share / each) n,
               length-append (planOf n (pairAt bytes k)) (planFrom n bytes (k + 1)),
               ap length (from-next n bytes k l),
-            );
-        once-most = omega (arith, a .once-most, f .once-most);
-        each-most = omega (arith, a .each-most, f .each-most);
+            ));
+        once-most = omega (arith, once-sum, a .once-most, f .once-most);
+        each-most = omega (arith, each-sum, a .each-most, f .each-most);
       }
+    where
+      once-sum : (shares + share) % each ≡ shares % each + share % each
+      once-sum = omega (arith, a .once-most, f .once-most)
+
+      each-sum : (shares + share) / each ≡ shares / each + share / each
+      each-sum = omega (arith, a .once-most, f .once-most)
 
   -- what is made for each thread, at most 200
-  pub counting-each : n ≤ mostThreads → each * n ≤ 2 * mostThreads * k
-  counting-each few = omega (arith, mul-le-mul-left each few, a .each-most)
+  pub counting-each : n ≤ mostThreads → shares / each * n ≤ 2 * mostThreads * k
+  counting-each few = omega (arith, mul-le-mul-left (shares / each) few, a .each-most)
 
   -- past the last pair
-  pub counting-all : length bytes / 2 ≤ k → once + each * n ≡ length (plan n (pairsOf bytes))
+  pub counting-all : length bytes / 2 ≤ k → movesOf n shares ≡ length (plan n (pairsOf bytes))
   counting-all l = omega (arith, a .total, ap length (from-end n bytes k l))

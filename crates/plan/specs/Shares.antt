@@ -1,12 +1,19 @@
--- The share of an event in the length of a plan.
-use Prim.Native.Nat.{ℕ, _+_, _*_, _≤_}
+-- The share of an event in the length of a plan, in one number.
+use Prim.Native.Nat.{ℕ, _+_, _*_, _/_, _%_, _^_, _≤_}
 use mathlib.Core.Path.{_≡_}
 use lib.ListN.{length}
 use Rattle.definitions.specs.Plan.{planOf}
-use Rattle.plan.specs.declared.Share.{Share}
+
+-- in a share a move that is made once is 1, and one that is made again for each thread this, more than a history's events make once
+abbrev pub each : ℕ
+each = 2 ^ 32
+
+-- the moves of shares for n threads
+abbrev pub movesOf : ℕ → ℕ → ℕ
+movesOf n shares = shares % each + shares / each * n
 
 -- its plan's moves for any number of threads, few of either kind
-pub record ShareOf (event : ℕ) (s : Share) : Type 0 where
-  pub whole : (n thread : ℕ) → s .once + s .each * n ≡ length (planOf n (record { thread = thread; event = event }))
-  pub once-most : s .once ≤ 3
-  pub each-most : s .each ≤ 2
+pub record ShareOf (event share : ℕ) : Type 0 where
+  pub whole : (n thread : ℕ) → movesOf n share ≡ length (planOf n (record { thread = thread; event = event }))
+  pub once-most : share % each ≤ 3
+  pub each-most : share / each ≤ 2

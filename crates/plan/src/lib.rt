@@ -13,31 +13,30 @@ ghost use Rattle.definitions.specs.Plan.{plan, bytesOf, planEntry, planLengthRe
 ghost use Rattle.theory.specs.Outputs.{RoomAt, Delivered};
 ghost use Rattle.plan.specs.Shares.{ShareOf};
 
-// How many moves an event takes: those made once, and those made again for each thread.
-struct Share {
-    once: usize,
-    each: usize,
-}
+// In a share, a move that is made once is 1, and one that is made again for each thread this.
+const EACH: u64 = 4_294_967_296;
 
-// Shares are constants: they are compiled to tables, and not to branches, which are often mispredicted.
-fn share_of(code: u8) -> Share
+// How many moves an event takes, in one number. The shares are constants, and are compiled to a table, and not to branches,
+// which are often mispredicted.
+fn share_of(code: usize) -> u64
     ensures { λ r. ⌜ ShareOf code r ⌝ }
 {
     match code {
-        1 => Share { once: 1, each: 0 },
-        2 => Share { once: 3, each: 0 },
-        3 => Share { once: 2, each: 0 },
-        4 => Share { once: 1, each: 0 },
-        5 => Share { once: 1, each: 0 },
-        6 => Share { once: 2, each: 2 },
-        7 => Share { once: 2, each: 1 },
-        8 => Share { once: 1, each: 0 },
-        _ => Share { once: 0, each: 0 },
+        0 => 0,
+        1 => 1,
+        2 => 3,
+        3 => 2,
+        4 => 1,
+        5 => 1,
+        6 => 0x2_0000_0002,
+        7 => 0x1_0000_0002,
+        8 => 1,
+        _ => 0,
     }
 }
 
-// One pass over the pairs, which checks them and adds up their events' shares. The shares are added up apart: a product in the
-// loop would be compiled to branches.
+// One pass over the pairs, which checks them and adds up their events' shares. The product with N comes after it: in the loop it
+// would be compiled to branches.
 fn count_moves(threads: u16, history: &[u8], events: usize) -> Answer
     requires { ⌜ threads ≤ mostThreads ⌝ }
     requires { ⌜ length (now history) ≤ mostHistory ⌝ }
@@ -45,26 +44,21 @@ fn count_moves(threads: u16, history: &[u8], events: usize) -> Answer
     ensures { λ r. ⌜ answerReply r ≡ answered (pairsTests threads (now (history .entry))) (length (plan threads (pairsOf (now (history .entry))))) ⌝ }
 {
     let mut places = [0u8; 256];
-    let mut shared: u16 = 0;
-    let mut exclusive: u16 = 0;
-    let mut once: usize = 0;
-    let mut each: usize = 0;
+    let mut inside: u16 = 0;
+    let mut shares: u64 = 0;
     let mut k: usize = 0;
     while k < events {
-        let verdict = take_pair(threads, history, k, &mut places, shared, exclusive);
+        let verdict = take_pair(threads, history, k, &mut places, inside);
         match verdict {
-            Verdict::Fits(after) => {
-                shared = after.shared;
-                exclusive = after.exclusive;
-            }
+            Verdict::Fits(after) => inside = after.inside,
             Verdict::Bad(refusal) => return Answer::Refused(refusal, k),
         }
-        let code = history[2 * k + 1];
-        let share = share_of(code);
-        once += share.once;
-        each += share.each;
+        let code = history[2 * k + 1] as usize;
+        shares += share_of(code);
         k += 1;
     }
+    let once = (shares % EACH) as usize;
+    let each = (shares / EACH) as usize;
     let total = once + each * threads as usize;
     Answer::Done(total)
 }

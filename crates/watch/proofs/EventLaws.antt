@@ -5,7 +5,7 @@ use native.Mathlib.Omega.{arith}
 use mathlib.Core.List.{List, [], _∷_}
 use mathlib.Core.Logic.{⊎-elim}
 use mathlib.Core.Path.{_≡_, refl, sym, subst, ap, _∙_}
-use lib.Dec.{leb, eqb, leb→le}
+use lib.Dec.{leb, leb→le}
 use lib.ListN.{length, set, length-set, List·getD-eq-default}
 use Rattle.definitions.specs.Answers.{accepted, refused, numberOf, Reply, test, answered, leaves}
 use Rattle.definitions.specs.Bounds.{mostThreads}
@@ -14,26 +14,25 @@ use Rattle.definitions.specs.Table.{countFits}
 use Rattle.definitions.specs.Watch.{recordOf, consistent, recordTests, eventReply, eventRecord}
 use Rattle.definitions.specs.declared.Refusal.{Refusal}
 use Rattle.definitions.specs.declared.Watcher.{Watcher}
-use Rattle.history.specs.Counts.{standingOf, Counted}
+use Rattle.history.specs.Counts.{total, totalAt, standingOf, Counted}
 use Rattle.history.specs.declared.Standing.{Standing}
 use Rattle.history.specs.declared.Verdict.{Verdict}
 use Rattle.history.specs.declared.Verdict.the-variants as verdict
 use Rattle.history.proofs.CheckLaws.{placesIn-set}
-use Rattle.history.proofs.StandingLaws.{is-counted, same-standing}
+use Rattle.history.proofs.StandingLaws.{few-inside, is-counted, same-standing}
 use Rattle.history.proofs.VerdictLaws.{VerdictOf, Fit, bad-verdict, fit-verdict}
-use Rattle.theory.proofs.Quantifiers.{howMany-most}
 use Rattle.theory.proofs.Replies.{peel, behind, all-passed}
 use Rattle.theory.proofs.TestLists.{other-answer}
 use Rattle.theory.proofs.Tests.{and-r, below?}
 use Rattle.theory.proofs.Writes.{update-other}
-use Rattle.watch.specs.Records.{Tested, Bytes, movedTo}
+use Rattle.watch.specs.Records.{Tested, movedTo}
 use Rattle.watch.proofs.RecordLaws.{round-e, Consistent, consistent-e, same-record, entries-are}
 
 -- past the entries a place is 0
 pub beyond : (entries : List ℕ) (t : ℕ) → length entries ≡ mostThreads → mostThreads ≤ t → placesIn entries t ≡ 0
 beyond entries t long l = List·getD-eq-default entries 0 (omega arith)
 
-module _ (w : Watcher) (thread event : ℕ) (tested : Tested w) (s : Standing) (stands : s ≡ record { place = placesIn (w .places) thread; shared = w .shared; exclusive = w .exclusive }) where
+module _ (w : Watcher) (thread event : ℕ) (tested : Tested w) (s : Standing) (stands : s ≡ record { place = placesIn (w .places) thread; inside = total (w .shared) (w .exclusive) }) where
   abbrev x : Pair
   x = record { thread = thread; event = event }
 
@@ -50,7 +49,7 @@ module _ (w : Watcher) (thread event : ℕ) (tested : Tested w) (s : Standing) (
   sure = consistent-e w (peel (test 13 (consistent w)) [] (peel (test 1 (countFits n)) (test 13 (consistent w) ∷ []) (tested .passed) .1) .0)
 
   standing-is : s ≡ standingOf n p thread
-  standing-is = stands ∙ same-standing refl (sure .shared) (sure .exclusive)
+  standing-is = stands ∙ same-standing refl (rw (sure .shared, sure .exclusive))
 
   -- every place is one of a round
   no-4 : p thread ≡ 4 → ⊥
@@ -60,7 +59,7 @@ module _ (w : Watcher) (thread event : ℕ) (tested : Tested w) (s : Standing) (
       (below? n thread)
 
   pub counted : Counted n thread s
-  counted = subst (Counted n thread) (sym standing-is) (is-counted n p thread few no-4)
+  counted = subst (Counted n thread) (sym standing-is) (is-counted n p few thread no-4)
 
   -- what is answered is what the event's own tests answer
   by-event : {r : Reply (Unit {0})} → answered (pairTests n p 0 x) tt ≡ r → eventReply w x ≡ r
@@ -71,7 +70,7 @@ module _ (w : Watcher) (thread event : ℕ) (tested : Tested w) (s : Standing) (
     -- a bad event is refused and leaves the record
     module _ (r : Refusal) (is : v ≡ verdict.Bad r) where
       pub bad-reply : refused (numberOf r) 0 ≡ eventReply w x
-      bad-reply = sym (by-event (other-answer tt (pairTests n p 0 x) _ (numberOf r) 0 (bad-verdict n p x s standing-is v r is judged 0)))
+      bad-reply = sym (by-event (other-answer tt (pairTests n p 0 x) _ (numberOf r) 0 (bad-verdict n p x few s standing-is v r is judged 0)))
 
       pub bad-record : w ≡ eventRecord w x
       unfolding eventRecord
@@ -79,19 +78,11 @@ module _ (w : Watcher) (thread event : ℕ) (tested : Tested w) (s : Standing) (
 
     -- one that fits is accepted and leaves the record of the places after it
     module _ (z : Standing) (is : v ≡ verdict.Fits z) where
-      fit : Fit n p x s standing-is z 0
-      fit = fit-verdict n p x s standing-is v z is judged 0
+      fit : Fit n p x few s standing-is z 0
+      fit = fit-verdict n p x few s standing-is v z is judged 0
 
       pub fits-entry : thread < mostThreads
       fits-entry = omega (arith, few, fit .below)
-
-      pub fits-bytes : Bytes z
-      fits-bytes =
-          let q = advanced p x in
-          record {
-            shared = subst (λ (y : Standing). y .shared ≤ mostThreads) (sym (fit .after)) (omega (arith, few, howMany-most (λ t. eqb (q t) 2) n));
-            exclusive = subst (λ (y : Standing). y .exclusive ≤ mostThreads) (sym (fit .after)) (omega (arith, few, howMany-most (λ t. eqb (q t) 6) n));
-          }
 
       pub fits-reply : accepted tt ≡ eventReply w x
       fits-reply = sym (by-event (all-passed tt (pairTests n p 0 x) (fit .passes)))
@@ -105,8 +96,13 @@ module _ (w : Watcher) (thread event : ℕ) (tested : Tested w) (s : Standing) (
           (λ t least most. ap (λ (q : Places). q t) at
           ∙ (update-other p thread (placeAfter event) t (λ e. omega (arith, fit .below)) ∙ sure .rest t least most))
 
+      -- the total is that of two bytes
+      inside : z .inside ≡ totalAt n (advanced p x)
+      inside = ap (λ (y : Standing). y .inside) (fit .after)
+
       pub fits-record : movedTo w thread z ≡ eventRecord w x
       unfolding eventRecord
       fits-record =
-          same-record refl (ap (λ (y : Standing). y .shared) (fit .after)) (ap (λ (y : Standing). y .exclusive) (fit .after)) entries
+          let readers = few-inside n (advanced p x) 2 in
+          same-record refl (omega (arith, few, inside)) (omega (arith, few, inside)) entries
           ∙ ap (λ (a : Reply (Unit {0})). leaves a (recordOf n (advanced p x)) w) fits-reply

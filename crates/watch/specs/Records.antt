@@ -1,5 +1,5 @@
 -- A record as its head and the list of its places, which are lent apart; what the code knows of them; and where an event's thread stands.
-use Prim.Native.Nat.{ℕ, _≤_}
+use Prim.Native.Nat.{ℕ, _/_, _%_, _≤_}
 use mathlib.Core.List.{List}
 use mathlib.Core.Path.{_≡_}
 use lib.Dec.{T}
@@ -8,6 +8,7 @@ use Rattle.definitions.specs.Answers.{passesAll}
 use Rattle.definitions.specs.Bounds.{mostThreads}
 use Rattle.definitions.specs.Watch.{recordTests}
 use Rattle.definitions.specs.declared.Watcher.{Watcher}
+use Rattle.history.specs.Counts.{writer, total}
 use Rattle.history.specs.declared.Standing.{Standing}
 use Rattle.watch.specs.declared.Head.{Head}
 
@@ -27,19 +28,12 @@ pub record Tested (w : Watcher) : Type 0 where
 
 -- a thread at a place, with the totals of a record
 abbrev pub standingAt : Head → ℕ → Standing
-standingAt head place = record { place = place; shared = head .shared; exclusive = head .exclusive }
+standingAt head place = record { place = place; inside = total (head .shared) (head .exclusive) }
 
--- totals that are bytes
-pub record Bytes (after : Standing) : Type 0 where
-  pub shared : after .shared ≤ mostThreads
-  pub exclusive : after .exclusive ≤ mostThreads
+-- the head of so many threads, with the totals that an event left
+abbrev pub headAfter : ℕ → Standing → Head
+headAfter threads after = record { threads = threads; shared = after .inside % writer; exclusive = after .inside / writer }
 
 -- the record with its thread where an event left it
 abbrev pub movedTo : Watcher → ℕ → Standing → Watcher
-movedTo w thread after =
-    record {
-      threads = w .threads;
-      shared = after .shared;
-      exclusive = after .exclusive;
-      places = set (w .places) thread (after .place);
-    }
+movedTo w thread after = held (headAfter (w .threads) after) (set (w .places) thread (after .place))

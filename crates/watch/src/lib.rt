@@ -1,5 +1,5 @@
 // The watcher of 02 §2. What is decided is decided by value: one pass over a record's places tests it, `history::judge` judges
-// the event from its thread's place and the two totals, as it does for the check, and `after_event` gives the totals after it.
+// the event from its thread's place and the total of the two, as it does for the check, and `after_event` gives the two after it.
 // The places are lent as a slice, so that a record is tested and changed where it is kept, whoever keeps it; nothing here knows
 // of a record as a whole.
 use definitions::Inside;
@@ -9,6 +9,7 @@ use definitions::Watched;
 use definitions::count_fits;
 use history::Standing;
 use history::Verdict;
+use history::WRITER;
 use history::judge;
 ghost use mathlib.Core.Path.{_≡_};
 ghost use lib.ListN.{length, replicate};
@@ -18,7 +19,7 @@ ghost use Rattle.definitions.specs.PlainLock.{placesIn};
 ghost use Rattle.definitions.specs.declared.Watched.the-variants.{Good, Refused};
 ghost use Rattle.definitions.specs.Watch.{consistent, watchedReply, insideReply, startReply, startRecord, recordTests, eventReply, eventRecord, questionReply};
 ghost use Rattle.watch.specs.Pass.{Room, withPlace, foundIn, emptyUpTo, foundFits};
-ghost use Rattle.watch.specs.Records.{held, Small, standingAt, Tested, Bytes};
+ghost use Rattle.watch.specs.Records.{held, Small, standingAt, Tested, headAfter};
 
 // A record but for its places: N and the two totals.
 pub struct Head {
@@ -153,26 +154,22 @@ fn place_of(places: &[u8], thread: u16) -> u8
     0
 }
 
-// Where a thread stands, with the totals of a record.
+// Where a thread stands: the two totals of a record make one of those inside.
 fn standing(head: Head, place: u8) -> Standing
     ensures { λ r. ⌜ r ≡ standingAt head place ⌝ }
 {
     let shared = head.shared as u16;
     let exclusive = head.exclusive as u16;
-    Standing {
-        place,
-        shared,
-        exclusive,
-    }
+    let inside = shared + WRITER * exclusive;
+    Standing { place, inside }
 }
 
-// The head after an event that fits: its totals are bytes.
+// The head after an event that fits: the total of those inside is taken apart again.
 fn after_event(head: Head, after: Standing) -> Head
-    requires { ⌜ Bytes after ⌝ }
-    ensures { λ r. ⌜ r ≡ record { threads = head .threads; shared = after .shared; exclusive = after .exclusive } ⌝ }
+    ensures { λ r. ⌜ r ≡ headAfter (head .threads) after ⌝ }
 {
-    let readers = after.shared as u8;
-    let writers = after.exclusive as u8;
+    let readers = (after.inside % WRITER) as u8;
+    let writers = (after.inside / WRITER) as u8;
     Head {
         threads: head.threads,
         shared: readers,

@@ -9,10 +9,10 @@ use Rattle.history.proofs.check_pairs.Statement.{statement}
 use Rattle.history.proofs.check_pairs.Tie as tie
 
 abbrev Inv-loop : tie.InvT-loop
-Inv-loop threads history events places₀ shared₀ exclusive₀ k₀ places shared exclusive k = Passed threads history places shared exclusive k
+Inv-loop threads history events places₀ inside₀ k₀ places inside k = Passed threads history places inside k
 
 abbrev μ-loop : tie.MeasureT-loop
-μ-loop threads history events places₀ shared₀ exclusive₀ k₀ places shared exclusive k = events - k
+μ-loop threads history events places₀ inside₀ k₀ places inside k = events - k
 
 loop-holds : tie.Need-loop-holds Inv-loop μ-loop
 loop-holds c = passed-none _ _
@@ -57,7 +57,7 @@ returns-2 : tie.Need-returns-2 Inv-loop μ-loop
 returns-2 c =
     let at = c .before in
     let a = at .before .before .args in
-    passed-all (a .threads) (a .history .now) (at .loop .places) (at .loop .shared) (at .loop .exclusive) (at .loop .k) (at .loop .inv) (omega arith) (a .events)
+    passed-all (a .threads) (a .history .now) (at .loop .places) (at .loop .inside) (at .loop .k) (at .loop .inv) (omega arith) (a .events)
 
 pub check-pairs-spec : {M : Type 1} → statement M
 check-pairs-spec =

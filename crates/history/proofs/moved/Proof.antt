@@ -1,18 +1,21 @@
--- `moved` meets its contract: two sums that wrap.
+-- `moved` meets its contract: a digit of the row, and a sum that wraps.
 use mathlib.Core.Path.{refl}
 use borrow.Author.Needs.{needs}
 use Rattle.history.proofs.StandingLaws.{same-standing}
 use Rattle.history.proofs.moved.Statement.{statement}
 use Rattle.history.proofs.moved.Tie as tie
 
+cast-place : tie.Need-cast-place
+cast-place c = search needs
+
+cast-change : tie.Need-cast-change
+cast-change c = search needs
+
 wrapping-add-u16-requires : tie.Need-wrapping-add-u16-requires
 wrapping-add-u16-requires c κs = search needs
 
-wrapping-add-u16-requires-2 : tie.Need-wrapping-add-u16-requires-2
-wrapping-add-u16-requires-2 c κs = search needs
-
 returns : tie.Need-returns
-returns c = same-standing refl (c .before .wrapping-add-u16 .ensures) (c .wrapping-add-u162 .ensures)
+returns c = same-standing refl (c .wrapping-add-u16 .ensures)
 
 pub moved-spec : {M : Type 1} → statement M
-moved-spec = tie.close (tie.spec wrapping-add-u16-requires wrapping-add-u16-requires-2 returns)
+moved-spec = tie.close (tie.spec cast-place cast-change wrapping-add-u16-requires returns)

@@ -35,7 +35,7 @@ judge-requires : tie.Need-judge-requires
 judge-requires c κs =
     let start = c .before .before .before .before .before in
     let a = start .args in
-    counted-here (a .threads) (a .history .now) (a .places .now) (a .shared) (a .exclusive) (a .k) (start .pre .1 .1) (start .pre .1 .0) (start .pre .0)
+    counted-here (a .threads) (start .pre .0) (a .history .now) (a .places .now) (a .inside) (a .k) (start .pre .1 .1) (start .pre .1 .0)
 
 enum-known-verdict : tie.Need-enum-known-verdict
 enum-known-verdict c = search needs
@@ -58,7 +58,7 @@ returns c =
     let read = c .before .before .before .before in
     let start = read .before .before .before .before .before in
     let a = start .args in
-    goes-on (a .threads) (a .history .now) (a .places .now) (a .shared) (a .exclusive) (a .k) (start .pre .1 .1) (start .pre .1 .0)
+    goes-on (a .threads) (start .pre .0) (a .history .now) (a .places .now) (a .inside) (a .k) (start .pre .1 .1) (start .pre .1 .0)
     (judge .result) (c .before .verdict .given .0 .0) (c .before .verdict .given .1) (judge .ensures) (read .before .shared-slice-known3 .given (2 * a .k) .fits)
 
 returns-2 : tie.Need-returns-2
@@ -69,7 +69,7 @@ returns-2 c =
     record {
       kept = refl;
       answers =
-          bad-here (a .threads) (a .history .now) (a .places .now) (a .shared) (a .exclusive) (a .k) (start .pre .1 .1) (start .pre .1 .0)
+          bad-here (a .threads) (start .pre .0) (a .history .now) (a .places .now) (a .inside) (a .k) (start .pre .1 .1) (start .pre .1 .0)
           (judge .result) (c .before .verdict2 .given .0 .0) (c .before .verdict2 .given .1) (judge .ensures);
     }
 

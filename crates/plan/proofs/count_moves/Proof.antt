@@ -1,5 +1,5 @@
 -- `count_moves` meets its contract. The loop's invariant is the check's `Passed`, with what is counted (`Counting`); the measure is the number of pairs left.
-use Prim.Native.Nat.{_-_}
+use Prim.Native.Nat.{_+_, _*_, _-_}
 use native.Mathlib.Omega.{arith}
 use mathlib.Core.Path.{subst, ap, _∙_}
 use borrow.Author.Needs.{needs}
@@ -14,11 +14,11 @@ use Rattle.plan.proofs.count_moves.Statement.{statement}
 use Rattle.plan.proofs.count_moves.Tie as tie
 
 abbrev Inv-loop : tie.InvT-loop
-Inv-loop threads history events places₀ shared₀ exclusive₀ once₀ each₀ k₀ places shared exclusive once each k =
-    Passed threads history places shared exclusive k × Counting threads history k once each
+Inv-loop threads history events places₀ inside₀ shares₀ k₀ places inside shares k =
+    Passed threads history places inside k × Counting threads history k shares
 
 abbrev μ-loop : tie.MeasureT-loop
-μ-loop threads history events places₀ shared₀ exclusive₀ once₀ each₀ k₀ places shared exclusive once each k = events - k
+μ-loop threads history events places₀ inside₀ shares₀ k₀ places inside shares k = events - k
 
 loop-holds : tie.Need-loop-holds Inv-loop μ-loop
 loop-holds c = (passed-none _ _, counting-none _ _)
@@ -54,14 +54,16 @@ add-code c = search needs
 shared-slice-read-code : tie.Need-shared-slice-read-code Inv-loop μ-loop
 shared-slice-read-code c = search needs
 
+cast-code : tie.Need-cast-code Inv-loop μ-loop
+cast-code c =
+    let called = c .before .before .before .before .before in
+    omega (arith, c .shared-slice-known2 .given (2 * called .before .before .before .loop .k + 1))
+
 share-of-requires : tie.Need-share-of-requires Inv-loop μ-loop
 share-of-requires c κs = search needs
 
-add-once : tie.Need-add-once Inv-loop μ-loop
-add-once c = search needs
-
-add-each : tie.Need-add-each Inv-loop μ-loop
-add-each c = search needs
+add-shares : tie.Need-add-shares Inv-loop μ-loop
+add-shares c = search needs
 
 add-k : tie.Need-add-k Inv-loop μ-loop
 add-k c = search needs
@@ -71,13 +73,13 @@ loop-less c = search needs
 
 loop-again : tie.Need-loop-again Inv-loop μ-loop
 loop-again c =
-    let share = c .before .before .share-of in
-    let told = c .before .before .before .before .before in
+    let share = c .share-of in
+    let told = c .before .before .before in
     let called = told .before .before .before in
     let at = called .before .before .before in
     let a = at .before .before .args in (
       subst (Taken (a .threads) (a .history .now) (at .loop .k) (at .loop .places) (called .take-pair .last .1 .1 .1 .0)) (told .verdict .given .1) (called .take-pair .ensures),
-      counting-more (a .threads) (a .history .now) (at .loop .k) (at .loop .once) (at .loop .each) (at .loop .inv .1) (share .result) (omega arith) (share .ensures),
+      counting-more (a .threads) (a .history .now) (at .loop .k) (at .loop .shares) (at .loop .inv .1) (share .result) (omega arith) (omega arith) (share .ensures),
     )
 
 mul-total : tie.Need-mul-total Inv-loop μ-loop
@@ -85,22 +87,22 @@ mul-total c =
     let at = c .before in
     let start = at .before .before in
     let a = start .args in
-    omega (arith, counting-each (a .threads) (a .history .now) (at .loop .k) (at .loop .once) (at .loop .each) (at .loop .inv .1) (start .pre .0))
+    omega (arith, counting-each (a .threads) (a .history .now) (at .loop .k) (at .loop .shares) (at .loop .inv .1) (start .pre .0))
 
 add-total : tie.Need-add-total Inv-loop μ-loop
 add-total c =
     let at = c .before in
     let start = at .before .before in
     let a = start .args in
-    omega (arith, counting-each (a .threads) (a .history .now) (at .loop .k) (at .loop .once) (at .loop .each) (at .loop .inv .1) (start .pre .0))
+    omega (arith, counting-each (a .threads) (a .history .now) (at .loop .k) (at .loop .shares) (at .loop .inv .1) (start .pre .0))
 
 returns-2 : tie.Need-returns-2 Inv-loop μ-loop
 returns-2 c =
     let at = c .before in
     let a = at .before .before .args in
-    let count = counting-all (a .threads) (a .history .now) (at .loop .k) (at .loop .once) (at .loop .each) (at .loop .inv .1) (omega arith) in
+    let count = counting-all (a .threads) (a .history .now) (at .loop .k) (at .loop .shares) (at .loop .inv .1) (omega arith) in
     ap accepted count
-    ∙ passed-all (a .threads) (a .history .now) (at .loop .places) (at .loop .shared) (at .loop .exclusive) (at .loop .k) (at .loop .inv .0) (omega arith)
+    ∙ passed-all (a .threads) (a .history .now) (at .loop .places) (at .loop .inside) (at .loop .k) (at .loop .inv .0) (omega arith)
     (length (plan (a .threads) (pairsOf (a .history .now))))
 
 pub count-moves-spec : {M : Type 1} → statement M
@@ -118,9 +120,9 @@ count-moves-spec =
     mul-code
     add-code
     shared-slice-read-code
+    cast-code
     share-of-requires
-    add-once
-    add-each
+    add-shares
     add-k
     loop-less
     loop-again

@@ -1,4 +1,4 @@
--- `after_event` meets its contract: the totals are bytes.
+-- `after_event` meets its contract: 16 bits are two bytes.
 use mathlib.Core.Path.{refl}
 use borrow.Author.Needs.{needs}
 use Rattle.watch.proofs.after_event.Statement.{statement}

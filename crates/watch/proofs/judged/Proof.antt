@@ -12,10 +12,10 @@ use Rattle.definitions.specs.Watch.{watchedReply, eventReply, eventRecord}
 use Rattle.definitions.specs.declared.Watcher.{Watcher}
 use Rattle.history.specs.declared.Standing.{Standing}
 use Rattle.history.specs.declared.Verdict.the-variants as verdict
-use Rattle.watch.specs.Records.{held, standingAt, Bytes, movedTo}
+use Rattle.watch.specs.Records.{held, standingAt, movedTo}
 use Rattle.watch.specs.declared.Head.{Head}
 use Rattle.watch.specs.declared.Update.{Update}
-use Rattle.watch.proofs.EventLaws.{counted, bad-reply, bad-record, fits-entry, fits-bytes, fits-reply, fits-record}
+use Rattle.watch.proofs.EventLaws.{counted, bad-reply, bad-record, fits-entry, fits-reply, fits-record}
 use Rattle.watch.proofs.judged.Statement.{statement}
 use Rattle.watch.proofs.judged.Tie as tie
 
@@ -37,14 +37,13 @@ stood c = let a = c .before .before .before .before .args in stands (a .head) (a
 fitting : (c : tie.After-judge) (z : Standing) → c .judge .result ≡ verdict.Fits z
     → let w = recordAt (c .before .before .before) in
     let x = eventAt (c .before .before .before) in
-    (x .thread < mostThreads) × Bytes z × (accepted tt ≡ eventReply w x) × (movedTo w (x .thread) z ≡ eventRecord w x)
+    (x .thread < mostThreads) × (accepted tt ≡ eventReply w x) × (movedTo w (x .thread) z ≡ eventRecord w x)
 fitting c z is =
     let start = c .before .before .before .before .before .before in
     let w = recordAt (c .before .before .before) in
     let x = eventAt (c .before .before .before) in
     let s = stood (c .before .before) in (
       fits-entry w (x .thread) (x .event) (start .pre) _ s _ (c .judge .ensures) z is,
-      fits-bytes w (x .thread) (x .event) (start .pre) _ s _ (c .judge .ensures) z is,
       fits-reply w (x .thread) (x .event) (start .pre) _ s _ (c .judge .ensures) z is,
       fits-record w (x .thread) (x .event) (start .pre) _ s _ (c .judge .ensures) z is,
     )
@@ -74,9 +73,7 @@ slice-write-places c =
     omega (arith, judged .before .before .before .before .before .before .pre .long, fitting judged (after .0 .0) (after .1) .0)
 
 after-event-requires : tie.Need-after-event-requires
-after-event-requires c κs =
-    let after = c .before .verdict .given in
-    fitting (c .before .before .before) (after .0 .0) (after .1) .1
+after-event-requires c κs = search needs
 
 carried-out-requires : tie.Need-carried-out-requires
 carried-out-requires c κs = search needs
@@ -97,8 +94,8 @@ returns c =
     let says = fitting judged (after .0 .0) (after .1) in
     let x = eventAt (judged .before .before .before) in
     let places = set (recordAt (judged .before .before .before) .places) (x .thread) (after .0 .0 .place) in (
-      ap (λ (u : Update). watchedReply (u .answer)) (c .carried-out .ensures) ∙ says .2,
-      ap (λ (u : Update). held (u .head) places) (c .carried-out .ensures) ∙ (ap (λ (head : Head). held head places) (c .before .after-event .ensures) ∙ says .3),
+      ap (λ (u : Update). watchedReply (u .answer)) (c .carried-out .ensures) ∙ says .1,
+      ap (λ (u : Update). held (u .head) places) (c .carried-out .ensures) ∙ (ap (λ (head : Head). held head places) (c .before .after-event .ensures) ∙ says .2),
     )
 
 same-length-2 : tie.Need-same-length-2
