@@ -59,19 +59,17 @@ fn rest_fits(t: Tally, threads: usize) -> bool
 {
     let h = t.holder;
     let clear = t.forbidden == 0;
-    if h == 0 {
-        return clear;
+    let full = (t.forbidden == threads) & (t.readers == 0);
+    match h {
+        0 => clear,
+        10 => (t.forbidden < threads) & (t.readers == 0),
+        13 => full,
+        14 => full,
+        15 => 0 < t.forbidden,
+        16 => clear,
+        18 => clear,
+        _ => false,
     }
-    if (h == 16) | (h == 18) {
-        return clear;
-    }
-    if h == 10 {
-        return (t.forbidden < threads) & (t.readers == 0);
-    }
-    if (h == 13) | (h == 14) {
-        return (t.forbidden == threads) & (t.readers == 0);
-    }
-    (h == 15) & (0 < t.forbidden)
 }
 
 // The decision from a tally of all threads, their number, the mutex and the target.
