@@ -2,7 +2,7 @@
 use Prim.Native.Nat.{ℕ, _+_, _-_, _/_, _%_, _^_, _≤_, _<_}
 use native.Mathlib.Omega.{arith}
 use mathlib.Core.Bool.{Bool, true, false, cond, not, _||_}
-use mathlib.Core.Logic.{_⊎_, inl, inr, ⊎-elim}
+use mathlib.Core.Logic.{_⊎_, inl, inr}
 use mathlib.Core.Path.{_≡_, sym, subst, ap, _∙_}
 use borrow.Author.Tests.{eq-eqb, ne-eqb}
 use lib.Dec.{T, leb, eqb, eqb→eq, leb→le}
@@ -26,24 +26,22 @@ row-unknown code t = cond-no (between 1 8 code) (knownRow code) unknownRow t
 -- ---- the digits of a row
 
 -- what is read of a row is what was packed
-record Unpacked (row before after added most : ℕ) : Type 0 where
+record Unpacked (row before after most added : ℕ) : Type 0 where
   pub before-is : row % 2 ^ 8 ≡ before
   pub after-is : row / 2 ^ 8 % 2 ^ 8 ≡ after
-  pub added-is : row / 2 ^ 16 % 2 ^ 16 ≡ added
-  pub most-is : row / 2 ^ 32 ≡ most
-  pub short : row < 2 ^ 48
+  pub most-is : row / 2 ^ 16 % 2 ^ 16 ≡ most
+  pub added-is : row / 2 ^ 32 ≡ added
 
-unpacked : (before after added most : ℕ) → before < 2 ^ 8 → after < 2 ^ 8 → added < 2 ^ 16 → most < 2 ^ 16 → Unpacked (packed before after added most) before after added most
-unpacked before after added most b a d m =
-    record { before-is = omega arith; after-is = omega arith; added-is = omega arith; most-is = omega arith; short = omega arith }
+unpacked : (before after most added : ℕ) → before < 2 ^ 8 → after < 2 ^ 8 → most < 2 ^ 16 → Unpacked (packed before after most added) before after most added
+unpacked before after most added b a m =
+    record { before-is = omega arith; after-is = omega arith; most-is = omega arith; added-is = omega arith }
 
-known-digits : (event : ℕ) → T (between 1 8 event) → Unpacked (eventRow event) (placeBefore event) (placeAfter event) (change event) (mostFor event)
+known-digits : (event : ℕ) → T (between 1 8 event) → Unpacked (eventRow event) (placeBefore event) (placeAfter event) (mostFor event) (change event)
 known-digits event known =
     rw (row-known event known)
-    (unpacked (placeBefore event) (placeAfter event) (change event) (mostFor event)
+    (unpacked (placeBefore event) (placeAfter event) (mostFor event) (change event)
     (cond-either (λ p. p < 2 ^ 8) (eqb event 1 || eqb event 5) 0 (event - 1) (λ t. omega arith) (λ t. omega (arith, most)))
     (cond-either (λ p. p < 2 ^ 8) (eqb event 4 || eqb event 8) 0 event (λ t. omega arith) (λ t. omega (arith, most)))
-    (omega arith)
     (totals (eqb event 2) (eqb event 6)))
   where
     most : event ≤ 8
@@ -54,11 +52,8 @@ known-digits event known =
     totals false true = omega arith
     totals false false = omega arith
 
-unknown-digits : (code : ℕ) → T (not (between 1 8 code)) → Unpacked (eventRow code) noPlace 0 0 any
-unknown-digits code unknown = rw (row-unknown code unknown) (unpacked noPlace 0 0 any (omega arith) (omega arith) (omega arith) (omega arith))
-
-pub row-short : (code : ℕ) → eventRow code < 2 ^ 48
-row-short code = ⊎-elim (λ t. known-digits code t .short) (λ t. unknown-digits code t .short) (decided (between 1 8 code))
+unknown-digits : (code : ℕ) → T (not (between 1 8 code)) → Unpacked (eventRow code) noPlace 0 any 0
+unknown-digits code unknown = rw (row-unknown code unknown) (unpacked noPlace 0 any 0 (omega arith) (omega arith) (omega arith))
 
 -- ---- the place before
 
@@ -108,8 +103,8 @@ out-most inside event shared exclusive = by (same? event 3) (same? event 7)
     by (inr d) (inl e) = let l = exclusive e in rw (ne-eqb event 3 d, eq-eqb event 7 e) (omega arith)
     by (inr d) (inr e) = rw (ne-eqb event 3 d, ne-eqb event 7 e) (omega arith)
 
--- what is added, modulo 2 ^ 16, leaves what the event leaves
-wrapped : (inside added taken : ℕ) → inside + added < 2 ^ 16 → taken ≤ inside → (inside + (added + (2 ^ 16 - taken)) % 2 ^ 16) % 2 ^ 16 ≡ inside + added - taken
+-- what is added, modulo 2 ^ 32, leaves what the event leaves
+wrapped : (inside added taken : ℕ) → inside + added < 2 ^ 32 → taken ≤ inside → (inside + (added + (2 ^ 32 - taken)) % 2 ^ 32) % 2 ^ 32 ≡ inside + added - taken
 wrapped inside added taken few some = omega arith
 
 -- ---- a code's row at a standing
@@ -120,14 +115,14 @@ module _ (n thread : ℕ) (s : Standing) (code : ℕ) (c : Counted n thread s) w
     pub next-known : eqb (s .place) (eventRow code % 2 ^ 8) ≡ isNext (s .place) code
     next-known = ap (eqb (s .place)) (known-digits code known .before-is) ∙ follows (s .place) code known (c .in-round)
 
-    pub met-known : leb (s .inside) (eventRow code / 2 ^ 32) ≡ countsMeet s code
+    pub met-known : leb (s .inside) (eventRow code / 2 ^ 16 % 2 ^ 16) ≡ countsMeet s code
     met-known = ap (leb (s .inside)) (known-digits code known .most-is)
 
     pub moved-known : thread < n → T (isNext (s .place) code) → movedBy s (eventRow code) ≡ standingAfter s code
     moved-known l next =
         let digits = known-digits code known in
         same-standing (digits .after-is)
-        (ap (λ (added : ℕ). (s .inside + added) % 2 ^ 16) (digits .added-is)
+        (ap (λ (added : ℕ). (s .inside + added) % 2 ^ 32) (digits .added-is)
         ∙ wrapped (s .inside) (countedIn code) (countedOut code) (omega (arith, c .few, c .most, in-most code))
         (out-most (s .inside) code
         (λ e. c .in-shared l (left 2 (omega arith) (λ d. omega arith) e))

@@ -12,16 +12,16 @@ use Rattle.history.specs.declared.Standing.{Standing}
 abbrev pub placeBefore : ℕ → ℕ
 placeBefore event = cond (eqb event 1 || eqb event 5) 0 (event - 1)
 
--- what an event adds to the total, modulo 2 ^ 16
+-- what an event adds to the total, modulo 2 ^ 32
 abbrev pub change : ℕ → ℕ
-change event = (countedIn event + (2 ^ 16 - countedOut event)) % 2 ^ 16
+change event = (countedIn event + (2 ^ 32 - countedOut event)) % 2 ^ 32
 
--- from the lowest bit: a byte each for the place before and the place after, 16 bits each for what is added to the total and for the largest total
+-- from the lowest bit: a byte each for the place before and the place after, 16 bits for the largest total, and 32 for what is added to the total
 abbrev pub packed : ℕ → ℕ → ℕ → ℕ → ℕ
-packed before after added most = before + 2 ^ 8 * after + 2 ^ 16 * added + 2 ^ 32 * most
+packed before after most added = before + 2 ^ 8 * after + 2 ^ 16 * most + 2 ^ 32 * added
 
 abbrev pub knownRow : ℕ → ℕ
-knownRow event = packed (placeBefore event) (placeAfter event) (change event) (mostFor event)
+knownRow event = packed (placeBefore event) (placeAfter event) (mostFor event) (change event)
 
 -- no thread is ever at this place: a 4 leads to 0
 abbrev pub noPlace : ℕ
@@ -29,11 +29,11 @@ noPlace = 4
 
 -- the row of a code that is no event
 abbrev pub unknownRow : ℕ
-unknownRow = packed noPlace 0 0 any
+unknownRow = packed noPlace 0 any 0
 
 unfoldable pub eventRow : ℕ → ℕ
 eventRow code = cond (between firstEvent lastEvent code) (knownRow code) unknownRow
 
 -- what a row does to a standing
 abbrev pub movedBy : Standing → ℕ → Standing
-movedBy s row = record { place = row / 2 ^ 8 % 2 ^ 8; inside = (s .inside + row / 2 ^ 16 % 2 ^ 16) % 2 ^ 16 }
+movedBy s row = record { place = row / 2 ^ 8 % 2 ^ 8; inside = (s .inside + row / 2 ^ 32) % 2 ^ 32 }

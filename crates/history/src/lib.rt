@@ -18,12 +18,12 @@ ghost use Rattle.history.specs.Pairs.{Passed, Taken};
 ghost use Rattle.history.specs.Rows.{eventRow, movedBy};
 
 // In a total of those inside, a thread in shared is 1 and one in exclusive this, more than there are threads.
-pub const WRITER: u16 = 256;
+pub const WRITER: u32 = 256;
 
 // Where a thread stands: its place in its round, and the total of those inside.
 pub struct Standing {
     pub place: u8,
-    pub inside: u16,
+    pub inside: u32,
 }
 
 // What an event gets: where it leaves its thread, or why it is turned down.
@@ -33,23 +33,23 @@ pub enum Verdict {
 }
 
 // What an event asks and does, in one number, by hexadecimal digits from the lowest: two for the place that it follows, two for
-// the place after it, four for what it adds to the total, modulo 2^16, and four for the largest total that meets its need. 0 is
+// the place after it, four for the largest total that meets its need, and eight for what it adds to the total, modulo 2^32. 0 is
 // no event: its row follows place 4, at which no thread ever is. The rows are constants, and are compiled to a table, where
 // comparisons are compiled to branches that are often mispredicted.
 fn event_row(code: usize) -> u64
     ensures { λ r. ⌜ r ≡ eventRow code ⌝ }
 {
     match code {
-        0 => 0xffff_0000_00_04,
-        1 => 0xffff_0000_01_00,
-        2 => 0x00ff_0001_02_01,
-        3 => 0xffff_ffff_03_02,
-        4 => 0xffff_0000_00_03,
-        5 => 0xffff_0000_05_00,
-        6 => 0x0000_0100_06_05,
-        7 => 0xffff_ff00_07_06,
-        8 => 0xffff_0000_00_07,
-        _ => 0xffff_0000_00_04,
+        0 => 0x0000_0000_ffff_00_04,
+        1 => 0x0000_0000_ffff_01_00,
+        2 => 0x0000_0001_00ff_02_01,
+        3 => 0xffff_ffff_ffff_03_02,
+        4 => 0x0000_0000_ffff_00_03,
+        5 => 0x0000_0000_ffff_05_00,
+        6 => 0x0000_0100_0000_06_05,
+        7 => 0xffff_ff00_ffff_07_06,
+        8 => 0x0000_0000_ffff_00_07,
+        _ => 0x0000_0000_ffff_00_04,
     }
 }
 
@@ -58,8 +58,8 @@ fn moved(before: Standing, row: u64) -> Standing
     ensures { λ r. ⌜ r ≡ movedBy before row ⌝ }
 {
     let place = (row / 256 % 256) as u8;
-    let change = (row / 65_536 % 65_536) as u16;
-    let inside = std::num::wrapping_add_u16(before.inside, change);
+    let change = (row / 4_294_967_296) as u32;
+    let inside = std::num::wrapping_add_u32(before.inside, change);
     Standing { place, inside }
 }
 
@@ -89,7 +89,7 @@ pub fn judge(threads: u16, thread: u16, code: u16, before: Standing) -> Verdict
     let row = event_row(code as usize);
     let below = thread < threads;
     let next = before.place as u64 == row % 256;
-    let met = before.inside <= (row / 4_294_967_296) as u16;
+    let met = before.inside <= (row / 65_536 % 65_536) as u32;
     if below & (next & met) {
         return Verdict::Fits(moved(before, row));
     }
@@ -99,7 +99,7 @@ pub fn judge(threads: u16, thread: u16, code: u16, before: Standing) -> Verdict
 
 // One pair of a pass: its thread's place is looked up, the pair judged, and the thread's place after it written. Any byte is an
 // index of the 256 places, so a place is looked up before the thread is judged; those below N are the only ones written.
-pub fn take_pair(threads: u16, history: &[u8], k: usize, places: &mut [u8], inside: u16) -> Verdict
+pub fn take_pair(threads: u16, history: &[u8], k: usize, places: &mut [u8], inside: u32) -> Verdict
     requires { ⌜ threads ≤ mostThreads ⌝ }
     requires { ⌜ k < length (now history) / 2 ⌝ }
     requires { ⌜ Passed threads (now history) (now places) inside k ⌝ }
@@ -128,7 +128,7 @@ fn check_pairs(threads: u16, history: &[u8], events: usize) -> Answer
     ensures { λ r. ⌜ answerReply r ≡ answered (pairsTests threads (now (history .entry))) events ⌝ }
 {
     let mut places = [0u8; 256];
-    let mut inside: u16 = 0;
+    let mut inside: u32 = 0;
     let mut k: usize = 0;
     while k < events {
         let verdict = take_pair(threads, history, k, &mut places, inside);

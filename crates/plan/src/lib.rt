@@ -44,7 +44,7 @@ fn count_moves(threads: u16, history: &[u8], events: usize) -> Answer
     ensures { λ r. ⌜ answerReply r ≡ answered (pairsTests threads (now (history .entry))) (length (plan threads (pairsOf (now (history .entry))))) ⌝ }
 {
     let mut places = [0u8; 256];
-    let mut inside: u16 = 0;
+    let mut inside: u32 = 0;
     let mut shares: u64 = 0;
     let mut k: usize = 0;
     while k < events {

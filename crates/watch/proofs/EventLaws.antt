@@ -104,5 +104,6 @@ module _ (w : Watcher) (thread event : ℕ) (tested : Tested w) (s : Standing) (
       unfolding eventRecord
       fits-record =
           let readers = few-inside n (advanced p x) 2 in
+          let writers = few-inside n (advanced p x) 6 in
           same-record refl (omega (arith, few, inside)) (omega (arith, few, inside)) entries
           ∙ ap (λ (a : Reply (Unit {0})). leaves a (recordOf n (advanced p x)) w) fits-reply

@@ -32,7 +32,7 @@ standingAt head place = record { place = place; inside = total (head .shared) (h
 
 -- the head of so many threads, with the totals that an event left
 abbrev pub headAfter : ℕ → Standing → Head
-headAfter threads after = record { threads = threads; shared = after .inside % writer; exclusive = after .inside / writer }
+headAfter threads after = record { threads = threads; shared = after .inside % writer; exclusive = after .inside / writer % writer }
 
 -- the record with its thread where an event left it
 abbrev pub movedTo : Watcher → ℕ → Standing → Watcher

@@ -158,8 +158,8 @@ fn place_of(places: &[u8], thread: u16) -> u8
 fn standing(head: Head, place: u8) -> Standing
     ensures { λ r. ⌜ r ≡ standingAt head place ⌝ }
 {
-    let shared = head.shared as u16;
-    let exclusive = head.exclusive as u16;
+    let shared = head.shared as u32;
+    let exclusive = head.exclusive as u32;
     let inside = shared + WRITER * exclusive;
     Standing { place, inside }
 }
@@ -169,7 +169,7 @@ fn after_event(head: Head, after: Standing) -> Head
     ensures { λ r. ⌜ r ≡ headAfter (head .threads) after ⌝ }
 {
     let readers = (after.inside % WRITER) as u8;
-    let writers = (after.inside / WRITER) as u8;
+    let writers = (after.inside / WRITER % WRITER) as u8;
     Head {
         threads: head.threads,
         shared: readers,

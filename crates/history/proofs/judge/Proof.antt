@@ -15,7 +15,7 @@ use Rattle.history.specs.Counts.{countsMeet, countTests, standingAfter, 
 use Rattle.history.specs.Rows.{eventRow, movedBy}
 use Rattle.history.specs.declared.Standing.{Standing}
 use Rattle.theory.proofs.Tests.{T-true, true-T, decided, and-both}
-use Rattle.history.proofs.RowLaws.{row-short, next-known, met-known, moved-known, next-unknown}
+use Rattle.history.proofs.RowLaws.{next-known, met-known, moved-known, next-unknown}
 use Rattle.history.proofs.judge.Statement.{statement}
 use Rattle.history.proofs.judge.Tie as tie
 
@@ -45,7 +45,7 @@ module _ (n thread code : ℕ) (s : Standing) (k : ℕ) where
     next = eqb (s .place) (row % 2 ^ 8)
 
     abbrev met : Bool
-    met = leb (s .inside) (row / 2 ^ 32)
+    met = leb (s .inside) (row / 2 ^ 16 % 2 ^ 16)
 
     -- a code that follows its place is an event
     next-event : next ≡ true → T (between 1 8 code)
@@ -60,7 +60,7 @@ module _ (n thread code : ℕ) (s : Standing) (k : ℕ) where
     is-next t = ap (λ (r : ℕ). eqb (s .place) (r % 2 ^ 8)) same ∙ next-known n thread s code c t
 
     is-met : T (between 1 8 code) → met ≡ countsMeet s code
-    is-met t = ap (λ (r : ℕ). leb (s .inside) (r / 2 ^ 32)) same ∙ met-known n thread s code c t
+    is-met t = ap (λ (r : ℕ). leb (s .inside) (r / 2 ^ 16 % 2 ^ 16)) same ∙ met-known n thread s code c t
 
     fits : (after : Standing) → ltb thread n && (next && met) ≡ true → after ≡ movedBy s row → accepted after ≡ reply
     fits after flag e =
@@ -110,7 +110,7 @@ cast-next : tie.Need-cast-next
 cast-next c = search needs
 
 cast-met : tie.Need-cast-met
-cast-met c = omega (arith, row-short (c .before .before .before .args .code))
+cast-met c = search needs
 
 moved-requires : tie.Need-moved-requires
 moved-requires c κs = search needs

@@ -11,11 +11,11 @@ cast-place c = search needs
 cast-change : tie.Need-cast-change
 cast-change c = search needs
 
-wrapping-add-u16-requires : tie.Need-wrapping-add-u16-requires
-wrapping-add-u16-requires c κs = search needs
+wrapping-add-u32-requires : tie.Need-wrapping-add-u32-requires
+wrapping-add-u32-requires c κs = search needs
 
 returns : tie.Need-returns
-returns c = same-standing refl (c .wrapping-add-u16 .ensures)
+returns c = same-standing refl (c .wrapping-add-u32 .ensures)
 
 pub moved-spec : {M : Type 1} → statement M
-moved-spec = tie.close (tie.spec cast-place cast-change wrapping-add-u16-requires returns)
+moved-spec = tie.close (tie.spec cast-place cast-change wrapping-add-u32-requires returns)
