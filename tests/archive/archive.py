@@ -68,13 +68,27 @@ class Function:
         self.name, self.frame, self.calls, self.unnamed = name, 0, [], []
 
 
+def names_register(operands, register):
+    """Whether operands name a register of 64 bits, or a part of it."""
+    core = register[1:]
+    parts = rf"{register}[dwb]?" if core[0].isdigit() else rf"[re]?{core}|{core.rstrip('x')}[lh]|{core}l"
+    return bool(re.search(rf"\b(?:{parts})\b", operands))
+
+
 def is_switch(code, at):
-    """Whether a jump goes by a table of distances to the table itself, as a switch does."""
-    if at < 2:
+    """Whether a jump goes by a table of distances to the table itself, as a switch does: the distance is loaded, the table's
+    place is added and the sum jumped to. Between the last two, moves may stand that do not name the register."""
+    jump, register, _ = code[at]
+    if jump != "jmp" or not re.match(r"r\w+$", register):
         return False
-    (load, from_table, _), (add, summands, _), (jump, register, _) = code[at - 2:at + 1]
+    before = at - 1
+    while before > 0 and code[before][0] in ("mov", "movzx") and not names_register(code[before][1], register):
+        before -= 1
+    if before < 1:
+        return False
+    (load, from_table, _), (add, summands, _) = code[before - 1:before + 1]
     entry = re.match(r"(r\w+),DWORD PTR \[(r\w+)\+r\w+\*4\]$", from_table)
-    return bool((load, add, jump) == ("movsxd", "add", "jmp") and entry and entry[1] == register and summands == f"{register},{entry[2]}")
+    return bool((load, add) == ("movsxd", "add") and entry and entry[1] == register and summands == f"{register},{entry[2]}")
 
 
 def functions(archive=ARCHIVE):

@@ -1,7 +1,7 @@
 #!/usr/bin/env python3
 """Counts the instructions of each entry under callgrind and holds them to the formulas of docs/MANUAL.md.
 
-  tests/time/count.py            the test: no count is above its formula, and no formula is far above the largest count
+  tests/time/count.py            the test: no count is above its formula, and no formula is far above the largest counts
   tests/time/count.py --table    the counts, the largest of each entry and size
 
 A formula stands in the manual's table as code, `a + b*N`: N tasks, E events, M moves that are planned, written or read, B
@@ -22,6 +22,8 @@ NAMES = {"version": "", "fresh": "N", "move": "N", "nodes": "N", "open_moves": "
          "run": "B", "write_script": "MB", "read_script": "BM", "watch_start": "N", "watch_event": "N", "watch_inside": "N"}
 # A formula may be above the largest count by this share, or by this many instructions.
 SHARE, LOOSE = 0.12, 40
+# Those that are the same instructions for each task or event, so that the formula is held to the largest input too.
+EVEN = {"move", "nodes", "open_moves", "check", "plan_length"}
 
 
 def own(text, names):
@@ -94,8 +96,12 @@ def main():
         else:
             passed += 1
     for entry in stated:
-        if not any(e == entry and eval(stated[entry], {}, dict(s)) <= n * (1 + SHARE) + LOOSE for (e, s), (n, what) in largest.items()):
+        near = {s: eval(stated[entry], {}, dict(s)) <= n * (1 + SHARE) + LOOSE for (e, s), (n, what) in largest.items() if e == entry}
+        most = max((n, s) for (e, s), (n, what) in largest.items() if e == entry)[1]
+        if not any(near.values()):
             failures.append(f"{entry}: {stated[entry]} is far above every count")
+        elif entry in EVEN and not near[most]:
+            failures.append(f"{entry}: {stated[entry]} is far above the count of {dict(most)}")
         else:
             passed += 1
     for failure in failures:

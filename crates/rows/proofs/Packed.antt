@@ -22,7 +22,7 @@ use Rattle.theory.proofs.Cases.{holder-phase}
 use Rattle.theory.proofs.Quantifiers.{every-at, every-i, howMany-most}
 use Rattle.theory.proofs.Soundness.{busy-bit}
 use Rattle.theory.proofs.Tests.{and-l, and-r, and-i, cond-yes, cond-no, cond-either, decided, T-true}
-use Rattle.rows.specs.Rows.{oneFlag, oneReader, oneBacked, oneBad, rowOf, fewBits, high, fewAt, threadRow, foundBy}
+use Rattle.rows.specs.Rows.{oneFlag, oneReader, oneBacked, oneBad, rowFor, fewBits, high, fewAt, threadRow, foundBy}
 
 -- ---- threads that fit by themselves
 
@@ -50,11 +50,11 @@ module _ (s : Table) where
   row-good : (i : ℕ) → T (fits i)
       → threadRow s i ≡ holderPhase (s .phase i)
       + (oneFlag * cond (eqb (s .forbidden i) 1) 1 0 + (oneReader * cond (forbiddenReader (s .phase i) (s .forbidden i)) 1 0 + oneBacked * cond (backedOff (s .phase i)) 1 0))
-  unfolding rowOf
+  unfolding rowFor
   row-good i t = cond-yes (fits i) _ oneBad t
 
   row-bad : (i : ℕ) → T (not (fits i)) → threadRow s i ≡ oneBad
-  unfolding rowOf
+  unfolding rowFor
   row-bad i t = cond-no (fits i) _ oneBad t
 
   -- the total holds the four counts

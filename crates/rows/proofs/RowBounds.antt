@@ -6,7 +6,7 @@ use lib.Dec.{T, eqb}
 use Rattle.definitions.specs.Bounds.{lastPhase}
 use Rattle.definitions.specs.Phases.{holds}
 use Rattle.definitions.specs.Sound.{backedOff}
-use Rattle.rows.specs.Rows.{oneBad, rowOf, rowAt}
+use Rattle.rows.specs.Rows.{oneBad, rowFor, rowAt}
 use Rattle.soundness.specs.Pass.{threadFits, forbiddenReader}
 use Rattle.theory.proofs.Cases.{holder-phase}
 
@@ -22,8 +22,8 @@ either-most : (b : Bool) (row : ℕ) → row ≤ oneBad → cond b row oneBad �
 either-most true row h = h
 either-most false row h = omega arith
 
-pub thread-most : (phase busy forbidden : ℕ) → rowOf phase busy forbidden ≤ oneBad
-unfolding rowOf
+pub thread-most : (phase busy forbidden : ℕ) → rowFor phase busy forbidden ≤ oneBad
+unfolding rowFor
 thread-most phase busy forbidden =
     either-most (threadFits phase busy forbidden) _
     (omega (

@@ -9,7 +9,7 @@ use lib.Arith.{bin-ind, digits-div, digits-mod}
 use lib.Bits.{bitAnd, bitOr, and-step, or-step, and-shr, or-shr, and-block, and-high, and-zero-r, and-le-l, and-le-r, or-add-and}
 use lib.Dec.{T, ltb, eqb, eqb→eq, ltb→lt, lt→ltb}
 use Rattle.theory.proofs.Tests.{and-l, and-r, and-i, eq-T, same-test}
-use Rattle.rows.specs.Rows.{rowOf, fewBits, stateOf, rowAt, wordOf, stateIn, high}
+use Rattle.rows.specs.Rows.{rowFor, fewBits, stateOf, rowAt, wordOf, stateIn, high}
 
 -- ---- the state in a word
 
@@ -27,7 +27,7 @@ state-in p b f a hp hb hf =
     split = omega arith
 
 -- the row of that state is the row of the bytes
-pub row-in : (p b f a : ℕ) → T (fewBits p b f) → rowAt (stateIn (wordOf p b f a)) ≡ rowOf p b f
+pub row-in : (p b f a : ℕ) → T (fewBits p b f) → rowAt (stateIn (wordOf p b f a)) ≡ rowFor p b f
 unfolding rowAt
 row-in p b f a t =
     let hp = ltb→lt p 32 (and-l (ltb p 32) _ t) in

@@ -27,8 +27,8 @@ abbrev pub oneBad : ℕ
 oneBad = 68_719_476_736
 
 -- what a thread adds
-unfoldable pub rowOf : ℕ → ℕ → ℕ → ℕ
-rowOf phase busy forbidden =
+unfoldable pub rowFor : ℕ → ℕ → ℕ → ℕ
+rowFor phase busy forbidden =
     cond (threadFits phase busy forbidden)
     (holderPhase phase
     + (oneFlag * cond (eqb forbidden 1) 1 0 + (oneReader * cond (forbiddenReader phase forbidden) 1 0 + oneBacked * cond (backedOff phase) 1 0)))
@@ -45,7 +45,7 @@ abbrev pub stateOf : ℕ → ℕ → ℕ → ℕ
 stateOf phase busy forbidden = forbidden + 2 * busy + 4 * phase
 
 unfoldable pub rowAt : ℕ → ℕ
-rowAt state = rowOf (state / 4) (state / 2 % 2) (state % 2)
+rowAt state = rowFor (state / 4) (state / 2 % 2) (state % 2)
 
 -- a thread's bytes from the lowest on, and any number above them
 abbrev pub wordOf : ℕ → ℕ → ℕ → ℕ → ℕ
@@ -65,7 +65,7 @@ abbrev pub fewAt : Table → ℕ → Bool
 fewAt s i = fewBits (s .phase i) (s .busy i) (s .forbidden i)
 
 abbrev pub threadRow : Table → ℕ → ℕ
-threadRow s i = rowOf (s .phase i) (s .busy i) (s .forbidden i)
+threadRow s i = rowFor (s .phase i) (s .busy i) (s .forbidden i)
 
 -- ---- what is told
 

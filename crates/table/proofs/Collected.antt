@@ -1,6 +1,6 @@
 -- A pass that reads the words of threads two at a time: what was added up, what bits were seen, and what is at hand (`Collected`).
 -- First the words of the last one or two threads are at hand (`begun`), then two by two those from thread 0 on (`gone-on`); where those of all threads were, the pass has found what it is to find (`ended`). For every N and every table.
-use Prim.Native.Nat.{ℕ, zero, suc, _+_, _-_, _*_, _/_, _%_, _^_, _≤_, _<_}
+use Prim.Native.Nat.{ℕ, suc, _+_, _-_, _*_, _/_, _%_, _^_, _≤_, _<_}
 use native.Mathlib.Omega.{arith}
 use mathlib.Core.Bool.{Bool, true, false, cond, _&&_, and-true, and-false}
 use mathlib.Core.Logic.{⊎-elim}
@@ -12,7 +12,7 @@ use Rattle.definitions.specs.Bounds.{mostThreads}
 use Rattle.definitions.specs.Phases.{rows}
 use Rattle.definitions.specs.Table.{Table}
 use Rattle.definitions.specs.Threads.{every}
-use Rattle.rows.specs.Rows.{oneBad, rowOf, rowAt, stateIn, high, fewAt, threadRow, foundBy}
+use Rattle.rows.specs.Rows.{oneBad, rowFor, rowAt, stateIn, high, fewAt, threadRow, foundBy}
 use Rattle.soundness.specs.Pass.{total, foundOf}
 use Rattle.table.specs.Words.{threadWord, oddWord}
 use Rattle.rows.proofs.Packed.{packed}
@@ -40,7 +40,7 @@ module _ (s : Table) (i above : ℕ) (b : Bytes s i) where
 
 -- 0 is the word of a free thread, which adds nothing
 free-row : rowAt (stateIn 0) ≡ 0
-unfolding rowAt rowOf rows
+unfolding rowAt rowFor rows
 free-row = refl
 
 -- ---- the order of tests

@@ -5,7 +5,7 @@ use mathlib.Core.Path.{_≡_, refl, sym, ap, _∙_}
 use borrow.Author.Tests.{lt-leb}
 use Rattle.definitions.specs.Bounds.{lastPhase}
 use Rattle.definitions.specs.Phases.{rows}
-use Rattle.rows.specs.Rows.{oneBad, rowOf, rowAt}
+use Rattle.rows.specs.Rows.{oneBad, rowFor, rowAt}
 use Rattle.theory.proofs.Matches.{above}
 use Rattle.rows.proofs.row_of.Statement.{statement}
 use Rattle.rows.proofs.row_of.Tie as tie
@@ -16,11 +16,11 @@ at k e h = h ∙ ap rowAt (sym e)
 
 -- a number that is no state
 past : (state : ℕ) → 128 ≤ state → oneBad ≡ rowAt state
-unfolding rowAt rowOf
+unfolding rowAt rowFor
 past state h = simp (lt-leb (state / 4) lastPhase (omega arith))
 
 pub row-of-spec : {M : Type 1} → statement M
-unfolding rowAt rowOf rows
+unfolding rowAt rowFor rows
 row-of-spec =
     tie.close
     (tie.spec

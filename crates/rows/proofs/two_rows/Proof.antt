@@ -3,7 +3,6 @@ use Prim.Native.Nat.{ℕ, zero, suc, _+_, _*_, _-_, _^_, _≤_, _<_}
 use native.Mathlib.Numerals.{add-one}
 use native.Mathlib.Omega.{arith}
 use mathlib.Core.Path.{_≡_, refl, sym, subst, ap, _∙_}
-use borrow.Author.Needs.{needs}
 use Rattle.rows.specs.Rows.{oneBad, rowAt, stateIn}
 use Rattle.soundness.specs.Pass.{total}
 use Rattle.rows.proofs.RowBounds.{row-most}
