@@ -1,5 +1,6 @@
 -- The soundness test's one pass as sums: what each thread adds to one total, by its three bytes, and what the total tells.
--- First the row of a thread, then states, which are the three bytes as one number where they have few bits, and the state in a word; then what is told by the total of all rows and by all bits of the words.
+-- First the row of a thread, then states, which are the three bytes as one number where they have few bits, and the state in a word;
+-- then what is told by the total of all rows and by all bits of the words.
 -- That this is what one pass finds (`foundOf`) stands in proofs/Packed.
 use Prim.Native.Nat.{ℕ, _+_, _*_, _/_, _%_}
 use mathlib.Core.Bool.{Bool, cond, _&&_}
@@ -13,7 +14,8 @@ use Rattle.soundness.specs.declared.Found.the-variants.{Good, Bad}
 
 -- ---- the row of a thread
 
--- one in each field of a total above the lowest, which is the sum of the holders' phases: a forbidden of 1, one of a thread in 5 to 7, a thread in 3, 4 or 18, and a thread that fails the rules on one thread by itself
+-- one in each field of a total above the lowest, which is the sum of the holders' phases:
+-- a forbidden of 1, one of a thread in 5 to 7, a thread in 3, 4 or 18, and a thread that fails the rules on one thread by itself
 abbrev pub oneFlag : ℕ
 oneFlag = 4_096
 

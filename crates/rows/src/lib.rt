@@ -24,7 +24,8 @@ const BAD: u64 = 0x1_00_00_00_000;
 // In a word, the bits of a phase of 32 or more and of a flag of 2 or more.
 const HIGH: u64 = 0x00_fe_fe_e0;
 
-// The row of a state, which is forbidden + 2 busy + 4 phase. All 128 stand here, so that the compiler makes one table of them.
+// The row of a state, which is forbidden + 2 busy + 4 phase: four a phase, with busy 0 and forbidden 0 and 1, then with busy 1.
+// All 128 stand here, so that the compiler makes one table of them.
 fn row_of(state: u64) -> u64
     ensures { λ r. ⌜ r ≡ rowAt state ⌝ }
 {

@@ -1,5 +1,6 @@
 -- A pass that reads the words of threads two at a time: what was added up, what bits were seen, and what is at hand (`Collected`).
--- First the words of the last one or two threads are at hand (`begun`), then two by two those from thread 0 on (`gone-on`); where those of all threads were, the pass has found what it is to find (`ended`). For every N and every table.
+-- First the words of the last one or two threads are at hand (`begun`), then two by two those from thread 0 on (`gone-on`);
+-- where those of all threads were, the pass has found what it is to find (`ended`). For every N and every table.
 use Prim.Native.Nat.{ℕ, suc, _+_, _-_, _*_, _/_, _%_, _^_, _≤_, _<_}
 use native.Mathlib.Omega.{arith}
 use mathlib.Core.Bool.{Bool, true, false, cond, _&&_, and-true, and-false}

@@ -31,6 +31,12 @@ pub enum Fault {
     MutexOfTwo,
     /// A phase byte is cut to 5 bits.
     PhaseCut,
+    /// The busy and forbidden bytes are cut to one bit: of every thread, or of
+    /// the last one of a hundred threads or more.
+    FlagsCut,
+    FlagsOfLastCut,
+    /// Thread 199's busy byte passes for that of its phase.
+    BusyOf199Mended,
     /// The writer spares its own flag.
     SparesOwnFlag,
     /// The writer's own flag isn't open to be set.
@@ -237,7 +243,7 @@ pub enum Fault {
 }
 
 /// The faults but those of the rule below.
-pub const OTHERS: [Fault; 103] = [
+pub const OTHERS: [Fault; 106] = [
     Fault::ThreadsCut,
     Fault::ThreadCut,
     Fault::MoveCut,
@@ -249,6 +255,9 @@ pub const OTHERS: [Fault; 103] = [
     Fault::RunClearsTail,
     Fault::MutexOfTwo,
     Fault::PhaseCut,
+    Fault::FlagsCut,
+    Fault::FlagsOfLastCut,
+    Fault::BusyOf199Mended,
     Fault::SparesOwnFlag,
     Fault::OwnFlagShut,
     Fault::WritesRefused,

@@ -18,6 +18,7 @@ pub mod scripts;
 pub mod sections;
 mod sound_faults;
 pub mod spelling;
+pub mod spoiled;
 pub mod tables;
 pub mod unreached;
 pub mod vectors;

@@ -16,7 +16,7 @@ use std::process::ExitCode;
 use compare::comparison::Comparison;
 use compare::faults::{faults, Fault, Faulty, OF_RULE};
 use compare::part::{Entry, Model, Part, ENTRIES};
-use compare::{examples, lengths, sections, unreached, vectors, written};
+use compare::{examples, lengths, sections, spoiled, unreached, vectors, written};
 
 const SEED: u64 = 0x5eed_0f10_c4ed_2026;
 
@@ -45,7 +45,7 @@ struct Section {
     run: fn(&mut Comparison, &[vectors::Vector]),
 }
 
-const SECTIONS: [Section; 31] = [
+const SECTIONS: [Section; 32] = [
     Section {
         name: "vectors",
         needs: None,
@@ -201,6 +201,11 @@ const SECTIONS: [Section; 31] = [
         needs: None,
         run: |c, _| unreached::kept_by_one(c, SEED),
     },
+    Section {
+        name: "tables with a bad byte of each thread",
+        needs: None,
+        run: |c, _| spoiled::each_thread(c, SEED),
+    },
 ];
 
 /// Runs every section. One passes where something was compared and nothing
@@ -229,7 +234,7 @@ fn compare_all(c: &mut Comparison, vectors: &[vectors::Vector]) -> (u64, u64) {
 /// A section, and faults that it must find by itself, whatever others find.
 type Alone = (&'static str, fn(&mut Comparison), &'static [Fault]);
 
-const ALONE: [Alone; 4] = [
+const ALONE: [Alone; 5] = [
     (
         "the tables reached and the sound ones",
         sections::reached_by_part,
@@ -272,6 +277,16 @@ const ALONE: [Alone; 4] = [
             Fault::RuleWithoutFirst,
             Fault::RuleWithoutLast,
             Fault::RuleOf64,
+        ],
+    ),
+    (
+        "a bad byte of each thread",
+        |c| spoiled::each_thread(c, SEED),
+        &[
+            Fault::PhaseCut,
+            Fault::FlagsCut,
+            Fault::FlagsOfLastCut,
+            Fault::BusyOf199Mended,
         ],
     ),
     (

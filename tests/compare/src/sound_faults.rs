@@ -53,11 +53,27 @@ pub fn passing(table: &[u8]) -> Vec<u8> {
     passing
 }
 
+/// Cuts the busy and forbidden byte of a thread to one bit.
+fn cut(table: &mut [u8], thread_at: usize) {
+    for flag in table[thread_at..].iter_mut().take(3).skip(1) {
+        *flag &= 1;
+    }
+}
+
 /// The table that an entry's test of soundness takes this one for.
 pub fn judged(fault: Fault, entry: Entry, table: &[u8]) -> Vec<u8> {
     let mut judged = table.to_vec();
     match fault {
         Fault::MutexOfTwo if table.get(1) == Some(&2) => judged[1] = 1,
+        Fault::FlagsCut => (3..table.len())
+            .step_by(3)
+            .for_each(|at| cut(&mut judged, at)),
+        Fault::FlagsOfLastCut if table.len() >= table_size(100) => {
+            cut(&mut judged, table.len() - 3)
+        }
+        Fault::BusyOf199Mended if table.len() == table_size(200) => {
+            put(&mut judged, 199, table[600])
+        }
         Fault::PhaseCut => phases_mut(&mut judged).for_each(|phase| *phase &= 31),
         Fault::ForbiddenBesideHold if some(table, |phase| phase == READER_HOLDS) => {
             let flags = judged.iter_mut().skip(5).step_by(3);
