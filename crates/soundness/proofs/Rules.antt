@@ -48,7 +48,8 @@ module _ (s : Table) where
       flags : (i : ℕ) → i < s .threads → T (leb (s .busy i) 1 && leb (s .forbidden i) 1)
       flags i l =
           and-i (leb (s .busy i) 1) _
-          (subst (λ (k : ℕ). T (leb k 1)) (sym (eqb→eq (s .busy i) (busyIn (s .phase i)) (busy i l))) (le→leb (busyIn (s .phase i)) 1 (busy-bit (s .phase i) (leb→le (s .phase i) lastPhase (phase i l)))))
+          (subst (λ (k : ℕ). T (leb k 1)) (sym (eqb→eq (s .busy i) (busyIn (s .phase i)) (busy i l)))
+          (le→leb (busyIn (s .phase i)) 1 (busy-bit (s .phase i) (leb→le (s .phase i) lastPhase (phase i l)))))
           (and-l (leb (s .forbidden i) 1) _ (and-r (leb (s .phase i) lastPhase) _ (at i l)))
 
   from-rules : T (phaseRule s && (flagRule s && busyRule s)) → T (every (s .threads) each)
