@@ -1,11 +1,12 @@
 -- No two answers of an entry have the same number: the number tells the reply. One law for every encoding whose values tell what is answered, then those that there are.
 use Prim.Native.Nat.{ℕ, _+_, _*_, _≤_, _<_}
+use native.Mathlib.Nat.{mul-le-mul-left, mul-add}
 use native.Mathlib.Omega.{arith}
 use mathlib.Core.Bool.{Bool, true, false}
 use mathlib.Core.Logic.{⊎-elim}
 use mathlib.Core.Path.{_≡_, refl, sym, ap, ap₂}
 use lib.Dec.{lit≤}
-use Rattle.definitions.specs.Answers.{Reply, accepted, refused, shown, codeOf, numberOf, outcomeReply, answerReply}
+use Rattle.definitions.specs.Answers.{Reply, accepted, refused, shown, moved, codeOf, numberOf, outcomeReply, answerReply}
 use Rattle.definitions.specs.declared.Answer.{Answer}
 use Rattle.definitions.specs.declared.Answer.the-variants as answer
 use Rattle.definitions.specs.declared.Event.{Event}
@@ -19,12 +20,16 @@ use Rattle.definitions.specs.declared.Reading.{Reading}
 use Rattle.definitions.specs.declared.Reading.the-variants as reading
 use Rattle.definitions.specs.declared.Refusal.{Refusal}
 use Rattle.definitions.specs.declared.Refusal.the-variants.{BadSize, Unsound, NoThread, NoMove, BadTarget, NotInPhase, MutexHeld, BadForm, UnknownPair, NotNext, Occupied, NoRoom, Inconsistent}
+use Rattle.definitions.specs.declared.Running.{Running}
+use Rattle.definitions.specs.declared.Running.the-variants as running
 use Rattle.definitions.specs.declared.Watched.{Watched}
 use Rattle.definitions.specs.declared.Watched.the-variants as watched
+use Rattle.definitions.specs.Run.{runningReply}
 use Rattle.definitions.specs.Scripts.{readingReply}
 use Rattle.definitions.specs.Watch.{watchedReply, insideReply}
 use Rattle.theory.proofs.Tests.{below?}
-use Rattle.answer_numbers.specs.Encoding.{encoded, countValue, watchValue, insideValue, moveNumber, countNumber, watchNumber, insideNumber, readNumber, ByteCount}
+use Rattle.answer_numbers.specs.Encoding.{encoded, retryUnit, seenValue, countValue, watchValue, insideValue, Below, ByteCount, BytesBelow}
+use Rattle.answer_numbers.specs.Encoding.{moveNumber, runNumber, countNumber, watchNumber, insideNumber, readNumber}
 
 -- a refusal's number is from 1 to 255
 abbrev Numbered : {A : Type 0} → Reply A → Type 0
@@ -57,15 +62,15 @@ numbers Occupied = (lit≤ tt, lit≤ tt)
 numbers NoRoom = (lit≤ tt, lit≤ tt)
 numbers Inconsistent = (lit≤ tt, lit≤ tt)
 
-codes : (e : Event) → 1 ≤ codeOf e
-codes EnterSharedCall = lit≤ tt
-codes EnterSharedReturn = lit≤ tt
-codes LeaveSharedCall = lit≤ tt
-codes LeaveSharedReturn = lit≤ tt
-codes EnterExclusiveCall = lit≤ tt
-codes EnterExclusiveReturn = lit≤ tt
-codes LeaveExclusiveCall = lit≤ tt
-codes LeaveExclusiveReturn = lit≤ tt
+codes : (e : Event) → (1 ≤ codeOf e) × (codeOf e ≤ 8)
+codes EnterSharedCall = (lit≤ tt, lit≤ tt)
+codes EnterSharedReturn = (lit≤ tt, lit≤ tt)
+codes LeaveSharedCall = (lit≤ tt, lit≤ tt)
+codes LeaveSharedReturn = (lit≤ tt, lit≤ tt)
+codes EnterExclusiveCall = (lit≤ tt, lit≤ tt)
+codes EnterExclusiveReturn = (lit≤ tt, lit≤ tt)
+codes LeaveExclusiveCall = (lit≤ tt, lit≤ tt)
+codes LeaveExclusiveReturn = (lit≤ tt, lit≤ tt)
 
 -- ---- the encodings
 
@@ -99,29 +104,82 @@ inside-apart a b e = apart insideValue inside-told (insideReply a) (insideReply 
 
 pub outcomes-apart : (a b : Outcome) → moveNumber (outcomeReply a) ≡ moveNumber (outcomeReply b) → outcomeReply a ≡ outcomeReply b
 unfolding encoded
-outcomes-apart (outcome.Shown d) (outcome.Shown e) h = ap (λ (k : ℕ). accepted (shown k)) (omega arith)
+outcomes-apart (outcome.Shown d) (outcome.Shown e) h = ap (λ (k : ℕ). accepted (moved (shown k) false)) (omega arith)
 outcomes-apart (outcome.Shown d) outcome.Quiet h = absurd (omega (arith, codes d))
+outcomes-apart (outcome.Shown d) outcome.Retry h = absurd (omega (arith, codes d))
 outcomes-apart (outcome.Shown d) (outcome.Refused s) h = absurd (omega (arith, numbers s))
 outcomes-apart outcome.Quiet (outcome.Shown e) h = absurd (omega (arith, codes e))
 outcomes-apart outcome.Quiet outcome.Quiet h = refl
+outcomes-apart outcome.Quiet outcome.Retry h = absurd (omega arith)
 outcomes-apart outcome.Quiet (outcome.Refused s) h = absurd (omega (arith, numbers s))
+outcomes-apart outcome.Retry (outcome.Shown e) h = absurd (omega (arith, codes e))
+outcomes-apart outcome.Retry outcome.Quiet h = absurd (omega arith)
+outcomes-apart outcome.Retry outcome.Retry h = refl
+outcomes-apart outcome.Retry (outcome.Refused s) h = absurd (omega (arith, numbers s))
 outcomes-apart (outcome.Refused r) (outcome.Shown e) h = absurd (omega (arith, numbers r))
 outcomes-apart (outcome.Refused r) outcome.Quiet h = absurd (omega (arith, numbers r))
+outcomes-apart (outcome.Refused r) outcome.Retry h = absurd (omega (arith, numbers r))
 outcomes-apart (outcome.Refused r) (outcome.Refused s) h = ap (λ (k : ℕ). refused k 0) (omega arith)
 
--- ---- reading's answers, whose N fits a byte
+-- what is seen of a move stands below its retry
+pub outcomes-low : (a : Outcome) → Below retryUnit (λ x. seenValue (x .seen)) (outcomeReply a)
+outcomes-low (outcome.Shown e) = omega (arith, codes e)
+outcomes-low outcome.Quiet = omega arith
+outcomes-low outcome.Retry = omega arith
+outcomes-low (outcome.Refused r) = tt
 
--- the digits above N's are in order
-digits-most : (n m k l : ℕ) → m < 256 → n + 256 * k ≡ m + 256 * l → k ≤ l
-digits-most n m k l h e = ⊎-elim (λ below. absurd (omega arith)) (λ le. le) (below? k l)
+-- ---- answers of two values, of which the lower is below a unit
+
+-- one unit more is too much
+too-far : (unit n m x y z : ℕ) → m < unit → n + x ≡ m + y → z ≤ x → z ≡ unit * 1 + y → ⊥
+too-far unit n m x y z h e l f = omega arith
+
+-- the higher ones are in order
+above-most : (unit n m k l : ℕ) → m < unit → n + unit * k ≡ m + unit * l → k ≤ l
+above-most unit n m k l h e =
+    ⊎-elim (λ below. absurd (too-far unit n m (unit * k) (unit * l) (unit * (1 + l)) h e (mul-le-mul-left unit (omega arith)) (mul-add unit 1 l))) (λ le. le) (below? k l)
+
+-- so both are told
+both-told : (unit n m k l : ℕ) → n < unit → m < unit → n + unit * k ≡ m + unit * l → (n ≡ m) × (k ≡ l)
+both-told unit n m k l f g e =
+    let same : k ≡ l = omega (arith, above-most unit n m k l g e, above-most unit m n l k f (sym e)) in
+    (omega (arith, e, ap (λ (x : ℕ). unit * x) same), same)
+
+-- ---- reading's answers, whose N fits a byte, and a run's, whose bytes stand below its retries
+
+-- equal numbers have equal values, and that of an accepted answer isn't a refusal's
+halves : (x y : ℕ) → 256 * x ≡ 256 * y → x ≡ y
+halves x y e = omega arith
+
+never : (x number place : ℕ) → (1 ≤ number) × (number < 256) → 256 * x ≡ 256 * place + number → ⊥
+never x number place (least, most) e = omega arith
+
+-- replies of which each is a refusal, or has two values of which the lower is below the unit, are told by their numbers
+units-apart : {A : Type 0} (x y : Reply A) (unit : ℕ) (low high : A → ℕ) → Numbered x → Numbered y
+    → ((a b : A) → low a ≡ low b → high a ≡ high b → a ≡ b)
+    → Below unit low x → Below unit low y → encoded (λ a. low a + unit * high a) x ≡ encoded (λ a. low a + unit * high a) y → x ≡ y
+unfolding encoded
+units-apart (accepted a) (accepted b) unit low high m n tells f g e =
+    let told = both-told unit (low a) (low b) (high a) (high b) f g (halves (low a + unit * high a) (low b + unit * high b) e) in
+    ap accepted (tells a b (told .0) (told .1))
+units-apart (accepted a) (refused l q) unit low high m n tells f g e = absurd (never (low a + unit * high a) l q n e)
+units-apart (refused k p) (accepted b) unit low high m n tells f g e = absurd (never (low b + unit * high b) k p m (sym e))
+units-apart (refused k p) (refused l q) unit low high m n tells f g e = ap₂ refused (omega arith) (omega arith)
+
+reading-numbered : (a : Reading) → Numbered (readingReply a)
+reading-numbered (reading.Read n k) = tt
+reading-numbered (reading.Refused r p) = numbers r
 
 pub readings-apart : (a b : Reading) → ByteCount (readingReply a) → ByteCount (readingReply b) → readNumber (readingReply a) ≡ readNumber (readingReply b) → readingReply a ≡ readingReply b
-unfolding encoded
-readings-apart (reading.Read n k) (reading.Read m l) h g e =
-    let values : n + 256 * k ≡ m + 256 * l = omega arith in
-    let same-bytes : k ≡ l = omega (arith, digits-most n m k l g values, digits-most m n l k h (sym values)) in
-    let same-count : n ≡ m = omega arith in
-    ap accepted (λ i. record { threads = same-count i; bytes = same-bytes i })
-readings-apart (reading.Read n k) (reading.Refused s q) h g e = absurd (omega (arith, numbers s))
-readings-apart (reading.Refused r p) (reading.Read m l) h g e = absurd (omega (arith, numbers r))
-readings-apart (reading.Refused r p) (reading.Refused s q) h g e = ap₂ refused (omega (arith, numbers r, numbers s)) (omega (arith, numbers r, numbers s))
+readings-apart a b f g e =
+    units-apart (readingReply a) (readingReply b) 256 (λ l. l .threads) (λ l. l .bytes) (reading-numbered a) (reading-numbered b)
+    (λ x y p q. λ i. record { threads = p i; bytes = q i }) f g e
+
+running-numbered : (a : Running) → Numbered (runningReply a)
+running-numbered (running.Ran n k) = tt
+running-numbered (running.Refused r p) = numbers r
+
+pub runs-apart : (a b : Running) → BytesBelow (runningReply a) → BytesBelow (runningReply b) → runNumber (runningReply a) ≡ runNumber (runningReply b) → runningReply a ≡ runningReply b
+runs-apart a b f g e =
+    units-apart (runningReply a) (runningReply b) retryUnit (λ c. c .bytes) (λ c. c .retries) (running-numbered a) (running-numbered b)
+    (λ x y p q. λ i. record { bytes = p i; retries = q i }) f g e

@@ -1,4 +1,4 @@
--- The values of every entry's answer are small, so that the answer fits 64 bits with its refusal's number beside it.
+-- The values of every entry's answer are small, so that the answer fits 64 bits with its refusal's number beside it; where it is accepted, the value but for the retries has 32 bits.
 -- An answer's value is the place of one of the entry's tests, or what is answered where all are passed.
 use Prim.Native.Nat.{ℕ, zero, suc, _+_, _-_, _*_, _%_, _≤_, _<_}
 use native.Mathlib.Omega.{arith}
@@ -22,9 +22,10 @@ use Rattle.definitions.specs.Table.{sized, freshEntry, tableOf}
 use Rattle.definitions.specs.Texts.{Line, linesOf}
 use Rattle.definitions.specs.Threads.{gather}
 use Rattle.definitions.specs.declared.Request.{Request}
-use Rattle.answer_numbers.specs.Encoding.{countValue, listedValue, valueOf, valueIn, valueBound, heldPlace, held, ByteCount}
+use Rattle.answer_numbers.specs.Encoding.{retryUnit, runValue, countValue, listedValue, valueOf, valueIn, valueBound, heldPlace, held, Below, ByteCount}
 use Rattle.history.proofs.CheckLaws.{tests-e}
 use Rattle.runs.proofs.Lines.{lines-count, read-few}
+use Rattle.runs.proofs.RetriesCounted.{retries-few}
 use Rattle.runs.proofs.Suffices.{suffices}
 use Rattle.theory.proofs.Bytes.{sized-e}
 use Rattle.theory.proofs.Lengths.{pairs-length, fresh-length}
@@ -54,32 +55,42 @@ unfolding gather
 places-gather bound f zero h = tt
 places-gather bound f (suc n) h = places-append bound (gather n f) (f n) (places-gather bound f n (λ k l. h k (omega arith))) (h n (omega arith))
 
--- the value of what is answered
-small-answer : {A : Type 0} (value : A → ℕ) (ts : List Test) (a : A) (bound : ℕ) → PlacesBelow bound ts → (T (passesAll ts) → value a < bound) → valueOf value (answered ts a) < bound
-unfolding answered passesAll
-small-answer value [] a bound h k = k tt
-small-answer {A} value (t ∷ ts) a bound h k = by (t .passed) refl (λ p. small-answer value ts a bound (h .1 p) (λ q. k (pass t ts p q)))
-  where
-    by : (b : Bool) → t .passed ≡ b → (T (t .passed) → valueOf value (answered ts a) < bound) → valueOf value (cond b (answered ts a) (refused (t .number) (t .place))) < bound
-    by true e rest = rest (subst T (sym e) tt)
-    by false e rest = h .0
+-- a reply whose value is small, and what it has of a low value, where it is accepted, is below the retries
+abbrev Small : {A : Type 0} → (A → ℕ) → (A → ℕ) → Reply A → Type 0
+Small value low r = (valueOf value r < valueBound) × Below retryUnit low r
 
--- a reply to what is delivered has a small value
-abbrev pub SmallValue : {A : Type 0} → (A → ℕ) → Delivery A → Type 0
-SmallValue {A} value d = (out : List ℕ) (r : Reply A) → r ≡ deliveryReply d out → valueOf value r < valueBound
+-- what is answered
+small-answer : {A : Type 0} (value low : A → ℕ) (ts : List Test) (a : A) → PlacesBelow valueBound ts → (T (passesAll ts) → (value a < valueBound) × (low a < retryUnit))
+    → Small value low (answered ts a)
+unfolding answered passesAll
+small-answer value low [] a h k = k tt
+small-answer {A} value low (t ∷ ts) a h k = by (t .passed) refl (λ p. small-answer value low ts a (h .1 p) (λ q. k (pass t ts p q)))
+  where
+    by : (b : Bool) → t .passed ≡ b → (T (t .passed) → Small value low (answered ts a)) → Small value low (cond b (answered ts a) (refused (t .number) (t .place)))
+    by true e rest = rest (subst T (sym e) tt)
+    by false e rest = (h .0, tt)
+
+-- a reply to what is delivered is small
+abbrev pub SmallValue : {A : Type 0} → (A → ℕ) → (A → ℕ) → Delivery A → Type 0
+SmallValue {A} value low d = (out : List ℕ) (r : Reply A) → r ≡ deliveryReply d out → (valueOf value r < valueBound) × Below retryUnit low r
 
 abbrev pub SmallReply : Delivery ℕ → Type 0
-SmallReply = SmallValue countValue
+SmallReply = SmallValue countValue countValue
 
-small-value : {A : Type 0} (value : A → ℕ) (d : Delivery A) → PlacesBelow valueBound (d .tests) → (T (passesAll (d .tests)) → value (d .answer) < valueBound) → SmallValue value d
+small-value : {A : Type 0} (value low : A → ℕ) (d : Delivery A) → PlacesBelow valueBound (d .tests)
+    → (T (passesAll (d .tests)) → (value (d .answer) < valueBound) × (low (d .answer) < retryUnit)) → SmallValue value low d
 unfolding deliveryReply
-small-value value d h k out r e =
+small-value value low d h k out r e =
     let room = roomTest (d .text) out ∷ [] in
-    rw e (small-answer value (d .tests ++ room) (d .answer) valueBound (places-append valueBound (d .tests) room h (omega arith, λ p. tt))
+    rw e (small-answer value low (d .tests ++ room) (d .answer) (places-append valueBound (d .tests) room h (omega arith, λ p. tt))
     (λ p. k (and-l (passesAll (d .tests)) (passesAll room) (subst T (passes-append (d .tests) room) p))))
 
-small-delivery : (d : Delivery ℕ) → PlacesBelow valueBound (d .tests) → (T (passesAll (d .tests)) → d .answer < valueBound) → SmallReply d
-small-delivery = small-value countValue
+-- a count below the retries is small
+count-small : (k : ℕ) → k < retryUnit → (k < valueBound) × (k < retryUnit)
+count-small k l = (omega arith, l)
+
+small-delivery : (d : Delivery ℕ) → PlacesBelow valueBound (d .tests) → (T (passesAll (d .tests)) → d .answer < retryUnit) → SmallReply d
+small-delivery d h k = small-value countValue countValue d h (λ p. count-small (d .answer) (k p))
 
 -- ---- tables
 
@@ -120,10 +131,11 @@ check-places n bytes = (omega arith, λ p. (omega arith, λ q. places-gather val
 checked : (n : ℕ) (bytes : List ℕ) → T (passesAll (checkTests n bytes)) → (n ≤ mostThreads) × (length (pairsOf bytes) ≤ 30_000)
 checked n bytes p = let f = tests-e n bytes p .0 in (f .most, omega (arith, f .short, pairs-length bytes))
 
-pub check-small : (n : ℕ) (bytes : List ℕ) (r : Reply ℕ) → r ≡ checkReply n bytes → valueIn r < valueBound
+pub check-small : (n : ℕ) (bytes : List ℕ) (r : Reply ℕ) → r ≡ checkReply n bytes → (valueIn r < valueBound) × Below retryUnit countValue r
 unfolding checkReply
 check-small n bytes r e =
-    rw e (small-answer countValue (checkTests n bytes) (length (pairsOf bytes)) valueBound (check-places n bytes) (λ p. omega (arith, checked n bytes p .1)))
+    rw e (small-answer countValue countValue (checkTests n bytes) (length (pairsOf bytes)) (check-places n bytes)
+    (λ p. count-small (length (pairsOf bytes)) (omega (arith, checked n bytes p .1))))
 
 plan-moves : (n : ℕ) (h : List Pair) → n ≤ mostThreads → length (plan n h) ≤ 613 * length h
 unfolding plan
@@ -131,12 +143,14 @@ plan-moves n [] l = omega arith
 plan-moves n (x ∷ xs) l = omega (arith, length-append (planOf n x) (plan n xs), event-most n x, plan-moves n xs l)
 
 -- so the plan of a history that the check passes is short
-plan-short : (n : ℕ) (bytes : List ℕ) → T (passesAll (checkTests n bytes)) → length (plan n (pairsOf bytes)) < valueBound
+plan-short : (n : ℕ) (bytes : List ℕ) → T (passesAll (checkTests n bytes)) → length (plan n (pairsOf bytes)) < retryUnit
 plan-short n bytes p = let c = checked n bytes p in omega (arith, plan-moves n (pairsOf bytes) (c .0), c .1)
 
-pub length-small : (n : ℕ) (bytes : List ℕ) (r : Reply ℕ) → r ≡ planLengthReply n bytes → valueIn r < valueBound
+pub length-small : (n : ℕ) (bytes : List ℕ) (r : Reply ℕ) → r ≡ planLengthReply n bytes → (valueIn r < valueBound) × Below retryUnit countValue r
 unfolding planLengthReply
-length-small n bytes r e = rw e (small-answer countValue (checkTests n bytes) (length (plan n (pairsOf bytes))) valueBound (check-places n bytes) (plan-short n bytes))
+length-small n bytes r e =
+    rw e (small-answer countValue countValue (checkTests n bytes) (length (plan n (pairsOf bytes))) (check-places n bytes)
+    (λ p. count-small (length (plan n (pairsOf bytes))) (plan-short n bytes p)))
 
 pub plan-small : (n : ℕ) (bytes : List ℕ) → SmallReply (planEntry n bytes)
 plan-small n bytes =
@@ -144,10 +158,13 @@ plan-small n bytes =
 
 -- ---- the run
 
-pub run-small : (script : List ℕ) → SmallReply (runEntry script)
+pub run-small : (script : List ℕ) → SmallValue runValue (λ c. c .bytes) (runEntry script)
 run-small script =
-    small-delivery (runEntry script) (omega arith, λ p. tt)
-    (λ p. omega (arith, suffices script (leb→le (length script) mostScript (peel _ [] p .0))))
+    small-value runValue (λ c. c .bytes) (runEntry script) (omega arith, λ p. tt)
+    (λ p.
+    let short = leb→le (length script) mostScript (peel _ [] p .0) in
+    let few = suffices script short in
+    (omega (arith, short, few, retries-few script), omega (arith, few)))
 
 -- ---- scripts written and read
 
@@ -155,18 +172,18 @@ run-small script =
 place-held : (place : ℕ) → heldPlace place < valueBound
 place-held place = cond-either (λ (k : ℕ). k < valueBound) (leb place (valueBound - 1)) place (valueBound - 1) (λ t. let l = leb→le place (valueBound - 1) t in omega arith) (λ t. omega arith)
 
-pub write-small : (n : ℕ) (triples out : List ℕ) (r : Reply ℕ) → r ≡ held (deliveryReply (writeEntry n triples) out) → valueIn r < valueBound
+pub write-small : (n : ℕ) (triples out : List ℕ) (r : Reply ℕ) → r ≡ held (deliveryReply (writeEntry n triples) out) → (valueIn r < valueBound) × Below retryUnit countValue r
 write-small n triples out r e = rw e (by (deliveryReply (writeEntry n triples) out) refl)
   where
     size : ℕ
     size = length (scriptOf n (requestsOf triples))
 
-    by : (x : Reply ℕ) → deliveryReply (writeEntry n triples) out ≡ x → valueIn (held x) < valueBound
+    by : (x : Reply ℕ) → deliveryReply (writeEntry n triples) out ≡ x → (valueIn (held x) < valueBound) × Below retryUnit countValue (held x)
     by (accepted count) d =
         let s = answered-so (writeEntry n triples) out count d in
         let p = passes-split (triplesTests 0 n (requestsOf triples)) _ (peel _ _ (peel _ _ (s .tested) .1) .1) .1 in
-        omega (arith, s .answer, leb→le size mostScript (peel _ _ p .0))
-    by (refused number place) d = place-held place
+        count-small count (omega (arith, s .answer, leb→le size mostScript (peel _ _ p .0)))
+    by (refused number place) d = (place-held place, tt)
 
 -- the places of a list's triples are their indices
 triple-places : (n k : ℕ) (rs : List Request) → k + length rs ≤ valueBound → PlacesBelow valueBound (triplesTests k n rs)
@@ -179,7 +196,7 @@ pub write-held : (n : ℕ) (triples out : List ℕ) → length triples ≤ 3 * v
 unfolding deliveryReply
 write-held n triples out l =
     let reply = deliveryReply (writeEntry n triples) out in
-    same reply (small-delivery (writeEntry n triples) places short out reply refl)
+    same reply (small-delivery (writeEntry n triples) places short out reply refl .0)
   where
     same : (x : Reply ℕ) → valueIn x < valueBound → held x ≡ x
     same (accepted count) h = refl
@@ -194,7 +211,7 @@ write-held n triples out l =
       ),
     )
 
-    short : T (passesAll (writeTests n triples)) → length (scriptOf n (requestsOf triples)) < valueBound
+    short : T (passesAll (writeTests n triples)) → length (scriptOf n (requestsOf triples)) < retryUnit
     short t =
         let p = passes-split (triplesTests 0 n (requestsOf triples)) _ (peel _ _ (peel _ _ t .1) .1) .1 in
         omega (arith, leb→le (length (scriptOf n (requestsOf triples))) mostScript (peel _ _ p .0))
@@ -233,11 +250,14 @@ script-count ls t = by (firstForm ls) (passes-split (firstTests (firstForm ls)) 
     by note p = omega arith
     by bad p = omega arith
 
-pub read-small : (script : List ℕ) → SmallValue listedValue (readEntry script)
+pub read-small : (script : List ℕ) → SmallValue listedValue listedValue (readEntry script)
 read-small script =
-    small-value listedValue (readEntry script)
+    small-value listedValue listedValue (readEntry script)
     (omega arith, λ p. script-places valueBound (linesOf script) (omega arith) (omega (arith, lines-count script, leb→le (length script) mostScript p)))
-    (λ t. let a = peel _ _ t in omega (arith, script-count (linesOf script) (a .1), read-few script, leb→le (length script) mostScript (a .0)))
+    (λ t.
+    let a = peel _ _ t in
+    let l = readEntry script .answer in
+    count-small (listedValue l) (omega (arith, script-count (linesOf script) (a .1), read-few script, leb→le (length script) mostScript (a .0))))
 
 -- the N that reading answers fits a byte
 pub read-byte : (script out : List ℕ) → ByteCount (deliveryReply (readEntry script) out)

@@ -3,7 +3,8 @@
 use Prim.Native.Nat.{ℕ, _+_, _-_, _*_, _<_}
 use mathlib.Core.Bool.{Bool, cond}
 use lib.Dec.{leb}
-use Rattle.definitions.specs.Answers.{Reply, accepted, refused, Seen, shown, quiet}
+use Rattle.definitions.specs.Answers.{Reply, accepted, refused, Seen, shown, quiet, MoveAnswer}
+use Rattle.definitions.specs.Run.{RunCounts}
 use Rattle.definitions.specs.Scripts.{Listed}
 
 -- one rule for every entry, given the value of what it answers
@@ -15,6 +16,18 @@ encoded value (refused number place) = 256 * place + number
 abbrev pub seenValue : Seen → ℕ
 seenValue (shown event) = event
 seenValue quiet = 0
+
+-- retries stand above the other value of a move and of a run, which is below this (02 §7)
+abbrev pub retryUnit : ℕ
+retryUnit = 4_294_967_296
+
+-- of a move, what is seen, and 1 above it for a retry
+abbrev pub moveValue : MoveAnswer → ℕ
+moveValue a = seenValue (a .seen) + retryUnit * cond (a .retry) 1 0
+
+-- of a run, the number of bytes, and the number of retries above it
+abbrev pub runValue : RunCounts → ℕ
+runValue c = c .bytes + retryUnit * c .retries
 
 -- of a count, the count
 abbrev pub countValue : ℕ → ℕ
@@ -31,9 +44,12 @@ insideValue inside = cond inside 1 0
 abbrev pub listedValue : Listed → ℕ
 listedValue l = l .threads + 256 * l .bytes
 
--- what the move entry answers for its reply, the watcher's for theirs, and every other entry for its own
-abbrev pub moveNumber : Reply Seen → ℕ
-moveNumber = encoded seenValue
+-- what the move entry answers for its reply, the run for its own, the watcher's for theirs, and every other entry for its own
+abbrev pub moveNumber : Reply MoveAnswer → ℕ
+moveNumber = encoded moveValue
+
+abbrev pub runNumber : Reply RunCounts → ℕ
+runNumber = encoded runValue
 
 abbrev pub watchNumber : Reply (Unit {0}) → ℕ
 watchNumber = encoded watchValue
@@ -47,10 +63,17 @@ readNumber = encoded listedValue
 abbrev pub countNumber : Reply ℕ → ℕ
 countNumber = encoded countValue
 
--- reading answers an N that fits a byte
+-- what an accepted answer has of a value is below a unit
+abbrev pub Below : {A : Type 0} → ℕ → (A → ℕ) → Reply A → Type 0
+Below unit value (accepted a) = value a < unit
+Below unit value (refused number place) = Unit {0}
+
+-- reading answers an N that fits a byte, and a run a number of bytes that stands below the retries
 abbrev pub ByteCount : Reply Listed → Type 0
-ByteCount (accepted l) = l .threads < 256
-ByteCount (refused number place) = Unit {0}
+ByteCount = Below 256 (λ l. l .threads)
+
+abbrev pub BytesBelow : Reply RunCounts → Type 0
+BytesBelow = Below retryUnit (λ c. c .bytes)
 
 -- an answer's value: that of what is answered, or the place
 abbrev pub valueOf : {A : Type 0} → (A → ℕ) → Reply A → ℕ
@@ -62,6 +85,9 @@ valueIn = valueOf countValue
 
 abbrev pub listedIn : Reply Listed → ℕ
 listedIn = valueOf listedValue
+
+abbrev pub runIn : Reply RunCounts → ℕ
+runIn = valueOf runValue
 
 -- values stay below this, so that an answer fits 64 bits
 abbrev pub valueBound : ℕ

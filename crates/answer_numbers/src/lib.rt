@@ -4,16 +4,23 @@ use definitions::Answer;
 use definitions::Inside;
 use definitions::Outcome;
 use definitions::Reading;
+use definitions::Running;
 use definitions::Watched;
 ghost use Prim.Native.Nat.{_<_};
 ghost use mathlib.Core.Path.{_≡_};
 ghost use Rattle.definitions.specs.Answers.{outcomeReply, answerReply};
+ghost use Rattle.definitions.specs.Run.{runningReply};
 ghost use Rattle.definitions.specs.Scripts.{readingReply};
 ghost use Rattle.definitions.specs.Watch.{watchedReply, insideReply};
-ghost use Rattle.answer_numbers.specs.Encoding.{moveNumber, countNumber, watchNumber, insideNumber, readNumber, valueIn, listedIn, valueBound, held};
+ghost use Rattle.answer_numbers.specs.Encoding.{moveNumber, runNumber, countNumber, watchNumber, insideNumber, readNumber, valueIn, listedIn, runIn, valueBound, held};
 
 // The largest place that stands beside a refusal's number.
 const MOST_PLACE: usize = 36_028_797_018_963_967;
+
+// Retries stand above the other value of a move and of a run, in units of this; of a move, with the number's low byte below.
+const RETRY_UNIT: u64 = 4_294_967_296;
+
+const RETRY_NUMBER: u64 = 256 * RETRY_UNIT;
 
 // The number of an outcome of the move.
 pub fn outcome_number(outcome: Outcome) -> u64
@@ -22,6 +29,7 @@ pub fn outcome_number(outcome: Outcome) -> u64
     match outcome {
         Outcome::Shown(event) => 256 * (event.code() as u64),
         Outcome::Quiet => 0,
+        Outcome::Retry => RETRY_NUMBER,
         Outcome::Refused(refusal) => refusal.number() as u64,
     }
 }
@@ -34,6 +42,17 @@ pub fn answer_number(answer: Answer) -> u64
     match answer {
         Answer::Done(count) => 256 * (count as u64),
         Answer::Refused(refusal, place) => 256 * (place as u64) + (refusal.number() as u64),
+    }
+}
+
+// The number of a run's answer, whose values are small.
+pub fn running_number(answer: Running) -> u64
+    requires { ⌜ runIn (runningReply answer) < valueBound ⌝ }
+    ensures { λ r. ⌜ r ≡ runNumber (runningReply answer) ⌝ }
+{
+    match answer {
+        Running::Ran { bytes, retries } => 256 * (bytes as u64 + RETRY_UNIT * (retries as u64)),
+        Running::Refused(refusal, place) => 256 * (place as u64) + (refusal.number() as u64),
     }
 }
 

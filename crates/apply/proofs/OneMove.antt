@@ -7,7 +7,7 @@ use mathlib.Core.Path.{_≡_, refl, sym, subst, subst⁻¹, ap, _∙_}
 use lib.Dec.{T, eqb}
 use Rattle.definitions.specs.Answers.{accepted}
 use Rattle.definitions.specs.Bounds.{mostThreads}
-use Rattle.definitions.specs.Moves.{effect, moveTests, stepReply, accepts, moveReply, moveTable}
+use Rattle.definitions.specs.Moves.{effect, moveTests, moveAnswer, stepReply, accepts, moveReply, moveTable}
 use Rattle.definitions.specs.Table.{byteTable, tableOf, stored}
 use Rattle.definitions.specs.declared.Request.{Request}
 use Rattle.rules.specs.View.{cellsOf, allForbiddenBut, othersBy, viewAt, cellsAfter, Decides}
@@ -82,12 +82,12 @@ module _ (bytes : List ℕ) (k i t : ℕ) (h : TestedTable bytes k) (p : TwoThre
 
 -- ---- the reply of an accepted request, and what it leaves
 accepted-reply : (bytes : List ℕ) (r : Request) → SoundBytes bytes → T (accepts (tableOf bytes) r)
-    → moveReply bytes r ≡ accepted (effect (tableOf bytes) r .shows)
+    → moveReply bytes r ≡ accepted (moveAnswer (tableOf bytes) r)
 unfolding stepReply
 accepted-reply bytes r h a =
     let s = tableOf bytes in
     reply-same byteTable bytes r (h .is-sized)
-    ∙ all-passed (effect s r .shows) (moveTests s r) (subst T (accepted-is (effect s r .shows) (moveTests s r)) a)
+    ∙ all-passed (moveAnswer s r) (moveTests s r) (subst T (accepted-is (moveAnswer s r) (moveTests s r)) a)
 
 accepted-leaves : (bytes : List ℕ) (r : Request) → SoundBytes bytes → T (accepts (tableOf bytes) r)
     → moveTable bytes r ≡ stored bytes (effect (tableOf bytes) r .writes)
@@ -117,7 +117,7 @@ one-move bytes k t r v d after k′ h e seen rule put new =
     record {
       made =
           record {
-            reply = follows .shows ∙ sym (accepted-reply bytes r (h .table .tested) (h .accepted));
+            reply = follows .says ∙ sym (accepted-reply bytes r (h .table .tested) (h .accepted));
             table =
                 put
                 ∙ (ap (λ (x : Cells). storedCells bytes i t x) done

@@ -8,6 +8,7 @@ use mathlib.Core.Logic.{_⊎_, inl, inr, ⊎-elim}
 use mathlib.Core.Path.{_≡_, refl, sym, subst, _∙_}
 use lib.Dec.{T, eqb, eqb→eq}
 use Rattle.definitions.specs.Bounds.{lastPhase, lastMove}
+use Rattle.definitions.specs.Chains.{pairSeen}
 use Rattle.definitions.specs.Codes.{go, callShared, callExclusive}
 use Rattle.definitions.specs.Moves.{ask, Effect, quietly, showing, goEffect, effect, targetFits, mustWait}
 use Rattle.definitions.specs.Phases.{rows, busyIn, holds, reading, hasMove}
@@ -18,7 +19,7 @@ use Rattle.definitions.specs.Threads.{among, between}
 use Rattle.definitions.specs.declared.Request.{Request}
 use Rattle.theory.specs.Tables.{WritesFit}
 use Rattle.theory.proofs.Cases.{or-at, none-of}
-use Rattle.theory.proofs.Chains.{pairSeen, Leads, arrives, makes}
+use Rattle.theory.proofs.Chains.{Leads, arrives, makes}
 use Rattle.theory.proofs.Columns.{update-kept, update-twice}
 use Rattle.theory.proofs.SoundChanges.{busy-moves, busy-at, other-elsewhere}
 use Rattle.theory.proofs.Soundness.{Sound}

@@ -17,6 +17,7 @@ use Rattle.definitions.specs.Table.{Table, mutex≔, target≔, phase≔, forbi
 use Rattle.definitions.specs.Threads.{every, listOf, among, between, implies}
 use Rattle.theory.proofs.Cases.{or-at, none-of, among-range}
 use Rattle.theory.proofs.Columns.{update-kept, update-twice}
+use Rattle.theory.proofs.FlagCounts.{flagsSet, one-more, one-fewer}
 use Rattle.theory.proofs.Quantifiers.{every-at, every-i, howMany-most}
 use Rattle.theory.proofs.SoundChanges.{Column, put, keep, put-all, after, other-elsewhere, phase-moves, flags-after, read-before, in-phase}
 use Rattle.theory.proofs.SoundChanges.{holder-alone, holder-locked, idle-target, holds-on, idle, takes-mutex, lets-go}
@@ -26,7 +27,7 @@ use Rattle.theory.proofs.Stages.{Stage, stage-10, stage-11, stage-13, stage-15,
 use Rattle.theory.proofs.Tests.{and-i, T-true, T-false, not-i, or-e, or-l, or-r, eq-T, same?, implies-e}
 use Rattle.theory.proofs.Writes.{update-same, update-other, same-table}
 use Rattle.completeness.proofs.Before.{Before, undoable, step-back}
-use Rattle.completeness.proofs.Rank.{base, weight, holderWeight, weights, flagsSet, rankAt, Below, weights-phase, weights-flag, one-more, one-fewer}
+use Rattle.completeness.proofs.Rank.{base, weight, holderWeight, weights, rankAt, Below, weights-phase, weights-flag}
 use Rattle.completeness.proofs.Rank.{with-writer, none-backed-off, without-writer, writerless-kept, falls-held, falls-free}
 
 -- ---- phases and flags, by trying them all

@@ -12,7 +12,7 @@ use lib.Dec.{T}
 use Rattle.definitions.specs.Answers.{Reply, accepted, refused, Test, test, answered, deliveryReply}
 use Rattle.definitions.specs.Bounds.{mostThreads}
 use Rattle.definitions.specs.Chains.{tableAfter, afterIn}
-use Rattle.definitions.specs.Moves.{effect, requestTests, replyIn, moveReply, moveTable}
+use Rattle.definitions.specs.Moves.{requestTests, moveAnswer, replyIn, moveReply, moveTable}
 use Rattle.definitions.specs.Nodes.{nodesEntry}
 use Rattle.definitions.specs.OpenMoves.{openEntry}
 use Rattle.definitions.specs.Sound.{sound, tableTests}
@@ -116,7 +116,7 @@ module _ (bytes : List ℕ) where
   pub move-refused : (r : Request) → (moveReply bytes r ≡ refused 2 0) ↔ (T (sized bytes) × (Reached (tableOf bytes .threads) bytes → ⊥))
   unfolding replyIn
   move-refused r =
-      refused-2 (effect (tableOf bytes) r .shows) (requestTests (tableOf bytes) r) ((λ e. omega arith), ((λ e. omega arith), ((λ e. omega arith), ((λ e. omega arith), ((λ e. omega arith), tt)))))
+      refused-2 (moveAnswer (tableOf bytes) r) (requestTests (tableOf bytes) r) ((λ e. omega arith), ((λ e. omega arith), ((λ e. omega arith), ((λ e. omega arith), ((λ e. omega arith), tt)))))
 
   pub nodes-refused : (out : List ℕ) → (deliveryReply (nodesEntry bytes) out ≡ refused 2 0) ↔ (T (sized bytes) × (Reached (tableOf bytes .threads) bytes → ⊥))
   unfolding deliveryReply

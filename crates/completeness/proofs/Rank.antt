@@ -12,8 +12,9 @@ use lib.ListN.{getD}
 use Rattle.definitions.specs.Phases.{holds}
 use Rattle.definitions.specs.Sound.{backedOff}
 use Rattle.definitions.specs.Table.{Table, update}
-use Rattle.definitions.specs.Threads.{some, howMany, between, sumOf}
-use Rattle.theory.proofs.Quantifiers.{some-i, some-e, howMany-change}
+use Rattle.definitions.specs.Threads.{some, between, sumOf}
+use Rattle.theory.proofs.FlagCounts.{flagsSet}
+use Rattle.theory.proofs.Quantifiers.{some-i, some-e}
 use Rattle.theory.proofs.SoundChanges.{Column, put, after}
 use Rattle.theory.proofs.Soundness.{All}
 use Rattle.theory.proofs.Stages.{between-e, between-i}
@@ -62,10 +63,6 @@ holderWeight n k phase =
 unfoldable pub weights : ℕ → (ℕ → ℕ) → (ℕ → ℕ) → ℕ
 weights n phase forbidden = sumOf n (λ j. weight n (phase j) (forbidden j))
 
--- how many flags are set
-abbrev pub flagsSet : ℕ → (ℕ → ℕ) → ℕ
-flagsSet n forbidden = howMany n (λ j. eqb (forbidden j) 1)
-
 -- some thread is in 3, 4 or 18, and none in 10 to 17
 abbrev pub writerless : ℕ → (ℕ → ℕ) → Bool
 writerless n phase = some n (λ j. backedOff (phase j)) && not (some n (λ j. between 10 17 (phase j)))
@@ -104,21 +101,6 @@ weights-flag n φ F i v l =
     let change = sum-but n (λ j. weight n (φ j) (F j)) (λ j. weight n (φ j) (update F i v j)) i l (λ j h. ap (weight n (φ j)) (update-other F i v j h)) in
     let here = ap (weight n (φ i)) (update-same F i v i refl) in
     omega arith
-
--- how many flags are set then
-flags-change : (n : ℕ) (F : ℕ → ℕ) (i v : ℕ) → i < n → flagsSet n (update F i v) + cond (eqb (F i) 1) 1 0 ≡ flagsSet n F + cond (eqb v 1) 1 0
-flags-change n F i v l =
-    let change = howMany-change (λ j. eqb (F j) 1) (λ j. eqb (update F i v j) 1) n i l (λ j h. ap (λ (x : ℕ). eqb x 1) (sym (update-other F i v j h))) in
-    let here : _≡_ {A = ℕ} (cond (eqb (update F i v i) 1) 1 0) (cond (eqb v 1) 1 0) = ap (λ (x : ℕ). cond (eqb x 1) 1 0) (update-same F i v i refl) in
-    omega arith
-
-pub one-more : (n : ℕ) (F : ℕ → ℕ) (i : ℕ) → i < n → F i ≡ 0 → flagsSet n (update F i 1) ≡ flagsSet n F + 1
-one-more n F i l e =
-    let change = flags-change n F i 1 l in let old : _≡_ {A = ℕ} (cond (eqb (F i) 1) 1 0) 0 = ap (λ (x : ℕ). cond (eqb x 1) 1 0) e in omega arith
-
-pub one-fewer : (n : ℕ) (F : ℕ → ℕ) (i : ℕ) → i < n → F i ≡ 1 → flagsSet n (update F i 0) + 1 ≡ flagsSet n F
-one-fewer n F i l e =
-    let change = flags-change n F i 0 l in let old : _≡_ {A = ℕ} (cond (eqb (F i) 1) 1 0) 1 = ap (λ (x : ℕ). cond (eqb x 1) 1 0) e in omega arith
 
 -- ---- the part for a table without a writer
 

@@ -1,6 +1,7 @@
--- The marked examples of the scope paper, and examples of 02 §1 to §6.
+-- The marked examples of the scope paper, and examples of 02 §1 to §7.
 pub mod Marked
 pub mod Waiting
+pub mod Retrying
 pub mod Watching
 pub mod Writing
 pub mod Measuring

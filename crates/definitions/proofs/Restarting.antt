@@ -4,10 +4,10 @@ use Prim.Native.Nat.{ℕ}
 use mathlib.Core.Bool.{Bool, true, false}
 use mathlib.Core.List.{List, [], _∷_}
 use mathlib.Core.Path.{_≡_, refl}
-use Rattle.definitions.specs.Answers.{accepted, refused, shown, quiet, passesAll, answered}
+use Rattle.definitions.specs.Answers.{accepted, refused, shown, quiet, moved, passesAll, answered}
 use Rattle.definitions.specs.Chains.{afterIn, tableAfter, acceptsAllIn, acceptsAll}
 use Rattle.definitions.specs.Codes.{go, callShared, callExclusive, setMove, clearMove}
-use Rattle.definitions.specs.Moves.{ask, goEffect, setEffect, clearEffect, effect, replyIn, stepIn, moveReply}
+use Rattle.definitions.specs.Moves.{ask, goEffect, setEffect, clearEffect, effect, isRetry, replyIn, stepIn, moveReply}
 use Rattle.definitions.specs.Phases.{rows}
 use Rattle.definitions.specs.Sound.{sound, phaseRule, flagRule, busyRule, holderRule, mutexRule, targetRule, openRule, rule10, rule11, rule13, rule15, elsewhereRule, tableTests}
 use Rattle.definitions.specs.Table.{sized, stored, fresh}
@@ -58,9 +58,9 @@ pub record RestartingExamples : Type 0 where
   -- "not every thread is in phases 3, 4 and 18"
   pub with-18 : moveReply (waiting 4 0 3 1) (ask 0 go 0) ≡ refused 2 0
   -- with one thread elsewhere, whichever it is, the table passes
-  pub first-elsewhere : (moveReply (three 0 0 4 0 3 1) (ask 0 callShared 0) ≡ accepted (shown 1)) × (passes (three 6 1 4 0 3 1) ≡ true)
+  pub first-elsewhere : (moveReply (three 0 0 4 0 3 1) (ask 0 callShared 0) ≡ accepted (moved (shown 1) false)) × (passes (three 6 1 4 0 3 1) ≡ true)
   pub middle-elsewhere : (passes (three 3 1 17 0 4 0) ≡ true) × (passes (waiting 9 0 4 0) ≡ true)
-  pub last-elsewhere : (moveReply (waiting 3 1 0 0) (ask 0 go 0) ≡ accepted quiet) × (passes (three 3 1 4 0 1 0) ≡ true)
+  pub last-elsewhere : (moveReply (waiting 3 1 0 0) (ask 0 go 0) ≡ accepted (moved quiet false)) × (passes (three 3 1 4 0 1 0) ≡ true)
   -- "For one thread this bars these phases."
   pub alone-3 : passes (alone 0 3 1) ≡ false
   pub alone-4 : passes (alone 0 4 0) ≡ false
@@ -70,7 +70,7 @@ pub record RestartingExamples : Type 0 where
   pub left-behind : (acceptsAll (fresh 2) backsOff ≡ true) × (tableAfter (fresh 2) backsOff ≡ 2 ∷ 0 ∷ 255 ∷ 4 ∷ 0 ∷ 0 ∷ 0 ∷ 0 ∷ 0 ∷ [])
 
 pub restarting-examples : RestartingExamples
-unfolding fresh every some howMany among allOf passesAll answered sized stored rows sound phaseRule flagRule busyRule holderRule mutexRule targetRule openRule rule10 rule11 rule13 rule15 elsewhereRule goEffect setEffect clearEffect effect replyIn stepIn afterIn acceptsAllIn
+unfolding fresh every some howMany among allOf passesAll answered sized stored rows sound phaseRule flagRule busyRule holderRule mutexRule targetRule openRule rule10 rule11 rule13 rule15 elsewhereRule goEffect setEffect clearEffect effect isRetry replyIn stepIn afterIn acceptsAllIn
 restarting-examples =
     record {
       all-3-and-4 = refl;

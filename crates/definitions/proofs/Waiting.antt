@@ -1,12 +1,13 @@
 -- Examples of 02 §1, waiting at the mutex before trying again, against the definitions: what hold and go in 18 do, what is turned down, and how a script says it. Every line computes.
 -- Thread 0 is the reader, thread 1 a writer that waits in 9 or holds the mutex in 10.
 use Prim.Native.Nat.{ℕ}
+use mathlib.Core.Bool.{true, false}
 use mathlib.Core.List.{List, [], _∷_}
 use mathlib.Core.Path.{_≡_, refl}
-use Rattle.definitions.specs.Answers.{accepted, refused, quiet, passesAll, answered}
+use Rattle.definitions.specs.Answers.{accepted, refused, quiet, moved, passesAll, answered}
 use Rattle.definitions.specs.Codes.{go, hold}
 use Rattle.definitions.specs.Forms.{request, bad, actText, aimedForm, plainMoves, plainForm, actForm, formOf}
-use Rattle.definitions.specs.Moves.{ask, goEffect, setEffect, clearEffect, effect, stepReply, replyIn, stepIn, moveReply, moveTable}
+use Rattle.definitions.specs.Moves.{ask, goEffect, setEffect, clearEffect, effect, isRetry, stepReply, replyIn, stepIn, moveReply, moveTable}
 use Rattle.definitions.specs.Nodes.{nodesOf}
 use Rattle.definitions.specs.OpenMoves.{openMoves}
 use Rattle.definitions.specs.Phases.{rows}
@@ -30,9 +31,9 @@ taken = 2 ∷ 1 ∷ 255 ∷ 4 ∷ 0 ∷ 0 ∷ 10 ∷ 0 ∷ 0 ∷ []
 
 pub record WaitingExamples : Type 0 where
   -- "hold, target 0: phase 4 to 18, mutex := 1. Go in 18 leads to 1, mutex := 0. Go in 4 still means that the time ran out."
-  pub holds : (moveTable turnedAway (ask 0 hold 0) ≡ held) × (moveReply turnedAway (ask 0 hold 0) ≡ accepted quiet)
-  pub gives-back : (moveTable held (ask 0 go 0) ≡ again) × (moveReply held (ask 0 go 0) ≡ accepted quiet)
-  pub time-out : (moveTable turnedAway (ask 0 go 0) ≡ again) × (moveReply turnedAway (ask 0 go 0) ≡ accepted quiet)
+  pub holds : (moveTable turnedAway (ask 0 hold 0) ≡ held) × (moveReply turnedAway (ask 0 hold 0) ≡ accepted (moved quiet true))
+  pub gives-back : (moveTable held (ask 0 go 0) ≡ again) × (moveReply held (ask 0 go 0) ≡ accepted (moved quiet false))
+  pub time-out : (moveTable turnedAway (ask 0 go 0) ≡ again) × (moveReply turnedAway (ask 0 go 0) ≡ accepted (moved quiet true))
   -- "Refusal 4 is now a move above 6; 7 is also given to hold while the mutex is 1": in their order
   pub no-move : moveReply turnedAway (ask 0 7 0) ≡ refused 4 0
   pub no-target : moveReply turnedAway (ask 0 hold 1) ≡ refused 5 0
@@ -55,7 +56,7 @@ pub record WaitingExamples : Type 0 where
   pub line-with-target : formOf (bytes "(0 (hold 0))") ≡ bad
 
 pub waiting-examples : WaitingExamples
-unfolding every some howMany among allOf listOf gather passesAll answered sized stored rows sound phaseRule flagRule busyRule holderRule mutexRule targetRule openRule rule10 rule11 rule13 rule15 elsewhereRule goEffect setEffect clearEffect effect stepReply replyIn stepIn openMoves nodesOf bytes same digitsOf valueFrom numberRead actText aimedForm plainMoves plainForm actForm formOf
+unfolding every some howMany among allOf listOf gather passesAll answered sized stored rows sound phaseRule flagRule busyRule holderRule mutexRule targetRule openRule rule10 rule11 rule13 rule15 elsewhereRule goEffect setEffect clearEffect effect isRetry stepReply replyIn stepIn openMoves nodesOf bytes same digitsOf valueFrom numberRead actText aimedForm plainMoves plainForm actForm formOf
 waiting-examples =
     record {
       holds = (refl, refl);

@@ -73,15 +73,24 @@ pub data Reply (A : Type 0) : Type 0 where
   accepted : A → Reply A
   refused : ℕ → ℕ → Reply A
 
--- "A move answers a shown event, or quiet, or a refusal.": what an accepted move answers, an event by its code
+-- "A move answers a shown event, or quiet, or a refusal.": what is seen of an accepted move, an event by its code
 pub data Seen : Type 0 where
   shown : ℕ → Seen
   quiet : Seen
 
+-- "An accepted move now also says whether it was one": what it answers is what is seen of it, and whether it was a retry (02 §7)
+pub record MoveAnswer : Type 0 where
+  pub seen : Seen
+  pub retry : Bool
+
+abbrev pub moved : Seen → Bool → MoveAnswer
+moved seen retry = record { seen = seen; retry = retry }
+
 -- the reply that each case of a move's outcome stands for; a move's refusal has place 0
-abbrev pub outcomeReply : Outcome → Reply Seen
-outcomeReply (outcome.Shown e) = accepted (shown (codeOf e))
-outcomeReply outcome.Quiet = accepted quiet
+abbrev pub outcomeReply : Outcome → Reply MoveAnswer
+outcomeReply (outcome.Shown e) = accepted (moved (shown (codeOf e)) false)
+outcomeReply outcome.Quiet = accepted (moved quiet false)
+outcomeReply outcome.Retry = accepted (moved quiet true)
 outcomeReply (outcome.Refused r) = refused (numberOf r) 0
 
 -- the reply that each case of another entry's answer stands for

@@ -1,20 +1,28 @@
--- Lists of requests to the move: what they show, what they leave, and whether all are accepted. Demand 3 speaks of these.
+-- Lists of requests to the move: what they show, what they leave, whether all are accepted, and how many were retries. Demand 3 speaks of the first three.
 -- "each request gets the table that the one before left, and nothing else writes it": what stores the table goes from one step to the next, whatever the storage is;
--- `history`, `tableAfter` and `acceptsAll` are those of the byte table.
-use Prim.Native.Nat.{ℕ, _<_, _^_}
-use mathlib.Core.Bool.{Bool, true, _&&_}
+-- `history`, `tableAfter`, `acceptsAll` and `retries` are those of the byte table.
+use Prim.Native.Nat.{ℕ, _+_, _<_, _^_}
+use mathlib.Core.Bool.{Bool, true, cond, _&&_}
 use mathlib.Core.List.{List, [], _∷_, _++_}
-use Rattle.definitions.specs.Answers.{Reply, accepted, refused, Seen, shown, quiet}
+use Rattle.definitions.specs.Answers.{Reply, accepted, refused, Seen, shown, quiet, MoveAnswer}
 use Rattle.definitions.specs.Moves.{replyIn, stepIn, acceptsIn}
 use Rattle.definitions.specs.PlainLock.{Pair}
 use Rattle.definitions.specs.Table.{Storage, byteTable}
 use Rattle.definitions.specs.declared.Request.{Request}
 
 -- "for each answer that is a shown event, in order, the request's thread and the event's code. Quiet and refusals add no pair."
-abbrev pub pairFor : ℕ → Reply Seen → List Pair
-pairFor thread (accepted (shown event)) = record { thread = thread; event = event } ∷ []
-pairFor thread (accepted quiet) = []
+abbrev pub pairSeen : ℕ → Seen → List Pair
+pairSeen thread (shown event) = record { thread = thread; event = event } ∷ []
+pairSeen thread quiet = []
+
+abbrev pub pairFor : ℕ → Reply MoveAnswer → List Pair
+pairFor thread (accepted answer) = pairSeen thread (answer .seen)
 pairFor thread (refused number place) = []
+
+-- 1 for an answer that says retry, and 0 for every other one (02 §7)
+abbrev pub retryFor : Reply MoveAnswer → ℕ
+retryFor (accepted answer) = cond (answer .retry) 1 0
+retryFor (refused number place) = 0
 
 module _ {B : Type 0} (storage : Storage B) where
   -- "What the list shows is a history"
@@ -27,6 +35,11 @@ module _ {B : Type 0} (storage : Storage B) where
   afterIn b [] = b
   afterIn b (r ∷ rs) = afterIn (stepIn storage b r) rs
 
+  -- how many requests of the list were retries, by their answers
+  unfoldable pub retriesIn : B → List Request → ℕ
+  retriesIn b [] = 0
+  retriesIn b (r ∷ rs) = retryFor (replyIn storage b r) + retriesIn (stepIn storage b r) rs
+
   -- every request of the list is accepted
   unfoldable pub acceptsAllIn : B → List Request → Bool
   acceptsAllIn b [] = true
@@ -34,6 +47,9 @@ module _ {B : Type 0} (storage : Storage B) where
 
 abbrev pub history : List ℕ → List Request → List Pair
 history = historyIn byteTable
+
+abbrev pub retries : List ℕ → List Request → ℕ
+retries = retriesIn byteTable
 
 abbrev pub tableAfter : List ℕ → List Request → List ℕ
 tableAfter = afterIn byteTable

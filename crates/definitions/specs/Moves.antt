@@ -1,4 +1,5 @@
--- The moves: a request, what each move writes and shows by phase, the refusals in their order, and the step of a table that a request makes, by itself and through a storage.
+-- The moves: a request, what each move writes and shows by phase, which of them are retries, the refusals in their order,
+-- and the step of a table that a request makes, by itself and through a storage.
 -- A line of `goEffect` is a phase, as the paper lists them. `stepReply` and `step` are the step on the record;
 -- `moveReply` and `moveTable` are the same on the byte table, sized first, and are what the move entry's promise cites.
 use Prim.Native.Nat.{ℕ}
@@ -6,9 +7,9 @@ use mathlib.Core.Bool.{Bool, cond, not, _&&_, _||_}
 use mathlib.Core.List.{List, [], _∷_, _++_}
 use lib.Dec.{leb, ltb, eqb}
 use lib.ListN.{getD}
-use Rattle.definitions.specs.Answers.{Reply, Seen, shown, quiet, isAccepted, leaves, Test, test, testAt, answered}
+use Rattle.definitions.specs.Answers.{Reply, Seen, shown, quiet, MoveAnswer, moved, isAccepted, leaves, Test, test, testAt, answered}
 use Rattle.definitions.specs.Bounds.{lastMove, noTarget}
-use Rattle.definitions.specs.Codes.{go, setMove, clearMove, hold}
+use Rattle.definitions.specs.Codes.{go, callShared, callExclusive, setMove, clearMove, relent, hold}
 use Rattle.definitions.specs.Phases.{hasMove}
 use Rattle.definitions.specs.Sound.{sound}
 use Rattle.definitions.specs.Table.{Table, Write, mutex≔, target≔, phase≔, busy≔, forbidden≔, applied, Storage, byteTable}
@@ -119,6 +120,31 @@ effect s r =
     (r .mv)
     (quietly [])
 
+-- ---- retries
+
+-- "Retries are": (02 §7)
+unfoldable pub isRetry : Table → Request → Bool
+isRetry s r =
+    -- "go or hold in phase 4;"
+    (eqb (r .mv) go || eqb (r .mv) hold) && eqb (s .phase (r .thread)) 4
+    -- "relent;"
+    || (eqb (r .mv) relent
+    -- "go in 11 that reads busy 1;"
+    || (eqb (r .mv) go && (eqb (s .phase (r .thread)) 11 && eqb (s .busy (s .target)) 1)
+    -- "set in 10 on a thread with forbidden 1;"
+    || (eqb (r .mv) setMove && (eqb (s .phase (r .thread)) 10 && eqb (s .forbidden (r .target)) 1)
+    -- "any set in 15;"
+    || (eqb (r .mv) setMove && eqb (s .phase (r .thread)) 15
+    -- "clear in 15 on a thread with forbidden 0."
+    || eqb (r .mv) clearMove && (eqb (s .phase (r .thread)) 15 && eqb (s .forbidden (r .target)) 0)))))
+
+-- the calls: "Call shared: 0 to 1 .. Call exclusive: 0 to 9"
+abbrev pub calls : ℕ → Bool
+calls mv = eqb mv callShared || eqb mv callExclusive
+
+abbrev pub isCall : Request → Bool
+isCall r = calls (r .mv)
+
 -- ---- the refusals
 
 -- set and clear name a thread as their target
@@ -162,9 +188,13 @@ moveTests s r = test 2 (sound s) ∷ requestTests s r
 
 -- ---- the step
 
+-- what a request answers where it is accepted: "a shown event, or quiet", and whether it was a retry
+abbrev pub moveAnswer : Table → Request → MoveAnswer
+moveAnswer s r = moved (effect s r .shows) (isRetry s r)
+
 -- "A move answers a shown event, or quiet, or a refusal."
-unfoldable pub stepReply : Table → Request → Reply Seen
-stepReply s r = answered (moveTests s r) (effect s r .shows)
+unfoldable pub stepReply : Table → Request → Reply MoveAnswer
+stepReply s r = answered (moveTests s r) (moveAnswer s r)
 
 -- the table after it
 unfoldable pub step : Table → Request → Table
@@ -175,8 +205,8 @@ accepts s r = isAccepted (stepReply s r)
 
 -- through a storage: refusal 1 first, then the step
 module _ {B : Type 0} (storage : Storage B) where
-  unfoldable pub replyIn : B → Request → Reply Seen
-  replyIn b r = answered (test 1 (storage .fits b) ∷ moveTests (storage .table b) r) (effect (storage .table b) r .shows)
+  unfoldable pub replyIn : B → Request → Reply MoveAnswer
+  replyIn b r = answered (test 1 (storage .fits b) ∷ moveTests (storage .table b) r) (moveAnswer (storage .table b) r)
 
   unfoldable pub stepIn : B → Request → B
   stepIn b r = leaves (replyIn b r) (storage .store b (effect (storage .table b) r .writes)) b
@@ -185,7 +215,7 @@ module _ {B : Type 0} (storage : Storage B) where
   acceptsIn b r = isAccepted (replyIn b r)
 
 -- on the byte table
-abbrev pub moveReply : List ℕ → Request → Reply Seen
+abbrev pub moveReply : List ℕ → Request → Reply MoveAnswer
 moveReply = replyIn byteTable
 
 abbrev pub moveTable : List ℕ → Request → List ℕ

@@ -1,11 +1,11 @@
 -- The run of a script, with what it prints, and what the program prints.
 -- A line's form is judged by the line alone; a line that lacks its line feed is a bad form; `(refused R L)` follows the events already printed.
-use Prim.Native.Nat.{ℕ, suc}
+use Prim.Native.Nat.{ℕ, suc, _+_}
 use mathlib.Core.Bool.{cond}
 use mathlib.Core.List.{List, [], _∷_, _++_}
 use lib.Dec.{leb}
 use lib.ListN.{length, getD, drop}
-use Rattle.definitions.specs.Answers.{Reply, accepted, refused, Seen, shown, quiet, test, answered, Delivery, counted}
+use Rattle.definitions.specs.Answers.{Reply, accepted, refused, Seen, shown, quiet, MoveAnswer, numberOf, test, answered, Delivery}
 use Rattle.definitions.specs.Bounds.{mostScript}
 use Rattle.definitions.specs.Forms.{Form, lineForm, firstForm, firstTests, threadsFirst, lineTests, requestIn}
 use Rattle.definitions.specs.Moves.{moveReply, moveTable}
@@ -13,6 +13,8 @@ use Rattle.definitions.specs.PlainLock.{Pair}
 use Rattle.definitions.specs.Table.{tableOf, fresh}
 use Rattle.definitions.specs.Texts.{bytes, Line, linesOf, decimal}
 use Rattle.definitions.specs.declared.Request.{Request}
+use Rattle.definitions.specs.declared.Running.{Running}
+use Rattle.definitions.specs.declared.Running.the-variants as running
 
 -- "the name as listed above", by the event's code
 unfoldable pub eventName : ℕ → List ℕ
@@ -51,15 +53,15 @@ unfoldable pub refusedLine : ℕ → ℕ → List ℕ
 refusedLine number line =
     bytes "(refused " ++ (decimal number ++ (bytes " " ++ (decimal line ++ bytes ")\n")))
 
--- what a line does to the run: it stops it with a refusal's number, it is a note, or it makes a move, of which something is seen
+-- what a line does to the run: it stops it with a refusal's number, it is a note, or it makes a move, with what this answers
 pub data Turn : Type 0 where
   stops : ℕ → Turn
   passes : Turn
-  makes : Request → Seen → Turn
+  makes : Request → MoveAnswer → Turn
 
 -- a line's request, which the table accepts or refuses
-abbrev pub turnFor : Request → Reply Seen → Turn
-turnFor r (accepted seen) = makes r seen
+abbrev pub turnFor : Request → Reply MoveAnswer → Turn
+turnFor r (accepted answer) = makes r answer
 turnFor r (refused number place) = stops number
 
 -- what the line says: a refusal of its form or its numbers, no request, or one
@@ -78,7 +80,7 @@ printed table line steps (l ∷ ls) =
     elim (turnOf table (lineForm l)) [
       | stops number ↦ refusedLine number line
       | passes ↦ printed table (suc line) steps ls
-      | makes r seen ↦ eventLine (r .thread) seen ++ printed (moveTable table r) (suc line) (suc steps) ls
+      | makes r answer ↦ eventLine (r .thread) (answer .seen) ++ printed (moveTable table r) (suc line) (suc steps) ls
     ]
 
 -- "The run starts fresh", at line 2, with the N of the first line, or it is turned down there
@@ -96,9 +98,49 @@ runText ls = printedFirst (firstForm ls) (drop 1 ls)
 abbrev pub runOutputOf : List ℕ → List ℕ
 runOutputOf script = runText (linesOf script)
 
+-- ---- the retries of a run
+
+-- how many of the moves made from a line on were retries (02 §7)
+unfoldable pub retriesFrom : List ℕ → List Line → ℕ
+retriesFrom table [] = 0
+retriesFrom table (l ∷ ls) =
+    elim (turnOf table (lineForm l)) [
+      | stops number ↦ 0
+      | passes ↦ retriesFrom table ls
+      | makes r answer ↦ cond (answer .retry) 1 0 + retriesFrom (moveTable table r) ls
+    ]
+
+abbrev pub retriesFor : Reply ℕ → List Line → ℕ
+retriesFor (accepted n) ls = retriesFrom (fresh n) ls
+retriesFor (refused number line) ls = 0
+
+unfoldable pub retriesFirst : Form → List Line → ℕ
+retriesFirst form ls = retriesFor (answered (firstTests form) (threadsFirst form)) ls
+
+-- those of a whole run
+unfoldable pub runRetries : List Line → ℕ
+runRetries ls = retriesFirst (firstForm ls) (drop 1 ls)
+
+-- ---- the entry
+
+-- what a run answers: "the number of bytes written", and "the run as a count in its answer" (02 §7), which isn't printed
+pub record RunCounts : Type 0 where
+  pub bytes : ℕ
+  pub retries : ℕ
+
+-- the reply that each case of its answer stands for
+abbrev pub runningReply : Running → Reply RunCounts
+runningReply (running.Ran bytes retries) = accepted (record { bytes = bytes; retries = retries })
+runningReply (running.Refused r place) = refused (numberOf r) place
+
 -- "Only a script too long (8) or a short output (12) refuses the run itself."
-abbrev pub runEntry : List ℕ → Delivery ℕ
-runEntry script = counted (test 8 (leb (length script) mostScript) ∷ []) (runOutputOf script)
+abbrev pub runEntry : List ℕ → Delivery RunCounts
+runEntry script =
+    record {
+      tests = test 8 (leb (length script) mostScript) ∷ [];
+      text = runOutputOf script;
+      answer = record { bytes = length (runOutputOf script); retries = runRetries (linesOf script) };
+    }
 
 -- ---- the program
 

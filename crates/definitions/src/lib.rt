@@ -160,7 +160,10 @@ impl Refusal {
 // What a move answers. The table stays in the lent bytes.
 pub enum Outcome {
     Shown(Event),
+    // No event is shown, and the move was no retry.
     Quiet,
+    // No event is shown, and the move was a retry (02 §7).
+    Retry,
     Refused(Refusal),
 }
 
@@ -191,6 +194,12 @@ pub enum Inside {
     Somebody,
     Nobody,
     Refused(Refusal),
+}
+
+// What a run answers: the number of bytes written, and how many of the moves made were retries (02 §7).
+pub enum Running {
+    Ran { bytes: usize, retries: usize },
+    Refused(Refusal, usize),
 }
 
 // What reading a script answers: N and the number of bytes written (02 §3).

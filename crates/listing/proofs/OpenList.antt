@@ -9,7 +9,7 @@ use borrow.Author.Tests.{lt-ltb, le-leb, ne-eqb}
 use lib.Dec.{T, ltb, eqb}
 use Rattle.definitions.specs.Answers.{passesAll}
 use Rattle.definitions.specs.Bounds.{lastMove}
-use Rattle.definitions.specs.Moves.{ask, namesThread, targetFits, mustWait, moveTests, effect, stepReply, accepts}
+use Rattle.definitions.specs.Moves.{ask, namesThread, targetFits, mustWait, moveTests, moveAnswer, stepReply, accepts}
 use Rattle.definitions.specs.OpenMoves.{openMoves}
 use Rattle.definitions.specs.Phases.{hasMove}
 use Rattle.definitions.specs.Sound.{sound}
@@ -69,7 +69,7 @@ module _ (s : Table) (i : ℕ) (h : T (sound s)) (l : i < s .threads) where
       → accepts s (ask i m t) ≡ (targetFits (s .threads) m t && (hasMove m (s .phase i) && not (mustWait (s .phase i) (s .mutex) m)))
   unfolding stepReply passesAll
   accepts-by m t k =
-      accepted-is (effect s (ask i m t) .shows) (moveTests s (ask i m t))
+      accepted-is (moveAnswer s (ask i m t)) (moveTests s (ask i m t))
       ∙ simp (T-true (sound s) h, lt-ltb i (s .threads) l, le-leb m lastMove k, and-true)
 
   -- ---- all moves

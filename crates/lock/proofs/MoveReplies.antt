@@ -4,8 +4,8 @@ use mathlib.Core.Bool.{not}
 use mathlib.Core.List.{List, []}
 use mathlib.Core.Path.{_≡_, sym, subst, ap, _∙_}
 use lib.Dec.{T}
-use Rattle.definitions.specs.Answers.{Reply, accepted, refused, Seen, numberOf, isAccepted, answered, passesAll}
-use Rattle.definitions.specs.Moves.{effect, requestTests, moveTests, stepReply, replyIn, moveReply}
+use Rattle.definitions.specs.Answers.{Reply, accepted, refused, MoveAnswer, numberOf, isAccepted, answered, passesAll}
+use Rattle.definitions.specs.Moves.{requestTests, moveTests, moveAnswer, stepReply, replyIn, moveReply}
 use Rattle.definitions.specs.Sound.{tableTests}
 use Rattle.definitions.specs.Table.{byteTable, tableOf}
 use Rattle.definitions.specs.declared.Outcome.the-variants as outcome
@@ -27,15 +27,15 @@ turned-down : (bytes : List ℕ) (r : Request) (x : Refusal) → moveReply bytes
 turned-down bytes r x e =
     record {
       reply = sym e;
-      table = sym (refused-stays byteTable bytes r (subst (λ (y : Reply Seen). T (not (isAccepted y))) (sym e) tt));
+      table = sym (refused-stays byteTable bytes r (subst (λ (y : Reply MoveAnswer). T (not (isAccepted y))) (sym e) tt));
     }
 
 -- by the table's own tests
 pub table-refused : (bytes : List ℕ) (r : Request) (x : Refusal) → examinedOf bytes ≡ examined.Refused x → MoveMade bytes r bytes (outcome.Refused x)
 unfolding replyIn
 table-refused bytes r x e =
-    let shows = effect (tableOf bytes) r .shows in
-    turned-down bytes r x (in-front shows shows (tableTests bytes) (requestTests (tableOf bytes) r) (numberOf x) 0 (refusal-is shows bytes x e))
+    let answer = moveAnswer (tableOf bytes) r in
+    turned-down bytes r x (in-front answer answer (tableTests bytes) (requestTests (tableOf bytes) r) (numberOf x) 0 (refusal-is answer bytes x e))
 
 -- by the request's
 pub request-refused : (bytes : List ℕ) (k : ℕ) (r : Request) (t : Tested) (x : Refusal) → TestedTable bytes k
@@ -43,13 +43,13 @@ pub request-refused : (bytes : List ℕ) (k : ℕ) (r : Request) (t : Tested) (x
     → MoveTried bytes r bytes (record { outcome = outcome.Refused x; forbidden = k })
 unfolding replyIn
 request-refused bytes k r t x h e d =
-    let shows = effect (tableOf bytes) r .shows in
+    let answer = moveAnswer (tableOf bytes) r in
     let tests = requestTests (tableOf bytes) r in
     record {
       made =
           turned-down bytes r x
-          (behind shows (tableTests bytes) tests (sound-passes bytes (h .tested))
-          ∙ in-front shows tt tests [] (numberOf x) 0 (sym e ∙ ap testedReply d));
+          (behind answer (tableTests bytes) tests (sound-passes bytes (h .tested))
+          ∙ in-front answer tt tests [] (numberOf x) 0 (sym e ∙ ap testedReply d));
       count = h .count;
     }
 
@@ -64,7 +64,7 @@ request-passed bytes k r t h e d =
     subst T (ap isAccepted (sym (ap testedReply d) ∙ e) ∙ accepted-is tt (requestTests s r)) tt in
     record {
       table = h;
-      accepted = subst T (sym (accepted-is (effect s r .shows) (moveTests s r))) (pass _ (requestTests s r) (h .tested .is-sound) tests);
+      accepted = subst T (sym (accepted-is (moveAnswer s r) (moveTests s r))) (pass _ (requestTests s r) (h .tested .is-sound) tests);
     }
 
 -- what `examine` found sound

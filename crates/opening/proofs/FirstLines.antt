@@ -10,7 +10,7 @@ use lib.ListN.{take, drop}
 use Rattle.definitions.specs.Answers.{refused, Test, testAt, answered}
 use Rattle.definitions.specs.Forms as spec
 use Rattle.definitions.specs.Forms.{formOf, firstForm, firstTests, threadsFirst}
-use Rattle.definitions.specs.Run.{printedFirst, refusedLine, runText, runOutputOf}
+use Rattle.definitions.specs.Run.{retriesFirst, runRetries, printedFirst, refusedLine, runText, runOutputOf}
 use Rattle.definitions.specs.Scripts.{linesTests, scriptTests, threadsOf, moveLines}
 use Rattle.definitions.specs.Table.{countFits}
 use Rattle.definitions.specs.Texts as texts
@@ -60,6 +60,10 @@ pub run-from : {script : List ℕ} (n start : ℕ) → ThreadsAt script n start 
 unfolding runText
 run-from {script} n start t = ap (λ (f : spec.Form). printedFirst f (moveLines script)) (t .says) ∙ ap (printedFirst (spec.threads n)) (t .behind)
 
+pub retries-from : {script : List ℕ} (n start : ℕ) → ThreadsAt script n start → runRetries (linesOf script) ≡ retriesFirst (spec.threads n) (linesOf (drop start script))
+unfolding runRetries
+retries-from {script} n start t = ap (λ (f : spec.Form). retriesFirst f (moveLines script)) (t .says) ∙ ap (retriesFirst (spec.threads n)) (t .behind)
+
 bad-printed : (f : spec.Form) (ls : List texts.Line) → saysThreads f ≡ false → printedFirst f ls ≡ refusedLine 8 1
 unfolding printedFirst answered
 bad-printed (spec.threads n) ls e = absurd (subst T e tt)
@@ -70,6 +74,17 @@ bad-printed spec.bad ls e = refl
 pub run-bad : {script : List ℕ} → NoThreads script → runOutputOf script ≡ refusedLine 8 1
 unfolding runText
 run-bad {script} t = bad-printed (firstForm (linesOf script)) (moveLines script) (t .says)
+
+bad-retries : (f : spec.Form) (ls : List texts.Line) → saysThreads f ≡ false → retriesFirst f ls ≡ 0
+unfolding retriesFirst answered
+bad-retries (spec.threads n) ls e = absurd (subst T e tt)
+bad-retries (spec.request r) ls e = refl
+bad-retries spec.note ls e = refl
+bad-retries spec.bad ls e = refl
+
+pub retries-bad : {script : List ℕ} → NoThreads script → runRetries (linesOf script) ≡ 0
+unfolding runRetries
+retries-bad {script} t = bad-retries (firstForm (linesOf script)) (moveLines script) (t .says)
 
 -- ---- reading
 

@@ -50,7 +50,7 @@ before-5 place (calls-exclusive z c) = idle-0 place z
 before-5 place (goes-on c) = idle-4 place (omega arith)
 
 -- before any other event its thread is at the place one below
-before : (place at : ℕ) → 1 ≤ at → (at ≡ 4 → ⊥) → T (isNext place (at + 1)) → place ≡ at
+pub before : (place at : ℕ) → 1 ≤ at → (at ≡ 4 → ⊥) → T (isNext place (at + 1)) → place ≡ at
 before place at some no-4 t = eqb→eq place at (subst T (sym (leaves-by place (at + 1) at some no-4 t)) (eq-T (at + 1) (at + 1) refl))
 
 -- ---- every permitted pair
@@ -84,7 +84,7 @@ module _ (n : ℕ) (p : Places) (i : ℕ) (g : T (sound (resting n p))) where
   plan-8 : Permits n p (pairOf i 8) → PlanLeads n p (pairOf i 8)
   plan-8 a = returns-exclusive n p i g (a .fits) (before (p i) 7 (omega arith) (λ e. omega arith) (a .next))
 
-  by-event : (e : ℕ) → Permits n p (pairOf i e) → PlanLeads n p (pairOf i e)
+  pub by-event : (e : ℕ) → Permits n p (pairOf i e) → PlanLeads n p (pairOf i e)
   unfolding listOf
   by-event e a =
       or-at e 1 _ (at 1 plan-1) (or-at e 2 _ (at 2 plan-2) (or-at e 3 _ (at 3 plan-3) (or-at e 4 _ (at 4 plan-4)
@@ -106,7 +106,7 @@ plan-leads n p (x ∷ xs) g t =
     both a (plan-leads n (advanced p x) xs (a .sound-after) (and-r here rest t))
 
 -- the resting table at the start is the fresh one
-start-rests : (n : ℕ) → resting n atStart ≡ freshTable n
+pub start-rests : (n : ℕ) → resting n atStart ≡ freshTable n
 unfolding restPhase
 start-rests n =
     let none : anyInExclusive n atStart ≡ false = T-false _ (none-i (λ t. eqb (atStart t) 6) n (λ t l. tt)) in

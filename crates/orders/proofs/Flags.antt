@@ -28,7 +28,7 @@ use Rattle.orders.proofs.RestTables.{restBusy, resting, PlanLeads}
 -- ---- tests
 
 -- below suc k and below k differ at k alone
-below-other : (t k : ℕ) → (t ≡ k → ⊥) → ltb t k ≡ ltb t (suc k)
+pub below-other : (t k : ℕ) → (t ≡ k → ⊥) → ltb t k ≡ ltb t (suc k)
 below-other t k h =
     same-test (ltb t k) (ltb t (suc k))
     (λ u. lt→ltb t (suc k) (let l = ltb→lt t k u in omega arith))

@@ -7,9 +7,9 @@ use mathlib.Core.List.{List, [], _∷_, _++_}
 use mathlib.Core.Logic.{_⊎_, inl, inr}
 use mathlib.Core.Path.{_≡_, refl, sym, subst, ap, _∙_}
 use lib.Dec.{T, eqb, eqb→eq}
-use Rattle.definitions.specs.Answers.{Reply, accepted, refused, isAccepted, Seen}
+use Rattle.definitions.specs.Answers.{Reply, accepted, refused, isAccepted, MoveAnswer}
 use Rattle.definitions.specs.Bounds.{firstEvent, lastEvent, lastPhase}
-use Rattle.definitions.specs.Chains.{pairFor, historyIn, afterIn}
+use Rattle.definitions.specs.Chains.{pairSeen, pairFor, historyIn, afterIn}
 use Rattle.definitions.specs.Moves.{Effect, quietly, showing, effect, replyIn, stepIn, acceptsIn}
 use Rattle.definitions.specs.Phases.{rows, holds, reading}
 use Rattle.definitions.specs.PlainLock.{Pair, Places, placeAfter, advanced, placesAfter, isNext, anyInShared, anyInExclusive, needMet}
@@ -30,7 +30,7 @@ use Rattle.theory.proofs.Ways.{call-shared, raise-busy, find-open, find-forbidd
 use Rattle.theory.proofs.Ways.{call-exclusive, take-mutex, set-flag, find-busy, last-flag, next-flag, relents, give-up, enter-exclusive, leave-exclusive}
 use Rattle.theory.proofs.Ways.{set-again, clear-flag, clear-last, release-mutex, return-exclusive}
 use Rattle.theory.proofs.Writes.{applied-keeps}
-use Rattle.theory.proofs.Chains.{pairSeen, own-reply, own-step}
+use Rattle.theory.proofs.Chains.{own-reply, own-step}
 use Rattle.theory.proofs.Columns.{along, kept, through}
 use Rattle.orders.proofs.PairTests.{permits-i}
 
@@ -139,7 +139,7 @@ view-then s i e h q (seen k ws permits same) p =
     (and-i (pairFits (s .threads) (placesOf s) (pairOf i k)) _ permits (rest .0), rest .1)
 
 -- a refused request shows nothing
-nothing-seen : (i : ℕ) (x : Reply Seen) → T (not (isAccepted x)) → pairFor i x ≡ []
+nothing-seen : (i : ℕ) (x : Reply MoveAnswer) → T (not (isAccepted x)) → pairFor i x ≡ []
 nothing-seen i (accepted a) t = absurd t
 nothing-seen i (refused number place) t = refl
 

@@ -1,24 +1,26 @@
 -- What the program prints: the run's output or the line for a script too long, 65,536 bytes suffice for it, and no byte of the input behind the first 30,001 has a say in it. For every input.
 use Prim.Native.Nat.{ℕ, _+_, _≤_, _<_}
 use native.Mathlib.Omega.{arith}
-use mathlib.Core.List.{List, [], _∷_}
+use mathlib.Core.List.{List, []}
 use mathlib.Core.Logic.{⊎-elim}
 use mathlib.Core.Path.{_≡_, refl, sym, subst, ap, _∙_}
 use borrow.Author.Tests.{le-leb, lt-leb}
 use lib.Dec.{T, leb, le→leb}
 use lib.ListN.{length, take}
 use lib.Seq.{length-take-le, take-all}
-use Rattle.definitions.specs.Answers.{Reply, accepted, isAccepted, answerReply, test, filled, Delivery, deliveryReply, deliveryOutput, counted}
+use Rattle.definitions.specs.Answers.{Reply, accepted, refused, isAccepted, numberOf, answerReply, filled, counted}
 use Rattle.definitions.specs.Bounds.{mostScript, enoughOutput}
-use Rattle.definitions.specs.Run.{refusedLine, runOutputOf, runEntry, programOutput}
+use Rattle.definitions.specs.Run.{refusedLine, runOutputOf, RunCounts, runningReply, runEntry, programOutput}
 use Rattle.definitions.specs.Texts.{bytes, decimalWithin}
 use Rattle.definitions.specs.declared.Answer.{Answer}
 use Rattle.definitions.specs.declared.Answer.the-variants.{Done, Refused}
 use Rattle.definitions.specs.declared.Refusal.{Refusal}
-use Rattle.theory.specs.Outputs.{Delivered}
+use Rattle.definitions.specs.declared.Running.{Running}
+use Rattle.definitions.specs.declared.Running.the-variants as running
+use Rattle.theory.specs.Outputs.{answering, Delivered}
 use Rattle.printout.specs.Buffer.{Printed}
 use Rattle.runs.proofs.Suffices.{suffices}
-use Rattle.theory.proofs.Outputs.{whole, with-tests}
+use Rattle.theory.proofs.Outputs.{whole, with-answer}
 use Rattle.theory.proofs.Replies.{pass, no-test}
 use Rattle.theory.proofs.Tests.{below?}
 
@@ -64,20 +66,20 @@ read-enough input = ⊎-elim long short (below? (length input) mostScript)
 
 -- ---- what is delivered
 
--- the run's delivery is the program's
-module _ (input out : List ℕ) (l : length input ≤ mostScript) where
-  text : Delivery ℕ
-  text = counted [] (programOutput input)
+-- the run's delivery is the program's, whichever case its answer is
+module _ (input out : List ℕ) (l : length input ≤ mostScript) {after : List ℕ} where
+  delivers : (r : Reply RunCounts) → Delivered (runEntry input) out after r → Delivered (counted [] (programOutput input)) out after (answering (λ c. c .bytes) r)
+  delivers r =
+      with-answer (λ c. c .bytes) (runEntry input) (counted [] (programOutput input)) (pass _ [] (le→leb (length input) mostScript l) no-test) no-test
+      (not-too-long input l) (ap length (not-too-long input l))
 
-  same : Delivered (runEntry input) out (deliveryOutput text out) (deliveryReply text out)
-  unfolding text
-  same =
-      with-tests (test 8 (leb (length input) mostScript) ∷ []) (pass _ [] (le→leb (length input) mostScript l) no-test)
-      (rw (not-too-long input l) (record { reply = refl; output = refl }))
+  pub run-prints : {a : Running} (n k : ℕ) → a ≡ running.Ran n k → Delivered (runEntry input) out after (runningReply a)
+      → Delivered (counted [] (programOutput input)) out after (accepted n)
+  run-prints n k e p = subst (λ (x : Running). Delivered (counted [] (programOutput input)) out after (answering (λ c. c .bytes) (runningReply x))) e (delivers _ p)
 
-  pub run-delivers : {after : List ℕ} {a : Reply ℕ} → Delivered (runEntry input) out after a → Delivered (counted [] (programOutput input)) out after a
-  unfolding text
-  run-delivers p = record { reply = p .reply ∙ sym (same .reply); output = p .output ∙ sym (same .output) }
+  pub run-refuses : {a : Running} (x : Refusal) (place : ℕ) → a ≡ running.Refused x place → Delivered (runEntry input) out after (runningReply a)
+      → Delivered (counted [] (programOutput input)) out after (refused (numberOf x) place)
+  run-refuses x place e p = subst (λ (y : Running). Delivered (counted [] (programOutput input)) out after (answering (λ c. c .bytes) (runningReply y))) e (delivers _ p)
 
 -- in a buffer that suffices it is written, and nothing else is answered
 module _ (input : List ℕ) {out after : List ℕ} (r : Answer) (room : enoughOutput ≤ length out) (d : Delivered (counted [] (programOutput input)) out after (answerReply r)) where

@@ -1,6 +1,7 @@
 // What the program prints for an input: the run's output, or the line for a script too long.
 use definitions::Answer;
 use definitions::MOST_SCRIPT;
+use definitions::Running;
 use text::deliver;
 ghost use Prim.Native.Nat.{_≤_};
 ghost use mathlib.Core.List.{[]};
@@ -18,7 +19,11 @@ fn write_output(input: &[u8], out: &mut [u8]) -> Answer
     if MOST_SCRIPT < input.len() {
         return deliver(b"(refused 8 0)\n", out);
     }
-    script::run(input, out)
+    let ran = script::run(input, out);
+    match ran {
+        Running::Ran { bytes, retries: _ } => Answer::Done(bytes),
+        Running::Refused(refusal, place) => Answer::Refused(refusal, place),
+    }
 }
 
 // The program's output, written to the front of a buffer that always suffices. Its length is answered.

@@ -1,7 +1,9 @@
 -- Every line of specs/Promises, by citing the function's proof or the theorem.
-use mathlib.Core.Path.{sym}
-use Rattle.definitions.specs.Table.{tableOf}
+use mathlib.Core.Path.{refl, sym}
+use Rattle.definitions.specs.Table.{tableOf, byteTable}
 use Rattle.promises.specs.Promises.{Promises}
+use Rattle.arrows.proofs.EveryArrow.{every-arrow}
+use Rattle.arrows.proofs.FigureExact.{figure-exact}
 use Rattle.completeness.proofs.Completeness as completeness
 use Rattle.forms.proofs.Spelling as spelled
 use Rattle.orders.proofs.EveryOrder as orders
@@ -9,12 +11,18 @@ use Rattle.plan_lengths.proofs.Longest as long
 use Rattle.plan_lengths.proofs.RoundCosts as costs
 use Rattle.printout.proofs.Output as output
 use Rattle.printout.proofs.print_input.Met as printing
+use Rattle.progress.proofs.Limit.{limit}
+use Rattle.progress.proofs.LimitReached.{limit-reached}
+use Rattle.progress.proofs.NoStandstill.{no-standstill}
+use Rattle.progress.proofs.PlanRetries.{plan-retries}
+use Rattle.progress.proofs.RetryKeeps.{retry-keeps}
 use Rattle.round_trips.proofs.PlanWriteRun.{plan-write-run}
 use Rattle.round_trips.proofs.ReadWritten.{read-written}
 use Rattle.round_trips.proofs.RefusedAlike as alike
 use Rattle.round_trips.proofs.Rooms as room
 use Rattle.round_trips.proofs.SameScript.{same-script}
 use Rattle.round_trips.proofs.WrittenRead.{written-read}
+use Rattle.runs.proofs.RetriesCounted.{retries-counted, retries-few}
 use Rattle.runs.proofs.StepsAndEvents.{all-accepted, events-printed, steps-counted}
 use Rattle.runs.proofs.Suffices as suffices
 use Rattle.soundness.proofs.OnePass.{one-pass}
@@ -67,6 +75,17 @@ proved =
       inside-told = apart.inside-apart;
       read-told = apart.readings-apart;
       read-byte = small.read-byte;
+      run-told = apart.runs-apart;
+      run-below = λ script out. small.run-small script out _ refl .1;
+      move-low = apart.outcomes-low;
+      fresh-low = λ n out. small.fresh-small n out _ refl .1;
+      nodes-low = λ table out. small.nodes-small table out _ refl .1;
+      open-low = λ table thread out. small.open-small table thread out _ refl .1;
+      check-low = λ n bytes. small.check-small n bytes _ refl .1;
+      length-low = λ n bytes. small.length-small n bytes _ refl .1;
+      plan-low = λ n bytes out. small.plan-small n bytes out _ refl .1;
+      write-low = λ n triples out. small.write-small n triples out _ refl .1;
+      read-low = λ script out. small.read-small script out _ refl .1;
       write-held = small.write-held;
       refused-keeps = kept.refused-keeps;
       fresh-room = rooms.fresh-exactly;
@@ -119,6 +138,8 @@ proved =
       run-permitted = λ script. orders.run-shown script .0;
       run-prints = events-printed;
       run-steps = steps-counted;
+      run-retries = retries-counted;
+      retries-few = retries-few;
       watch-verdict = watching.verdict;
       watch-permitted = watching.kept-permitted;
       watch-exactly = watching.accepted-exactly;
@@ -147,4 +168,12 @@ proved =
       bound-reached = long.bound-reached;
       longest-plan = long.longest-plan;
       longest-reached = long.longest-reached;
+      move-says = storages.accepted-reply byteTable;
+      retry-keeps = retry-keeps;
+      plan-retries = plan-retries;
+      limit = limit;
+      limit-reached = limit-reached;
+      no-standstill = no-standstill;
+      every-arrow = every-arrow;
+      figure-exact = figure-exact;
     }

@@ -1,23 +1,24 @@
--- Everything that is promised and proved of the part, in the order of the three demands, then of the watcher (02 §2), of scripts written out and read (02 §3) and of the length of a plan (02 §4).
+-- Everything that is promised and proved of the part, in the order of the three demands, then of the watcher (02 §2), of scripts written out and read (02 §3), of the length of a plan (02 §4),
+-- and of retries, progress and every arrow (02 §7).
 -- proofs/Citations.antt proves it, each line by citing.
 -- The words are those of crates/definitions/specs and of the specs/ of the crates named below. `statement` is the contract of a function as it stands in its source, for every model `M` of memory.
 use Prim.Native.Nat.{ℕ, _+_, _*_, _≤_, _<_}
 use mathlib.Core.Bool.{Bool, true, not}
-use mathlib.Core.List.{List, [], _∷_, _++_}
+use mathlib.Core.List.{List, [], _∷_, _++_, List·Memᴰ}
 use mathlib.Core.Logic.{_↔_}
 use mathlib.Core.Path.{_≡_}
 use lib.Dec.{T, eqb}
 use lib.ListN.{length, getD, take, drop, replicate}
-use Rattle.definitions.specs.Answers.{accepted, refused, isAccepted, answerReply, outcomeReply, filled, deliveryReply, deliveryOutput}
+use Rattle.definitions.specs.Answers.{accepted, refused, quiet, moved, isAccepted, answerReply, outcomeReply, filled, deliveryReply, deliveryOutput}
 use Rattle.definitions.specs.Bounds.{mostThreads, mostScript, enoughOutput}
-use Rattle.definitions.specs.Chains.{historyIn, history, tableAfter, acceptsAll, requestsOf}
+use Rattle.definitions.specs.Chains.{historyIn, history, retries, tableAfter, acceptsAll, requestsOf}
 use Rattle.definitions.specs.Forms.{threads, request, note, noteFits, formOf, threadsLine, spelled}
-use Rattle.definitions.specs.Moves.{ask, stepReply, step, accepts, replyIn, stepIn, acceptsIn, moveReply, moveTable}
-use Rattle.definitions.specs.Nodes.{nodesOf, nodesEntry}
+use Rattle.definitions.specs.Moves.{ask, effect, isRetry, stepReply, step, accepts, replyIn, stepIn, acceptsIn, moveReply, moveTable}
+use Rattle.definitions.specs.Nodes.{nodesOf, nodesEntry, Arrow, arrows}
 use Rattle.definitions.specs.OpenMoves.{openMoves, openEntry}
 use Rattle.definitions.specs.PlainLock.{Pair, pairsOf, placesIn, atStart, placesAfter, permitted, checkReply}
 use Rattle.definitions.specs.Plan.{plan, bytesOf, planEntry, planLengthReply}
-use Rattle.definitions.specs.Run.{eventLines, stepsLine, refusedLine, runOutputOf, runEntry, programOutput}
+use Rattle.definitions.specs.Run.{eventLines, stepsLine, refusedLine, runOutputOf, runRetries, runningReply, runEntry, programOutput}
 use Rattle.definitions.specs.Scripts.{scriptOf, writeEntry, Listed, requestsIn, threadsOf, moveLines, readingReply, readEntry}
 use Rattle.definitions.specs.Sound.{sound}
 use Rattle.definitions.specs.Table.{Table, Storage, itself, byteTable, tableOf, size, sized, fresh, freshEntry, phaseAt, busyAt}
@@ -29,13 +30,16 @@ use Rattle.definitions.specs.declared.Inside.{Inside}
 use Rattle.definitions.specs.declared.Outcome.{Outcome}
 use Rattle.definitions.specs.declared.Reading.{Reading}
 use Rattle.definitions.specs.declared.Request.{Request}
+use Rattle.definitions.specs.declared.Running.{Running}
 use Rattle.definitions.specs.declared.Watched.{Watched}
 use Rattle.definitions.specs.declared.Watcher.{Watcher}
+use Rattle.arrows.specs.Arrows.{Enabled, CanTake}
 use Rattle.completeness.specs.Reached.{Reached}
 use Rattle.forms.specs.Grammar.{numberBound, Spellable, Spells}
 use Rattle.orders.specs.Histories.{mostEvents, pairOf, historyBytes, AllBytes, Passes, FirstBad, Makes}
 use Rattle.orders.specs.Rounds.{placesOf}
 use Rattle.plan_lengths.specs.Rounds.{sharedRound, exclusiveRound, byRounds, longest, mostMoves, mostPlanBytes}
+use Rattle.progress.specs.Progress.{progresses, mostProgress, LimitReached, NotFree, CanMove}
 use Rattle.round_trips.specs.Exchange.{Writable, Readable, withoutNotes, readReply, ReadRefusal, stopOf, RunRefused}
 use Rattle.runs.specs.Requests.{Closes, movesOf}
 use Rattle.soundness.specs.Pass.{foundOf, passes}
@@ -43,7 +47,8 @@ use Rattle.theory.specs.Outputs.{Delivered}
 use Rattle.theory.specs.Statements.{OutsideView, writesMutex, MayWrite, Disciplined, atMutex, localMove, Agree, Stands}
 use Rattle.theory.specs.Tables.{SoundBytes, Keeps}
 use Rattle.watching.specs.Verdicts.{verdictOn, verdictsOn, acceptedOf, someInside}
-use Rattle.answer_numbers.specs.Encoding.{moveNumber, countNumber, watchNumber, insideNumber, readNumber, ByteCount, valueBound, held}
+use Rattle.answer_numbers.specs.Encoding.{retryUnit, seenValue, countValue, listedValue, Below, ByteCount, BytesBelow, valueBound, held}
+use Rattle.answer_numbers.specs.Encoding.{moveNumber, runNumber, countNumber, watchNumber, insideNumber, readNumber}
 use Rattle.printout.proofs.print_input.Statement as printing
 use Rattle.wospinzo.proofs.wospinzo_check.Statement as check
 use Rattle.wospinzo.proofs.wospinzo_fresh.Statement as fresh-table
@@ -67,7 +72,8 @@ pub record Promises (M : Type 1) : Type 2 where
   -- The version answers `version`. The move, asked r, answers `moveNumber (moveReply table r)` and leaves `moveTable table r`.
   -- The check answers `countNumber (checkReply n history)`, and of the length of a plan `countNumber (planLengthReply n history)` is answered.
   -- The others write: they answer `countNumber (deliveryReply d out)` and leave `deliveryOutput d out`, where d is
-  -- `freshEntry n`, `nodesEntry table`, `openEntry table thread`, `planEntry n history` or `runEntry script`. Lent bytes that are only read stay.
+  -- `freshEntry n`, `nodesEntry table`, `openEntry table thread` or `planEntry n history`. Lent bytes that are only read stay.
+  -- The run answers `runNumber (deliveryReply (runEntry script) out)`, the number of bytes and that of the retries among its moves.
   -- Writing answers `countNumber (held (deliveryReply (writeEntry n triples) out))`, `held` since the index of a triple may be any number;
   -- reading answers `readNumber (deliveryReply (readEntry script) out)`.
   -- Of a watcher's record w the start answers `watchNumber (startReply n)` and leaves `startRecord n w`; an event x answers `watchNumber (eventReply w x)` and leaves `eventRecord w x`;
@@ -93,6 +99,18 @@ pub record Promises (M : Type 1) : Type 2 where
   pub inside-told : (a b : Inside) → insideNumber (insideReply a) ≡ insideNumber (insideReply b) → insideReply a ≡ insideReply b
   pub read-told : (a b : Reading) → ByteCount (readingReply a) → ByteCount (readingReply b) → readNumber (readingReply a) ≡ readNumber (readingReply b) → readingReply a ≡ readingReply b
   pub read-byte : (script out : List ℕ) → ByteCount (deliveryReply (readEntry script) out)
+  pub run-told : (a b : Running) → BytesBelow (runningReply a) → BytesBelow (runningReply b) → runNumber (runningReply a) ≡ runNumber (runningReply b) → runningReply a ≡ runningReply b
+  pub run-below : (script out : List ℕ) → BytesBelow (deliveryReply (runEntry script) out)
+  -- Where an entry accepts, its value has 32 bits, but for the retries, which stand above them.
+  pub move-low : (a : Outcome) → Below retryUnit (λ x. seenValue (x .seen)) (outcomeReply a)
+  pub fresh-low : (n : ℕ) (out : List ℕ) → Below retryUnit countValue (deliveryReply (freshEntry n) out)
+  pub nodes-low : (table out : List ℕ) → Below retryUnit countValue (deliveryReply (nodesEntry table) out)
+  pub open-low : (table : List ℕ) (thread : ℕ) (out : List ℕ) → Below retryUnit countValue (deliveryReply (openEntry table thread) out)
+  pub check-low : (n : ℕ) (bytes : List ℕ) → Below retryUnit countValue (checkReply n bytes)
+  pub length-low : (n : ℕ) (bytes : List ℕ) → Below retryUnit countValue (planLengthReply n bytes)
+  pub plan-low : (n : ℕ) (bytes out : List ℕ) → Below retryUnit countValue (deliveryReply (planEntry n bytes) out)
+  pub write-low : (n : ℕ) (triples out : List ℕ) → Below retryUnit countValue (held (deliveryReply (writeEntry n triples) out))
+  pub read-low : (script out : List ℕ) → Below retryUnit listedValue (deliveryReply (readEntry script) out)
   -- Of a list of triples whose indices stand beside a refusal's number, which all are that a memory of 64-bit addresses holds, writing's answer is the reply itself.
   pub write-held : (n : ℕ) (triples out : List ℕ) → length triples ≤ 3 * valueBound → held (deliveryReply (writeEntry n triples) out) ≡ deliveryReply (writeEntry n triples) out
   -- A refused move leaves every byte of the table.
@@ -105,7 +123,7 @@ pub record Promises (M : Type 1) : Type 2 where
       → Delivered (nodesEntry table) out (nodesOf (tableOf table)) (accepted (tableOf table .threads))
   pub open-room : (table : List ℕ) (thread : ℕ) → length (openEntry table thread .text) ≤ 4 * tableOf table .threads
   pub run-room : (script out : List ℕ) → length script ≤ mostScript → enoughOutput ≤ length out
-      → Delivered (runEntry script) out (filled out (runOutputOf script)) (accepted (length (runOutputOf script)))
+      → Delivered (runEntry script) out (filled out (runOutputOf script)) (accepted (record { bytes = length (runOutputOf script); retries = runRetries (linesOf script) }))
   pub run-length : (script : List ℕ) → length script ≤ mostScript → length (runOutputOf script) ≤ 2 * length script + 18
   -- 9,996 bytes hold the triples of every script that is read, and 30,000 every script that is written.
   pub read-room : (script : List ℕ) → Readable script → length (readEntry script .text) ≤ 9_996
@@ -196,6 +214,9 @@ pub record Promises (M : Type 1) : Type 2 where
       × (runOutputOf script ≡ eventLines (history (fresh (threadsOf script)) (movesOf script)) ++ last) × Closes (movesOf script) last
   pub run-steps : (script before : List ℕ) (k : ℕ) → runOutputOf script ≡ before ++ stepsLine k
       → (k ≡ length (movesOf script)) × (movesOf script ≡ requestsIn (moveLines script))
+  -- The retries that it answers are those among these moves, by what each of them answers; a move takes nine bytes of the script.
+  pub run-retries : (script : List ℕ) → runRetries (linesOf script) ≡ retries (fresh (threadsOf script)) (movesOf script)
+  pub retries-few : (script : List ℕ) → 9 * runRetries (linesOf script) ≤ length script
   -- ---- 4. The watcher
 
   -- From the start record, whatever events come: each is answered as the plain lock's rules answer it behind the events accepted so far, and the record left is that of the accepted ones.
@@ -238,7 +259,7 @@ pub record Promises (M : Type 1) : Type 2 where
   -- By the last line that the run prints: where that is `(steps K)`, reading refuses no line; where it is `(refused R L)`, reading refuses L by R, or R is 6 or 7 and reading refuses no line up to L.
   pub finished-reads : (script before : List ℕ) (steps : ℕ) → runOutputOf script ≡ before ++ stepsLine steps → readReply script ≡ accepted tt
   pub run-refused : (script before : List ℕ) (number line : ℕ) → runOutputOf script ≡ before ++ refusedLine number line → RunRefused (readReply script) number line
-  -- Plan, then write, then run: for every history that the check passes and whose script isn't too long, the run prints the events of the history.
+  -- Plan, then write, then run: for every history that the check passes and whose script isn't too long, the run prints the events of the history, and makes no retry.
   pub plan-write-run : (n : ℕ) (bytes plan-out script-out run-out : List ℕ) (events : ℕ) → checkReply n bytes ≡ accepted events
       → let moves = plan n (pairsOf bytes) in
       let script = scriptOf n moves in
@@ -246,7 +267,7 @@ pub record Promises (M : Type 1) : Type 2 where
       length script ≤ mostScript → length (bytesOf moves) ≤ length plan-out → length script ≤ length script-out → enoughOutput ≤ length run-out
       → Delivered (planEntry n bytes) plan-out (filled plan-out (bytesOf moves)) (accepted (length moves))
       × Delivered (writeEntry n (bytesOf moves)) script-out (filled script-out script) (accepted (length script))
-      × Delivered (runEntry script) run-out (filled run-out text) (accepted (length text))
+      × Delivered (runEntry script) run-out (filled run-out text) (accepted (record { bytes = length text; retries = 0 }))
   -- ---- 6. How long the plan will be
 
   -- A number is answered exactly if the plan entry, with three bytes of output a move, answers it; with less it refuses by 12. The check's refusals are refused alike.
@@ -266,3 +287,23 @@ pub record Promises (M : Type 1) : Type 2 where
   pub bound-reached : (n times : ℕ) → 1 ≤ n → let h = longest n times in T (permitted n h) × (4 * length (plan n h) ≡ (3 * n + 6) * length h + (3 * n + 2) * n)
   pub longest-plan : (n : ℕ) (bytes : List ℕ) (k : ℕ) → planLengthReply n bytes ≡ accepted k → (k ≤ mostMoves) × (3 * k ≤ mostPlanBytes)
   pub longest-reached : (bytes : List ℕ) × AllBytes bytes × (planLengthReply 200 bytes ≡ accepted mostMoves) × (length (bytesOf (plan 200 (pairsOf bytes))) ≡ mostPlanBytes)
+  -- ---- 7. Retries, progress and every arrow
+
+  -- An accepted move answers what it shows, and whether it is one of the retries of `isRetry`. A retry is quiet and keeps every thread in its node.
+  pub move-says : (table : List ℕ) (r : Request) → T (acceptsIn byteTable table r)
+      → moveReply table r ≡ accepted (moved (effect (tableOf table) r .shows) (isRetry (tableOf table) r))
+  pub retry-keeps : (table : List ℕ) (r : Request) → T (acceptsIn byteTable table r) → T (isRetry (tableOf table) r)
+      → (moveReply table r ≡ accepted (moved quiet true)) × (nodesOf (tableOf (moveTable table r)) ≡ nodesOf (tableOf table))
+  -- The plan of a permitted history makes none.
+  pub plan-retries : (n : ℕ) → 1 ≤ n → n ≤ mostThreads → (h : List Pair) → T (permitted n h) → retries (fresh n) (plan n h) ≡ 0
+  -- The limit: accepted moves without calls and without retries, in any order and from any table, are at most N × (3N + 5). (What accepts a request is sound.)
+  pub limit : (table : List ℕ) (rs : List Request) → T (progresses table rs) → length rs ≤ mostProgress (tableOf table .threads)
+  -- It is reached for every N, from the table with every thread in 9, which is sound and reached.
+  pub limit-reached : (n : ℕ) → 1 ≤ n → n ≤ mostThreads → LimitReached n
+  -- No standstill: where some thread isn't Free, some request that is no call is accepted.
+  pub no-standstill : (table : List ℕ) → SoundBytes table → (i : ℕ) → i < tableOf table .threads → NotFree table i → CanMove table
+  -- Every arrow of Figure 1 can be taken: by each thread that stands where it begins, if its condition holds there, after moves that keep every thread in its node; and no others can.
+  pub every-arrow : (n : ℕ) → 1 ≤ n → n ≤ mostThreads → (table : List ℕ) → Reached n table → (a : Arrow) → List·Memᴰ a arrows → (i : ℕ) → i < n
+      → Enabled (nodesOf (tableOf table)) a i → CanTake table a i
+  pub figure-exact : (n : ℕ) → 1 ≤ n → n ≤ mostThreads → (table : List ℕ) → Reached n table → (a : Arrow) → List·Memᴰ a arrows → (i : ℕ) → i < n
+      → Enabled (nodesOf (tableOf table)) a i ↔ CanTake table a i

@@ -9,10 +9,10 @@ use mathlib.Core.Logic.{_⊎_, inl, inr}
 use mathlib.Core.Path.{_≡_, refl, sym, subst, ap, _∙_}
 use lib.Dec.{T, leb, ltb, le→leb}
 use lib.ListN.{length, drop}
-use Rattle.definitions.specs.Answers.{Reply, accepted, refused, Seen, Test, testAt, answered, passesAll}
+use Rattle.definitions.specs.Answers.{Reply, accepted, refused, MoveAnswer, Test, testAt, answered, passesAll}
 use Rattle.definitions.specs.Bounds.{lastMove}
 use Rattle.definitions.specs.Forms.{Form, threads, request, note, bad, formOf, lineForm, firstForm, firstTests, threadsFirst, lineTests}
-use Rattle.definitions.specs.Moves.{targetFits, numberTests, effect, moveTable}
+use Rattle.definitions.specs.Moves.{targetFits, numberTests, moveAnswer, moveTable}
 use Rattle.definitions.specs.Run.{eventLine, stepsLine, refusedLine, Turn, stops, passes, makes, turnFor, turnOf, printed, printedFor, printedFirst, runText, runOutputOf}
 use Rattle.definitions.specs.Scripts.{linesTests, scriptTests}
 use Rattle.definitions.specs.Table.{tableOf, countFits, fresh}
@@ -73,7 +73,7 @@ module _ (table : List ℕ) (k : ℕ) (ls : List Line) where
   abbrev Agrees : Reply (Unit {0}) → Turn → Type 0
   Agrees whole (stops number) = (T (setAside number) × (whole ≡ rest k ls table)) ⊎ (T (not (setAside number)) × (whole ≡ refused number k))
   Agrees whole passes = whole ≡ rest k ls table
-  Agrees whole (makes r seen) = whole ≡ rest k ls (moveTable table r)
+  Agrees whole (makes r answer) = whole ≡ rest k ls (moveTable table r)
 
   module _ (s : SoundBytes table) where
     request-agrees : (r : Request) → Agrees (judged (numberTests k (tableOf table .threads) r ++ linesTests (suc k) (tableOf table .threads) ls)) (turnOf table (request r))
@@ -86,24 +86,24 @@ module _ (table : List ℕ) (k : ℕ) (ls : List Line) where
         behind-it : List Test
         behind-it = linesTests (suc k) (tableOf table .threads) ls
 
-        event : Seen
-        event = effect (tableOf table) r .shows
+        answer : MoveAnswer
+        answer = moveAnswer (tableOf table) r
 
-        turn : (x : Reply Seen) → answered (numbers table r ++ later table r) event ≡ x → turnOf table (request r) ≡ turnFor r x
+        turn : (x : Reply MoveAnswer) → answered (numbers table r ++ later table r) answer ≡ x → turnOf table (request r) ≡ turnFor r x
         turn x e = request-turn table r s ∙ ap (turnFor r) (move-answers table r s ∙ e)
 
-        moved : judged (here ++ behind-it) ≡ judged behind-it → (x : Reply Seen) → IfRefused (λ number place. T (setAside number)) x → Agrees (judged (here ++ behind-it)) (turnFor r x)
-        moved p (accepted seen) q = p ∙ ap (λ (n : ℕ). judged (linesTests (suc k) n ls)) (sym (disciplined table r .threads-kept))
+        moved : judged (here ++ behind-it) ≡ judged behind-it → (x : Reply MoveAnswer) → IfRefused (λ number place. T (setAside number)) x → Agrees (judged (here ++ behind-it)) (turnFor r x)
+        moved p (accepted a) q = p ∙ ap (λ (n : ℕ). judged (linesTests (suc k) n ls)) (sym (disciplined table r .threads-kept))
         moved p (refused number place) q = inl (q, p)
 
         by : T (passesAll (numbers table r)) ⊎ ((number : ℕ) × (place : ℕ) × (judged (numbers table r) ≡ refused number place))
             → Agrees (judged (here ++ behind-it)) (turnOf table (request r))
         by (inl p) =
-            subst (Agrees (judged (here ++ behind-it))) (sym (turn _ (behind event (numbers table r) (later table r) p)))
-            (moved (behind tt here behind-it p) (answered (later table r) event)
-            (if-refused (λ number place. T (setAside number)) event (later table r) ((λ t. tt), ((λ t. tt), tt))))
+            subst (Agrees (judged (here ++ behind-it))) (sym (turn _ (behind answer (numbers table r) (later table r) p)))
+            (moved (behind tt here behind-it p) (answered (later table r) answer)
+            (if-refused (λ number place. T (setAside number)) answer (later table r) ((λ t. tt), ((λ t. tt), tt))))
         by (inr (number, place, e)) =
-            subst (Agrees (judged (here ++ behind-it))) (sym (turn _ (in-front event tt (numbers table r) (later table r) number place e)))
+            subst (Agrees (judged (here ++ behind-it))) (sym (turn _ (in-front answer tt (numbers table r) (later table r) number place e)))
             (inr (
               subst (IfRefused (λ other place. T (not (setAside other)))) e
                   (if-refused (λ other place. T (not (setAside other))) tt (numbers table r) ((λ t. tt), ((λ t. tt), ((λ t. tt), tt)))),
@@ -133,12 +133,12 @@ lines-alike table s k (l ∷ ls) =
         ≡ elim u [
           | stops number ↦ cond (setAside number) (stopFrom table (suc k) ls) (refused number k)
           | passes ↦ stopFrom table (suc k) ls
-          | makes r seen ↦ stopFrom (moveTable table r) (suc k) ls
+          | makes r answer ↦ stopFrom (moveTable table r) (suc k) ls
         ]
     by whole (stops number) (inl (a, p)) next = p ∙ (next table s ∙ sym (cond-yes (setAside number) (stopFrom table (suc k) ls) (refused number k) a))
     by whole (stops number) (inr (a, e)) next = e ∙ sym (cond-no (setAside number) (stopFrom table (suc k) ls) (refused number k) a)
     by whole passes p next = p ∙ next table s
-    by whole (makes r seen) p next = p ∙ next (moveTable table r) (sound-kept table r s)
+    by whole (makes r answer) p next = p ∙ next (moveTable table r) (sound-kept table r s)
 
 -- ---- the whole script
 
@@ -264,15 +264,15 @@ lines-ended table s k steps (l ∷ ls) =
         (elim u [
           | stops number ↦ refusedLine number k
           | passes ↦ printed table (suc k) steps ls
-          | makes r seen ↦ eventLine (r .thread) seen ++ printed (moveTable table r) (suc k) (suc steps) ls
+          | makes r answer ↦ eventLine (r .thread) (answer .seen) ++ printed (moveTable table r) (suc k) (suc steps) ls
         ])
         whole
     by whole (stops number) (inl (a, p)) next = not-now [] number k refl a (subst (IfRefused (λ other line. k < line)) (sym p) (refused-from (suc k) (tableOf table .threads) ls))
     by whole (stops number) (inr (a, e)) next = turned-down [] number k refl e
     by whole passes p next = subst (Ended (printed table (suc k) steps ls)) (sym p) (next table s steps)
-    by whole (makes r seen) p next =
+    by whole (makes r answer) p next =
         let after = printed (moveTable table r) (suc k) (suc steps) ls in
-        behind-events (eventLine (r .thread) seen) after whole (subst (Ended after) (sym p) (next (moveTable table r) (sound-kept table r s) (suc steps)))
+        behind-events (eventLine (r .thread) (answer .seen)) after whole (subst (Ended after) (sym p) (next (moveTable table r) (sound-kept table r s) (suc steps)))
 
 first-ended : (f : Form) (ls : List Line) → Ended (printedFirst f ls) (judged (firstTests f ++ linesTests 2 (threadsFirst f) ls))
 unfolding printedFirst answered fresh

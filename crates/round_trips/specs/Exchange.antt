@@ -72,7 +72,7 @@ stopFrom table k (l ∷ ls) =
     elim (turnOf table (lineForm l)) [
       | stops number ↦ cond (setAside number) (stopFrom table (suc k) ls) (refused number k)
       | passes ↦ stopFrom table (suc k) ls
-      | makes r seen ↦ stopFrom (moveTable table r) (suc k) ls
+      | makes r answer ↦ stopFrom (moveTable table r) (suc k) ls
     ]
 
 -- "The run starts fresh", with the N of the first line, unless that line is turned down

@@ -6,23 +6,25 @@ use mathlib.Core.List.{List, [], _∷_}
 use mathlib.Core.Logic.{⊎-elim}
 use mathlib.Core.Path.{_≡_, refl, sym, subst, subst⁻¹, ap, _∙_}
 use lib.Dec.{T, eqb, eqb→eq}
+use Rattle.definitions.specs.Answers.{accepted, quiet, moved, outcomeReply}
 use Rattle.definitions.specs.Bounds.{lastPhase, lastMove, noTarget}
-use Rattle.definitions.specs.Codes.{go, setMove, clearMove}
-use Rattle.definitions.specs.Moves.{ask, Effect, allForbidden, noneForbiddenBut, goEffect, setEffect, clearEffect, effect}
+use Rattle.definitions.specs.Codes.{go, setMove, clearMove, hold}
+use Rattle.definitions.specs.Moves.{ask, Effect, allForbidden, noneForbiddenBut, goEffect, setEffect, clearEffect, effect, isRetry, accepts}
 use Rattle.definitions.specs.Phases.{rows, hasMove}
 use Rattle.definitions.specs.Table.{Table, phase≔, target≔, forbidden≔}
 use Rattle.definitions.specs.Threads.{every, among, between, implies}
 use Rattle.definitions.specs.declared.Request.{Request}
-use Rattle.rules.specs.View.{allForbiddenBut, viewAt, viewOf, cellsAfter, withPhase, withTarget, withForbidden, quietBy, probed, Follows, Decides}
+use Rattle.rules.specs.View.{allForbiddenBut, viewAt, viewOf, cellsAfter, withPhase, withTarget, withForbidden, unseenBy, quietBy, probed, Follows, Decides}
 use Rattle.rules.specs.declared.Cells.{Cells}
 use Rattle.rules.specs.declared.Decided.{Decided}
 use Rattle.rules.specs.declared.View.{View}
 use Rattle.theory.specs.Statements.{subjectBy, subjectOf}
+use Rattle.theory.proofs.Cases.{or-at, none-of, has-phase}
 use Rattle.theory.proofs.Matches.{NoneOf, not-among, backwards}
 use Rattle.theory.proofs.Quantifiers.{every-at, every-i}
 use Rattle.theory.proofs.Soundness.{sound-e}
 use Rattle.theory.proofs.Tests.{and-l, and-r, and-i, or-e, or-r, no-both, same-test, implies-e}
-use Rattle.theory.proofs.Ways.{accepted-e, goPhases}
+use Rattle.theory.proofs.Ways.{accepted-e, goPhases, phases-3, phases-4, phases-6, only}
 use Rattle.theory.proofs.MoveWrites.{subject-by, subject-thread}
 
 -- ---- one arm
@@ -37,17 +39,31 @@ abbrev pub asking : Request → ℕ → Request
 asking r mv = ask (r .thread) mv (r .target)
 
 -- a decision follows an effect that equals the one it was made by
-follows : (e e′ : Effect) (c : Cells) (d d′ : Decided) → e ≡ e′ → d ≡ d′ → Follows e′ c d′ → Follows e c d
-follows e e′ c d d′ p q f = subst⁻¹ (λ (x : Effect). Follows x c d) p (subst⁻¹ (λ (x : Decided). Follows e′ c x) q f)
+follows : (e e′ : Effect) (b b′ : Bool) (c : Cells) (d d′ : Decided) → e ≡ e′ → b ≡ b′ → d ≡ d′ → Follows e′ b′ c d′ → Follows e b c d
+follows e e′ b b′ c d d′ p o q f =
+    subst⁻¹ (λ (x : Effect). Follows x b c d) p (subst⁻¹ (λ (x : Bool). Follows e′ x c d) o (subst⁻¹ (λ (x : Decided). Follows e′ b′ c x) q f))
+
+-- what a decision without an event says
+pub unseen-says : (b retry : Bool) → b ≡ retry → outcomeReply (unseenBy b) ≡ accepted (moved quiet retry)
+unseen-says b retry e = by b ∙ ap (λ (x : Bool). accepted (moved quiet x)) e
+  where
+    by : (x : Bool) → outcomeReply (unseenBy x) ≡ accepted (moved quiet x)
+    by true = refl
+    by false = refl
+
+or-none : (b : Bool) → b ≡ (b || false)
+or-none true = refl
+or-none false = refl
 
 -- an arm of the moves
 pub move-arm : (v : View) (mv m : ℕ) (d d′ : Decided) → mv ≡ m → d ≡ d′
-    → ((s : Table) (r : Request) → v ≡ viewOf s (asking r m) → Follows (effect s (asking r m)) (v .cells) d′)
+    → ((s : Table) (r : Request) → T (accepts s (asking r m)) → v ≡ viewOf s (asking r m) → Follows (effect s (asking r m)) (isRetry s (asking r m)) (v .cells) d′)
     → Decides v mv d
 move-arm v mv m d d′ k q f s r a e seen =
     let p : r .mv ≡ m = e ∙ k in
-    follows (effect s r) (effect s (asking r m)) (v .cells) d d′ (ap (λ (x : ℕ). effect s (asking r x)) p) q
-    (f s r (seen ∙ ap (λ (x : ℕ). viewOf s (asking r x)) p))
+    follows (effect s r) (effect s (asking r m)) (isRetry s r) (isRetry s (asking r m)) (v .cells) d d′
+    (ap (λ (x : ℕ). effect s (asking r x)) p) (ap (λ (x : ℕ). isRetry s (asking r x)) p) q
+    (f s r (subst (λ (x : ℕ). T (accepts s (asking r x))) p a) (seen ∙ ap (λ (x : ℕ). viewOf s (asking r x)) p))
 
 -- the decision of a function that is called for one move
 pub called : (v : View) (mv m : ℕ) (d : Decided) → mv ≡ m → Decides v m d → Decides v mv d
@@ -57,6 +73,11 @@ called v mv m d e h = subst⁻¹ (λ (k : ℕ). Decides v k d) e h
 go-row : (s : Table) (i k : ℕ) → s .phase i ≡ k → goEffect s i ≡ goEffect (inPhase s k) i
 unfolding goEffect
 go-row s i k e = ap (λ (p : ℕ). goEffect (inPhase s p) i) e
+
+-- whether it is a retry there
+go-retry : (s : Table) (r : Request) (k : ℕ) → r .mv ≡ go → s .phase (r .thread) ≡ k → isRetry s r ≡ isRetry (inPhase s k) (asking r go)
+unfolding isRetry
+go-retry s r k e p = rw (e, p)
 
 -- go, in the list of moves
 effect-go : (s : Table) (r : Request) → r .mv ≡ go → effect s r ≡ goEffect s (r .thread)
@@ -70,12 +91,13 @@ pub record Sees (v : View) (k : ℕ) (s : Table) (i t : ℕ) : Type 0 where
   pub thread : t < s .threads
 
 pub go-arm : (v : View) (k : ℕ) (d d′ : Decided) → v .cells .phase ≡ k → d ≡ d′
-    → ((s : Table) (i t : ℕ) → Sees v k s i t → Follows (goEffect (inPhase s k) i) (v .cells) d′)
+    → ((s : Table) (i t u : ℕ) → Sees v k s i t → Follows (goEffect (inPhase s k) i) (isRetry (inPhase s k) (ask i go u)) (v .cells) d′)
     → Decides v go d
 go-arm v k d d′ p q f s r a e seen =
     let here : s .phase (r .thread) ≡ k = sym (ap (λ (x : View). x .cells .phase) seen) ∙ p in
-    follows (effect s r) (goEffect (inPhase s k) (r .thread)) (v .cells) d d′ (effect-go s r e ∙ go-row s (r .thread) k here) q
-    (f s (r .thread) (subjectOf s r) (record { view = seen; subject = subject-by s r go k e here; thread = subject-thread s r a }))
+    follows (effect s r) (goEffect (inPhase s k) (r .thread)) (isRetry s r) (isRetry (inPhase s k) (asking r go)) (v .cells) d d′
+    (effect-go s r e ∙ go-row s (r .thread) k here) (go-retry s r k e here) q
+    (f s (r .thread) (subjectOf s r) (r .target) (record { view = seen; subject = subject-by s r go k e here; thread = subject-thread s r a }))
 
 -- ---- phase 11
 
@@ -123,6 +145,13 @@ probe-writes v s i t seen =
         (withPhase (v .cells) 12)
         (withTarget (withPhase (v .cells) (cond (x .others .set && eqb (x .cells .forbidden) 1) 13 10)) noTarget)
 
+-- and by it the move is a retry
+pub probe-says : (v : View) (s : Table) (i t u : ℕ) → Sees v 11 s i t → outcomeReply (unseenBy (eqb (v .«subject_busy») 1)) ≡ accepted (moved quiet (isRetry (inPhase s 11) (ask i go u)))
+unfolding isRetry
+probe-says v s i t u seen =
+    unseen-says (eqb (v .«subject_busy») 1) (eqb (s .busy (s .target)) 1 || false)
+    (ap (λ (x : View). eqb (x .«subject_busy») 1) (seen .view) ∙ ap (λ (x : ℕ). eqb (s .busy x) 1) (seen .subject) ∙ or-none (eqb (s .busy (s .target)) 1))
+
 -- ---- set and clear
 
 setting : (c : Cells) (b : Bool) (i t : ℕ)
@@ -131,16 +160,25 @@ setting : (c : Cells) (b : Bool) (i t : ℕ)
 setting c true i t = refl
 setting c false i t = refl
 
+-- set exists in 10 and 15: in 15 it is a retry, in 10 where the flag is 1 before it
+set-retry : (s : Table) (r : Request) → T (accepts s (asking r setMove)) → (eqb (s .phase (r .thread)) 15 || eqb (s .forbidden (r .target)) 1) ≡ isRetry s (asking r setMove)
+unfolding isRetry
+set-retry s r a =
+    let p = s .phase (r .thread) in
+    or-at p 10 _ (λ e. rw e (or-none (eqb (s .forbidden (r .target)) 1))) (or-at p 15 _ (λ e. rw e) (none-of p))
+    (has-phase 3 p _ phases-3 (accepted-e s (asking r setMove) a .has-move))
+
 pub set-arm : (v : View) (d : Decided)
     → d ≡ quietBy (cond (eqb (v .cells .phase) 10) (withPhase (withTarget (withForbidden (v .cells) 1) (v .subject)) 11) (withForbidden (v .cells) 1))
+    (eqb (v .cells .phase) 15 || eqb (v .cells .forbidden) 1)
     → Decides v setMove d
 unfolding subjectBy effect setEffect
 set-arm v d q =
-    move-arm v setMove setMove d _ refl q (λ s r seen.
+    move-arm v setMove setMove d _ refl q (λ s r a seen.
     record {
       cells = ap (λ (x : View). cond (eqb (x .cells .phase) 10) (withPhase (withTarget (withForbidden (v .cells) 1) (x .subject)) 11) (withForbidden (v .cells) 1)) seen
           ∙ setting (v .cells) (eqb (s .phase (r .thread)) 10) (r .thread) (r .target);
-      shows = refl;
+      says = unseen-says _ _ (ap (λ (x : View). eqb (x .cells .phase) 15 || eqb (x .cells .forbidden) 1) seen ∙ set-retry s r a);
     })
 
 clearing : (c : Cells) (b : Bool) (i t : ℕ)
@@ -149,17 +187,29 @@ clearing : (c : Cells) (b : Bool) (i t : ℕ)
 clearing c true i t = refl
 clearing c false i t = refl
 
+-- clear exists in 15, where it is a retry if the flag is 0 before it
+clear-retry : (s : Table) (r : Request) → T (accepts s (asking r clearMove)) → eqb (s .forbidden (r .target)) 0 ≡ isRetry s (asking r clearMove)
+unfolding isRetry
+clear-retry s r a = rw (only 4 (s .phase (r .thread)) 15 phases-4 (accepted-e s (asking r clearMove) a .has-move))
+
 pub clear-arm : (v : View) (d : Decided)
-    → d ≡ quietBy (cond (v .others .clear) (withPhase (withForbidden (v .cells) 0) 16) (withForbidden (v .cells) 0))
+    → d ≡ quietBy (cond (v .others .clear) (withPhase (withForbidden (v .cells) 0) 16) (withForbidden (v .cells) 0)) (eqb (v .cells .forbidden) 0)
     → Decides v clearMove d
 unfolding subjectBy effect clearEffect
 clear-arm v d q =
-    move-arm v clearMove clearMove d _ refl q (λ s r seen.
+    move-arm v clearMove clearMove d _ refl q (λ s r a seen.
     record {
       cells = ap (λ (x : View). cond (x .others .clear) (withPhase (withForbidden (v .cells) 0) 16) (withForbidden (v .cells) 0)) seen
           ∙ clearing (v .cells) (noneForbiddenBut (r .target) s) (r .thread) (r .target);
-      shows = refl;
+      says = unseen-says _ _ (ap (λ (x : View). eqb (x .cells .forbidden) 0) seen ∙ clear-retry s r a);
     })
+
+-- ---- hold
+
+-- it exists in 4, where it is a retry
+pub hold-retry : (s : Table) (r : Request) → T (accepts s (asking r hold)) → true ≡ isRetry s (asking r hold)
+unfolding isRetry
+hold-retry s r a = rw (only 6 (s .phase (r .thread)) 4 phases-6 (accepted-e s (asking r hold) a .has-move))
 
 -- ---- numbers without an arm
 

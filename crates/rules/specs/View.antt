@@ -5,13 +5,14 @@ use mathlib.Core.Bool.{Bool, cond, _&&_, _||_}
 use mathlib.Core.List.{List, [], _∷_}
 use mathlib.Core.Path.{_≡_}
 use lib.Dec.{T, eqb}
-use Rattle.definitions.specs.Answers.{outcomeReply, accepted}
+use Rattle.definitions.specs.Answers.{outcomeReply, accepted, moved}
 use Rattle.definitions.specs.Bounds.{noTarget}
-use Rattle.definitions.specs.Moves.{Effect, noneForbiddenBut, effect, accepts}
+use Rattle.definitions.specs.Moves.{Effect, noneForbiddenBut, effect, isRetry, accepts}
 use Rattle.definitions.specs.Table.{Table, Write, mutex≔, target≔, phase≔, busy≔, forbidden≔}
 use Rattle.definitions.specs.Threads.{every}
 use Rattle.definitions.specs.declared.Event.{Event}
-use Rattle.definitions.specs.declared.Outcome.the-variants.{Quiet, Shown}
+use Rattle.definitions.specs.declared.Outcome.{Outcome}
+use Rattle.definitions.specs.declared.Outcome.the-variants.{Quiet, Retry, Shown}
 use Rattle.definitions.specs.declared.Request.{Request}
 use Rattle.theory.specs.Statements.{subjectOf}
 use Rattle.rules.specs.declared.Cells.{Cells}
@@ -81,9 +82,12 @@ cellsAfter c (w ∷ ws) = cellsAfter (cellsWith c w) ws
 
 -- ---- what is decided
 
--- a decision, by its bytes and what it shows
-abbrev pub quietBy : Cells → Decided
-quietBy c = record { cells = c; outcome = Quiet }
+-- a decision without an event, by its bytes and whether it is a retry, and one with an event
+abbrev pub unseenBy : Bool → Outcome
+unseenBy retry = cond retry Retry Quiet
+
+abbrev pub quietBy : Cells → Bool → Decided
+quietBy c retry = record { cells = c; outcome = unseenBy retry }
 
 abbrev pub shownBy : Cells → Event → Decided
 shownBy c e = record { cells = c; outcome = Shown e }
@@ -95,12 +99,12 @@ probed v =
     (withPhase (v .cells) 12)
     (withTarget (withPhase (v .cells) (cond (v .others .set && eqb (v .cells .forbidden) 1) 13 10)) noTarget)
 
--- the decision is what an effect of the definitions makes of the bytes seen, and shows
-pub record Follows (e : Effect) (c : Cells) (d : Decided) : Type 0 where
+-- the decision is what an effect of the definitions makes of the bytes seen, and shows, and says whether it is a retry
+pub record Follows (e : Effect) (retry : Bool) (c : Cells) (d : Decided) : Type 0 where
   pub cells : d .cells ≡ cellsAfter c (e .writes)
-  pub shows : outcomeReply (d .outcome) ≡ accepted (e .shows)
+  pub says : outcomeReply (d .outcome) ≡ accepted (moved (e .shows) retry)
 
 -- it does so for every table and accepted request that look like the view
 abbrev pub Decides : View → ℕ → Decided → Type 0
 Decides v mv d =
-    (s : Table) (r : Request) → T (accepts s r) → r .mv ≡ mv → v ≡ viewOf s r → Follows (effect s r) (v .cells) d
+    (s : Table) (r : Request) → T (accepts s r) → r .mv ≡ mv → v ≡ viewOf s r → Follows (effect s r) (isRetry s r) (v .cells) d

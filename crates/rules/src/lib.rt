@@ -11,13 +11,13 @@ use definitions::RELENT;
 use definitions::Request;
 use definitions::SET;
 ghost use Prim.Native.Nat.{_≤_};
-ghost use mathlib.Core.Bool.{cond};
+ghost use mathlib.Core.Bool.{true, false, cond};
 ghost use mathlib.Core.Path.{_≡_};
 ghost use lib.Dec.{eqb};
 ghost use Rattle.definitions.specs.Bounds.{mostThreads, lastMove, noTarget};
 ghost use Rattle.definitions.specs.Codes.{go, setMove, clearMove};
 ghost use Rattle.theory.specs.Statements.{subjectBy};
-ghost use Rattle.rules.specs.View.{othersBy, Decides, withPhase, withBusy, withMutex, withTarget, withForbidden, quietBy, shownBy, probed};
+ghost use Rattle.rules.specs.View.{othersBy, Decides, withPhase, withBusy, withMutex, withTarget, withForbidden, unseenBy, quietBy, shownBy, probed};
 
 // The phases of Table 1 of source document 000, by number:
 //  0 Free; 1 to 4 the reader raises busy, looks at its forbidden, and lowers busy where it is 1; 18 it holds the mutex
@@ -99,15 +99,30 @@ fn in_phase(cells: Cells, phase: u8) -> Cells
     }
 }
 
-// The mover goes to a phase, quietly.
-fn step(cells: Cells, phase: u8) -> Decided
-    ensures { λ r. ⌜ r ≡ quietBy (withPhase cells phase) ⌝ }
+// What a move that shows no event answers.
+fn unseen(retry: bool) -> Outcome
+    ensures { λ r. ⌜ r ≡ unseenBy retry ⌝ }
+{
+    if retry {
+        return Outcome::Retry;
+    }
+    Outcome::Quiet
+}
+
+// The mover goes to a phase without an event, in a move that is a retry or isn't.
+fn pass(cells: Cells, phase: u8, retry: bool) -> Decided
+    ensures { λ r. ⌜ r ≡ quietBy (withPhase cells phase) retry ⌝ }
 {
     let cells = in_phase(cells, phase);
-    Decided {
-        cells,
-        outcome: Outcome::Quiet,
-    }
+    let outcome = unseen(retry);
+    Decided { cells, outcome }
+}
+
+// In a move that isn't a retry.
+fn step(cells: Cells, phase: u8) -> Decided
+    ensures { λ r. ⌜ r ≡ quietBy (withPhase cells phase) false ⌝ }
+{
+    pass(cells, phase, false)
 }
 
 // The same, with an event.
@@ -123,7 +138,7 @@ fn show(cells: Cells, phase: u8, event: Event) -> Decided
 
 // To a phase, with a value for busy.
 fn set_busy(mut cells: Cells, phase: u8, busy: u8) -> Decided
-    ensures { λ r. ⌜ r ≡ quietBy (withBusy (withPhase cells phase) busy) ⌝ }
+    ensures { λ r. ⌜ r ≡ quietBy (withBusy (withPhase cells phase) busy) false ⌝ }
 {
     cells.busy = busy;
     step(cells, phase)
@@ -131,23 +146,23 @@ fn set_busy(mut cells: Cells, phase: u8, busy: u8) -> Decided
 
 // To a phase, with a value for the mutex.
 fn set_mutex(mut cells: Cells, phase: u8, mutex: u8) -> Decided
-    ensures { λ r. ⌜ r ≡ quietBy (withMutex (withPhase cells phase) mutex) ⌝ }
+    ensures { λ r. ⌜ r ≡ quietBy (withMutex (withPhase cells phase) mutex) false ⌝ }
 {
     cells.mutex = mutex;
     step(cells, phase)
 }
 
 // To phase 10 or 13, with no target any more.
-fn drop_target(mut cells: Cells, phase: u8) -> Decided
-    ensures { λ r. ⌜ r ≡ quietBy (withTarget (withPhase cells phase) noTarget) ⌝ }
+fn drop_target(mut cells: Cells, next: u8) -> Decided
+    ensures { λ r. ⌜ r ≡ quietBy (withTarget (withPhase cells next) noTarget) false ⌝ }
 {
     cells.target = NO_TARGET;
-    step(cells, phase)
+    pass(cells, next, false)
 }
 
 // Phase 2: the reader has raised busy and looks at its forbidden.
 fn look(v: View) -> Decided
-    ensures { λ r. ⌜ r ≡ quietBy (withPhase (v .cells) (cond (eqb (v .«own_forbidden») 0) 5 3)) ⌝ }
+    ensures { λ r. ⌜ r ≡ quietBy (withPhase (v .cells) (cond (eqb (v .«own_forbidden») 0) 5 3)) false ⌝ }
 {
     let cells = v.cells;
     if v.own_forbidden == 0 {
@@ -156,13 +171,13 @@ fn look(v: View) -> Decided
     step(cells, 3)
 }
 
-// Phase 11: the writer has set the subject's forbidden and reads its busy.
+// Phase 11: the writer has set the subject's forbidden and reads its busy; where this is 1 the move is a retry.
 fn probe(v: View) -> Decided
-    ensures { λ r. ⌜ r ≡ quietBy (probed v) ⌝ }
+    ensures { λ r. ⌜ r ≡ quietBy (probed v) (eqb (v .«subject_busy») 1) ⌝ }
 {
     let cells = v.cells;
     if v.subject_busy == 1 {
-        return step(cells, 12);
+        return pass(cells, 12, true);
     }
     let others = v.others;
     let all = others.set & (cells.forbidden == 1);
@@ -174,7 +189,7 @@ fn probe(v: View) -> Decided
 
 // Phase 12: the writer takes the subject's forbidden back.
 fn take_back(v: View) -> Decided
-    ensures { λ r. ⌜ r ≡ quietBy (withTarget (withForbidden (withPhase (v .cells) 10) 0) noTarget) ⌝ }
+    ensures { λ r. ⌜ r ≡ quietBy (withTarget (withForbidden (withPhase (v .cells) 10) 0) noTarget) false ⌝ }
 {
     let mut cells = v.cells;
     cells.forbidden = 0;
@@ -190,7 +205,7 @@ fn go(v: View) -> Decided
         1 => set_busy(cells, 2, 1),
         2 => look(v),
         3 => set_busy(cells, 4, 0),
-        4 => step(cells, 1),
+        4 => pass(cells, 1, true),
         5 => show(cells, 6, Event::EnterSharedReturn),
         6 => show(cells, 7, Event::LeaveSharedCall),
         7 => set_busy(cells, 8, 0),
@@ -212,12 +227,13 @@ fn set_flag(v: View) -> Decided
 {
     let mut cells = v.cells;
     let phase = cells.phase;
+    let again = (phase == 15) | (cells.forbidden == 1);
     cells.forbidden = 1;
     if phase == 10 {
         cells.target = v.subject;
-        return step(cells, 11);
+        return pass(cells, 11, again);
     }
-    step(cells, phase)
+    pass(cells, phase, again)
 }
 
 fn clear_flag(v: View) -> Decided
@@ -225,12 +241,21 @@ fn clear_flag(v: View) -> Decided
 {
     let mut cells = v.cells;
     let phase = cells.phase;
+    let again = cells.forbidden == 0;
     cells.forbidden = 0;
     let others = v.others;
     if others.clear {
-        return step(cells, 16);
+        return pass(cells, 16, again);
     }
-    step(cells, phase)
+    pass(cells, phase, again)
+}
+
+// Phase 4: the reader takes the mutex before it tries again.
+fn hold(mut cells: Cells) -> Decided
+    ensures { λ r. ⌜ r ≡ quietBy (withMutex (withPhase cells 18) 1) true ⌝ }
+{
+    cells.mutex = 1;
+    pass(cells, 18, true)
 }
 
 // What a move writes and shows. Callers ask for a move that has passed its tests.
@@ -245,8 +270,8 @@ pub fn decide(v: View, mv: u8) -> Decided
         CALL_EXCLUSIVE => show(cells, 9, Event::EnterExclusiveCall),
         SET => set_flag(v),
         CLEAR => clear_flag(v),
-        RELENT => step(cells, 12),
-        HOLD => set_mutex(cells, 18, 1),
+        RELENT => pass(cells, 12, true),
+        HOLD => hold(cells),
         _ => step(cells, phase),
     }
 }

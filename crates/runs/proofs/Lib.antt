@@ -6,3 +6,4 @@ pub mod LastLine
 -- the theorems
 pub mod Suffices
 pub mod StepsAndEvents
+pub mod RetriesCounted

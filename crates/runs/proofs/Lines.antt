@@ -1,16 +1,16 @@
 -- Lines: their bytes add up to the script's, a line that states a request has the bytes of its form, and what a line does to the run.
 use Prim.Native.Nat.{ℕ, suc, _+_, _-_, _*_, _≤_}
 use native.Mathlib.Omega.{arith}
-use mathlib.Core.Bool.{Bool, true, false, cond, _&&_, _||_}
+use mathlib.Core.Bool.{Bool, true, false, cond, _&&_}
 use mathlib.Core.List.{List, [], _∷_}
 use mathlib.Core.Path.{_≡_, refl, ap, _∙_}
 use lib.Dec.{T, leb, eqb, leb→le}
 use lib.ListN.{length, getD, take, drop, length-append, length-drop}
-use Rattle.definitions.specs.Answers.{Reply, accepted, refused, Seen, Test, answered}
+use Rattle.definitions.specs.Answers.{Reply, accepted, refused, MoveAnswer, Test, answered}
 use Rattle.definitions.specs.Bounds.{lastMove}
-use Rattle.definitions.specs.Codes.{callShared, callExclusive, setMove, clearMove}
+use Rattle.definitions.specs.Codes.{setMove, clearMove}
 use Rattle.definitions.specs.Forms.{Form, threads, request, note, bad, actText, noteFits, noteForm, threadsForm, targetForm, aimedForm, plainMoves, actForm, moveForm, formOf, lineForm, requestIn}
-use Rattle.definitions.specs.Moves.{ask, replyIn, moveReply}
+use Rattle.definitions.specs.Moves.{ask, calls, replyIn, moveReply}
 use Rattle.definitions.specs.Plan.{bytesOf}
 use Rattle.definitions.specs.Run.{Turn, stops, passes, makes, turnFor, turnOf}
 use Rattle.definitions.specs.Scripts.{requestsIn, moveLines, statedBy}
@@ -70,13 +70,10 @@ lines-count (c ∷ cs) =
 starts-split : (p xs : List ℕ) → T (starts p xs) → length xs ≡ length p + length (drop (length p) xs)
 starts-split p xs t = omega (arith, length-drop (length p) xs, starts-length p xs (T-true (starts p xs) t))
 
-abbrev pub isCall : ℕ → Bool
-isCall mv = eqb mv callShared || eqb mv callExclusive
-
 -- a line of so many bytes has room for a request of a thread: `(T (go))` is the shortest, and a call takes nine bytes more
 pub record LineFits (size thread mv : ℕ) : Type 0 where
   pub plain : length (decimal thread) + 8 ≤ size
-  pub call : T (isCall mv) → length (decimal thread) + 17 ≤ size
+  pub call : T (calls mv) → length (decimal thread) + 17 ≤ size
 
 abbrev pub Long : ℕ → Form → Type 0
 Long size (threads n) = Unit {0}
@@ -92,12 +89,12 @@ target-long size thread mv r w =
 plain-long : (size thread mv n : ℕ) → mv ≤ lastMove → n ≡ length (actText mv 0) → length (decimal thread) + n + 2 ≤ size → LineFits size thread mv
 unfolding every actText bytes decimalWithin
 plain-long size thread mv n l e fits =
-    let most : ℕ → Bool = λ k. leb 6 (length (actText k 0)) && implies (isCall k) (leb 15 (length (actText k 0))) in
+    let most : ℕ → Bool = λ k. leb 6 (length (actText k 0)) && implies (calls k) (leb 15 (length (actText k 0))) in
     let t = every-at most (suc lastMove) tt mv (omega arith) in
     let six = leb→le 6 (length (actText mv 0)) (and-l (leb 6 (length (actText mv 0))) _ t) in
     record {
       plain = omega arith;
-      call = λ c. let fifteen = leb→le 15 (length (actText mv 0)) (implies-e (isCall mv) _ (and-r (leb 6 (length (actText mv 0))) _ t) c) in omega arith;
+      call = λ c. let fifteen = leb→le 15 (length (actText mv 0)) (implies-e (calls mv) _ (and-r (leb 6 (length (actText mv 0))) _ t) c) in omega arith;
     }
 
 -- one that does has a word in front of its target
@@ -110,7 +107,7 @@ aimed-long size thread xs fits =
     (λ t. target-long size thread clearMove (numberRead (drop 8 xs)) (short clearMove (λ u. u) (omega (arith, starts-split (bytes " (clear ") xs t))))
     (λ t2. tt))
   where
-    short : (mv : ℕ) → (T (isCall mv) → ⊥) → 6 ≤ length xs → LineFits size thread mv
+    short : (mv : ℕ) → (T (calls mv) → ⊥) → 6 ≤ length xs → LineFits size thread mv
     short mv other l = record { plain = omega arith; call = λ e. absurd (other e) }
 
 act-long : (size thread : ℕ) (xs : List ℕ) → length (decimal thread) + length xs + 2 ≤ size → Long size (actForm thread xs)
@@ -195,7 +192,7 @@ move-small table r number place e =
 abbrev pub Does : List ℕ → ℕ → Turn → Type 0
 Does table size (stops number) = number ≤ 9
 Does table size passes = Unit {0}
-Does table size (makes r seen) = (moveReply table r ≡ accepted seen) × LineFits size (r .thread) (r .mv)
+Does table size (makes r answer) = (moveReply table r ≡ accepted answer) × LineFits size (r .thread) (r .mv)
 
 form-does : (table : List ℕ) (size : ℕ) (f : Form) → Long size f → Does table size (turnOf table f)
 unfolding answered
@@ -203,8 +200,8 @@ form-does table size (threads n) w = omega arith
 form-does table size (request r) w =
     request-either table r (Does table size) (λ number place e. refused-small (numbers table r) (r ∷ []) number place (omega arith, (omega arith, (omega arith, tt))) e) (by (moveReply table r) refl)
   where
-    by : (x : Reply Seen) → moveReply table r ≡ x → Does table size (turnFor r x)
-    by (accepted seen) e = (e, w)
+    by : (x : Reply MoveAnswer) → moveReply table r ≡ x → Does table size (turnFor r x)
+    by (accepted answer) e = (e, w)
     by (refused number place) e = move-small table r number place e
 form-does table size note w = tt
 form-does table size bad w = omega arith

@@ -6,9 +6,9 @@ use mathlib.Core.List.{List}
 use mathlib.Core.Path.{_≡_, sym, subst, ap, _∙_}
 use lib.Dec.{T}
 use lib.ListN.{length}
-use Rattle.definitions.specs.Answers.{Reply, accepted, isAccepted, Seen, shown}
+use Rattle.definitions.specs.Answers.{Reply, accepted, isAccepted, MoveAnswer, shown}
 use Rattle.definitions.specs.Bounds.{lastMove}
-use Rattle.definitions.specs.Moves.{Effect, effect, moveReply, moveTable}
+use Rattle.definitions.specs.Moves.{calls, moveAnswer, Effect, effect, moveReply, moveTable}
 use Rattle.definitions.specs.Phases.{rows, hasMove}
 use Rattle.definitions.specs.Run.{eventName, eventLine}
 use Rattle.definitions.specs.Table.{Table, update, applied, tableOf, byteTable, fresh}
@@ -27,7 +27,7 @@ use Rattle.theory.proofs.Ways.{accepted-e, Way, way}
 use Rattle.theory.proofs.Ways.{call-shared, raise-busy, find-open, find-forbidden, back-off, try-again, hold-mutex, give-back, enter-shared, leave-shared, lower-busy, return-shared}
 use Rattle.theory.proofs.Ways.{call-exclusive, take-mutex, set-flag, find-busy, last-flag, next-flag, relents, give-up, enter-exclusive, leave-exclusive}
 use Rattle.theory.proofs.Ways.{set-again, clear-flag, clear-last, release-mutex, return-exclusive}
-use Rattle.runs.proofs.Lines.{isCall, LineFits}
+use Rattle.runs.proofs.Lines.{LineFits}
 
 -- ---- the potential
 
@@ -45,10 +45,10 @@ moved s i p q l e = let change = sum-update (s .threads) credit (s .phase) i q l
 -- ---- what a move prints
 
 -- phase 0 has only the calls, by trying the moves
-only-calls : (mv : ℕ) → mv ≤ lastMove → T (hasMove mv 0) → T (isCall mv)
+only-calls : (mv : ℕ) → mv ≤ lastMove → T (hasMove mv 0) → T (calls mv)
 unfolding rows every among
 only-calls mv l =
-    implies-e (hasMove mv 0) (isCall mv) (every-at (λ m. implies (hasMove m 0) (isCall m)) (suc lastMove) tt mv (omega arith))
+    implies-e (hasMove mv 0) (calls mv) (every-at (λ m. implies (hasMove m 0) (calls m)) (suc lastMove) tt mv (omega arith))
 
 module _ (s : Table) (i mv t size : ℕ) (fits : i < s .threads) (plain : length (decimal i) + 8 ≤ size) (call : s .phase i ≡ 0 → length (decimal i) + 17 ≤ size) where
   -- quiet
@@ -91,11 +91,11 @@ module _ (s : Table) (i mv t size : ℕ) (fits : i < s .threads) (plain : length
   way-cost e (relents p) = quiet-cost _ _ p (omega arith)
 
 -- `size` is the length of the line that states the request, with its line feed
-pub move-cost : (table : List ℕ) (r : Request) (seen : Seen) (size : ℕ) → moveReply table r ≡ accepted seen → LineFits size (r .thread) (r .mv)
-    → length (eventLine (r .thread) seen) + potential (tableOf (moveTable table r)) ≤ 2 * size + potential (tableOf table)
-move-cost table r seen size e w =
+pub move-cost : (table : List ℕ) (r : Request) (answer : MoveAnswer) (size : ℕ) → moveReply table r ≡ accepted answer → LineFits size (r .thread) (r .mv)
+    → length (eventLine (r .thread) (answer .seen)) + potential (tableOf (moveTable table r)) ≤ 2 * size + potential (tableOf table)
+move-cost table r answer size e w =
     let s = tableOf table in
-    let t = subst (λ (x : Reply Seen). T (isAccepted x)) (sym e) tt in
+    let t = subst (λ (x : Reply MoveAnswer). T (isAccepted x)) (sym e) tt in
     let a = accepted-e s r (accepts-e byteTable table r t .1) in
     let cost =
     way-cost s (r .thread) (r .mv) (r .target) size (a .thread-fits) (w .plain)
@@ -103,7 +103,7 @@ move-cost table r seen size e w =
     (effect s r) (way s r a)
     in
     let reply = accepted-reply byteTable table r t in
-    let same : seen ≡ effect s r .shows = cc in
-    let prints = ap (λ (x : Seen). length (eventLine (r .thread) x)) same in
+    let same : answer ≡ moveAnswer s r = cc in
+    let prints = ap (λ (x : MoveAnswer). length (eventLine (r .thread) (x .seen))) same in
     let leaves = ap potential (accepted-table byteTable byte-keeps table r t) in
     omega arith

@@ -10,8 +10,8 @@ use mathlib.Core.Logic.{_⊎_, inl, inr, ⊎-elim}
 use mathlib.Core.Path.{_≡_, refl, sym, subst, ap, _∙_}
 use lib.Dec.{T}
 use lib.ListN.{length, getD, take, drop}
-use Rattle.definitions.specs.Answers.{Reply, accepted, refused, isAccepted, Seen, shown, quiet, answered}
-use Rattle.definitions.specs.Chains.{pairFor, historyIn, afterIn, acceptsAllIn, history, tableAfter, acceptsAll}
+use Rattle.definitions.specs.Answers.{Reply, accepted, refused, isAccepted, Seen, shown, quiet, MoveAnswer, answered}
+use Rattle.definitions.specs.Chains.{pairSeen, pairFor, historyIn, afterIn, acceptsAllIn, history, tableAfter, acceptsAll}
 use Rattle.definitions.specs.Forms.{Form, threads, request, note, bad, lineForm, firstForm, threadsFirst, requestIn}
 use Rattle.definitions.specs.Moves.{acceptsIn, moveReply, moveTable}
 use Rattle.definitions.specs.PlainLock.{Pair}
@@ -28,7 +28,7 @@ use Rattle.runs.proofs.LastLine.{steps-once, steps-not-refused}
 -- ---- events
 
 -- the pair of an accepted move prints what is seen of it
-pub pair-line : (thread : ℕ) (seen : Seen) (rest : List Pair) → eventLines (pairFor thread (accepted seen) ++ rest) ≡ eventLine thread seen ++ eventLines rest
+pub pair-line : (thread : ℕ) (seen : Seen) (rest : List Pair) → eventLines (pairSeen thread seen ++ rest) ≡ eventLine thread seen ++ eventLines rest
 unfolding eventLines eventLine
 pair-line thread (shown event) rest = refl
 pair-line thread quiet rest = refl
@@ -39,15 +39,15 @@ pair-line thread quiet rest = refl
 abbrev Says : List ℕ → Form → Turn → Type 0
 Says table f (stops number) = Unit {0}
 Says table f passes = requestIn f ≡ []
-Says table f (makes r seen) = (moveReply table r ≡ accepted seen) × (requestIn f ≡ r ∷ [])
+Says table f (makes r answer) = (moveReply table r ≡ accepted answer) × (requestIn f ≡ r ∷ [])
 
 form-says : (table : List ℕ) (f : Form) → Says table f (turnOf table f)
 unfolding answered
 form-says table (threads n) = tt
 form-says table (request r) = request-either table r (Says table (request r)) (λ number place e. tt) (by (moveReply table r) refl)
   where
-    by : (x : Reply Seen) → moveReply table r ≡ x → Says table (request r) (turnFor r x)
-    by (accepted seen) e = (e, refl)
+    by : (x : Reply MoveAnswer) → moveReply table r ≡ x → Says table (request r) (turnFor r x)
+    by (accepted answer) e = (e, refl)
     by (refused number place) e = tt
 form-says table note = refl
 form-says table bad = tt
@@ -112,21 +112,21 @@ note-line table line steps l ls rs output e t =
         }
 
 -- at a request that is accepted
-move-line : (table : List ℕ) (line steps : ℕ) (l : Line) (ls : List Line) (r : Request) (seen : Seen) (rs : List Request) (output : List ℕ)
-    → moveReply table r ≡ accepted seen → requestIn (lineForm l) ≡ r ∷ []
-    → FromLine (moveTable table r) (suc line) (suc steps) ls rs output → FromLine table line steps (l ∷ ls) (r ∷ rs) (eventLine (r .thread) seen ++ output)
+move-line : (table : List ℕ) (line steps : ℕ) (l : Line) (ls : List Line) (r : Request) (answer : MoveAnswer) (rs : List Request) (output : List ℕ)
+    → moveReply table r ≡ accepted answer → requestIn (lineForm l) ≡ r ∷ []
+    → FromLine (moveTable table r) (suc line) (suc steps) ls rs output → FromLine table line steps (l ∷ ls) (r ∷ rs) (eventLine (r .thread) (answer .seen) ++ output)
 unfolding requestsIn historyIn acceptsAllIn afterIn
-move-line table line steps l ls r seen rs output a e t =
-    let here = eventLine (r .thread) seen in
+move-line table line steps l ls r answer rs output a e t =
+    let here = eventLine (r .thread) (answer .seen) in
     let rest = history (moveTable table r) rs in
     let shows : eventLines (pairFor (r .thread) (moveReply table r) ++ rest) ≡ here ++ eventLines rest =
-    ap (λ (x : Reply Seen). eventLines (pairFor (r .thread) x ++ rest)) a ∙ pair-line (r .thread) seen rest in
+    ap (λ (x : Reply MoveAnswer). eventLines (pairFor (r .thread) x ++ rest)) a ∙ pair-line (r .thread) (answer .seen) rest in
     record {
       last = t .last;
       prints =
           ap (λ (xs : List ℕ). here ++ xs) (t .prints)
           ∙ (sym (append-assoc here (eventLines rest) (t .last)) ∙ ap (λ (xs : List ℕ). xs ++ t .last) (sym shows));
-      accepted = and-i (acceptsIn byteTable table r) (acceptsAll (moveTable table r) rs) (subst (λ (x : Reply Seen). T (isAccepted x)) (sym a) tt) (t .accepted);
+      accepted = and-i (acceptsIn byteTable table r) (acceptsAll (moveTable table r) rs) (subst (λ (x : Reply MoveAnswer). T (isAccepted x)) (sym a) tt) (t .accepted);
       ending = by (t .ending);
     }
   where
@@ -168,17 +168,17 @@ from-line table line steps (l ∷ ls) =
         (elim u [
           | stops number ↦ []
           | passes ↦ movesFrom table ls
-          | makes r seen ↦ r ∷ movesFrom (moveTable table r) ls
+          | makes r answer ↦ r ∷ movesFrom (moveTable table r) ls
         ])
         (elim u [
           | stops number ↦ refusedLine number line
           | passes ↦ printed table (suc line) steps ls
-          | makes r seen ↦ eventLine (r .thread) seen ++ printed (moveTable table r) (suc line) (suc steps) ls
+          | makes r answer ↦ eventLine (r .thread) (answer .seen) ++ printed (moveTable table r) (suc line) (suc steps) ls
         ])
     by (stops number) e s same next = stop-line table line steps l ls number e
     by passes e s same next = note-line table line steps l ls (movesFrom table ls) (printed table (suc line) steps ls) s same
-    by (makes r seen) e s same next =
-        move-line table line steps l ls r seen (movesFrom (moveTable table r) ls) (printed (moveTable table r) (suc line) (suc steps) ls) (s .0) (s .1) (next (moveTable table r))
+    by (makes r answer) e s same next =
+        move-line table line steps l ls r answer (movesFrom (moveTable table r) ls) (printed (moveTable table r) (suc line) (suc steps) ls) (s .0) (s .1) (next (moveTable table r))
 
 -- ---- the whole run
 

@@ -10,7 +10,7 @@ use Rattle.definitions.specs.Answers.{accepted, answered, filled}
 use Rattle.definitions.specs.Bounds.{mostScript, enoughOutput}
 use Rattle.definitions.specs.Forms.{lineForm, firstForm, Form, threads, request, note, bad}
 use Rattle.definitions.specs.Moves.{moveTable}
-use Rattle.definitions.specs.Run.{eventLine, stepsLine, refusedLine, Turn, stops, passes, makes, turnOf, printed, printedFirst, runText, runOutputOf, runEntry}
+use Rattle.definitions.specs.Run.{eventLine, stepsLine, refusedLine, Turn, stops, passes, makes, turnOf, printed, printedFirst, runText, runOutputOf, runRetries, runEntry}
 use Rattle.definitions.specs.Table.{tableOf, countFits, fresh}
 use Rattle.definitions.specs.Texts.{bytes, Line, linesOf}
 use Rattle.theory.specs.Outputs.{Delivered}
@@ -53,12 +53,12 @@ bound table line steps (l ∷ ls) below few =
         → length {A = ℕ} (elim u [
           | stops number ↦ refusedLine number line
           | passes ↦ printed table (suc line) steps ls
-          | makes r seen ↦ eventLine (r .thread) seen ++ printed (moveTable table r) (suc line) (suc steps) ls
+          | makes r answer ↦ eventLine (r .thread) (answer .seen) ++ printed (moveTable table r) (suc line) (suc steps) ls
         ]) ≤ 2 * (lineSize l + sizeOf ls) + potential (tableOf table) + 18
     by (stops number) d same next = let last = refused-short number line d (omega arith) in omega arith
     by passes d same next = omega arith
-    by (makes r seen) d same next =
-        let here = move-cost table r seen (lineSize l) (d .0) (d .1) in
+    by (makes r answer) d same next =
+        let here = move-cost table r answer (lineSize l) (d .0) (d .1) in
         let rest = next (moveTable table r) in
         simp length-append (omega arith)
 
@@ -97,6 +97,6 @@ suffices script fits = let b = run-bound script fits in omega arith
 
 -- with as many bytes lent, a script that isn't too long is not turned down, and its output is written whole
 pub never-refused : (script out : List ℕ) → length script ≤ mostScript → enoughOutput ≤ length out
-    → Delivered (runEntry script) out (filled out (runOutputOf script)) (accepted (length (runOutputOf script)))
+    → Delivered (runEntry script) out (filled out (runOutputOf script)) (accepted (record { bytes = length (runOutputOf script); retries = runRetries (linesOf script) }))
 never-refused script out fits room =
     whole (runEntry script) out (pass _ _ (le→leb (length script) mostScript fits) no-test) (let short = suffices script fits in omega arith)

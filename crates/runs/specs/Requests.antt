@@ -19,7 +19,7 @@ movesFrom table (l ∷ ls) =
     elim (turnOf table (lineForm l)) [
       | stops number ↦ []
       | passes ↦ movesFrom table ls
-      | makes r seen ↦ r ∷ movesFrom (moveTable table r) ls
+      | makes r answer ↦ r ∷ movesFrom (moveTable table r) ls
     ]
 
 -- the same of a run whose first line has this form; "The run starts fresh"

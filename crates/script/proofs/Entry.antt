@@ -2,34 +2,36 @@
 use Prim.Native.Nat.{ℕ, _≤_, _<_}
 use native.Mathlib.Omega.{arith}
 use mathlib.Core.Bool.{Bool, true, false, not}
-use mathlib.Core.List.{List, [], _∷_}
+use mathlib.Core.List.{List, []}
 use mathlib.Core.Logic.{⊎-elim}
 use mathlib.Core.Path.{_≡_, sym, subst, ap, _∙_}
 use borrow.Author.Tests.{le-leb, lt-leb}
 use lib.Dec.{T, leb, eqb, leb→le}
 use lib.ListN.{length, take, drop}
 use lib.Seq.{take-at}
-use Rattle.definitions.specs.Answers.{Reply, accepted, refused, isAccepted, numberOf, Test, test, filled, counted}
+use Rattle.definitions.specs.Answers.{Reply, accepted, refused, isAccepted, numberOf, answerReply, Test, test, filled, counted}
 use Rattle.definitions.specs.Bounds.{mostScript, mostThreads}
 use Rattle.definitions.specs.Forms as spec
 use Rattle.definitions.specs.PlainLock.{pairsOf}
-use Rattle.definitions.specs.Run.{eventLines, printed, printedFirst, refusedLine, runOutputOf, runEntry}
+use Rattle.definitions.specs.Run.{eventLines, printed, printedFirst, refusedLine, runOutputOf, retriesFrom, retriesFirst, runRetries, RunCounts, runEntry}
 use Rattle.definitions.specs.Table.{countFits, fresh, freshEntry}
 use Rattle.definitions.specs.Texts as texts
+use Rattle.definitions.specs.declared.Answer.{Answer}
+use Rattle.definitions.specs.declared.Answer.the-variants as answer
 use Rattle.definitions.specs.declared.Refusal.{Refusal}
 use Rattle.apply.specs.MoveMade.{TestedTable}
 use Rattle.lines.specs.declared.Next.the-variants.{Line}
 use Rattle.printing.specs.Output.{outputOf, Measurable}
 use Rattle.printing.specs.declared.Ending.the-variants.{Refused}
-use Rattle.theory.specs.Outputs.{Delivered}
+use Rattle.theory.specs.Outputs.{answering, Delivered}
 use Rattle.theory.specs.Tables.{forbiddenCount}
 use Rattle.script.specs.Records.{Roomy, Begun, Recorded}
 use Rattle.script.specs.declared.Ran.{Ran}
 use Rattle.runs.proofs.Suffices.{suffices}
 use Rattle.theory.proofs.Bytes.{fresh-table}
 use Rattle.theory.proofs.Lengths.{fresh-length}
-use Rattle.theory.proofs.LineTurns.{first-printed}
-use Rattle.theory.proofs.Outputs.{turned-down, whole, with-tests}
+use Rattle.theory.proofs.LineTurns.{first-printed, first-retries}
+use Rattle.theory.proofs.Outputs.{turned-down, whole, with-answer}
 use Rattle.theory.proofs.Quantifiers.{howMany-none}
 use Rattle.theory.proofs.Replies.{failed, pass, no-test}
 use Rattle.theory.proofs.SoundKept.{fresh-is-sound}
@@ -40,18 +42,32 @@ use Rattle.theory.proofs.Tests.{and-r, true-T, either}
 module _ (script out : List ℕ) where
   pub too-long : mostScript < length script → Delivered (runEntry script) out out (refused 8 0)
   too-long h =
-      turned-down (runEntry script) out 0 8 0
-      (failed (test 8 (leb (length script) mostScript)) [] 0 (subst (λ (b : Bool). T (not b)) (sym (lt-leb (length script) mostScript h)) tt))
+      turned-down (runEntry script) out (runEntry script .answer) 8 0
+      (failed (test 8 (leb (length script) mostScript)) [] (runEntry script .answer) (subst (λ (b : Bool). T (not b)) (sym (lt-leb (length script) mostScript h)) tt))
 
-  module _ (short : length script ≤ mostScript) {history : List ℕ} {ran : Ran} (r : Recorded (runOutputOf script) history ran) where
+  module _ (short : length script ≤ mostScript) {history : List ℕ} {ran : Ran} (r : Recorded (runOutputOf script) (runRetries (texts.linesOf script)) history ran) where
     pub measurable : Measurable (take (ran .shown) history) (ran .ending)
     measurable = record { short = rw (← r .prints) (suffices script short) }
 
-    -- the output printed is the one promised
-    pub run-printed : {out′ : List ℕ} {a : Reply ℕ} → Delivered (counted [] (outputOf (take (ran .shown) history) (ran .ending))) out out′ a → Delivered (runEntry script) out out′ a
-    run-printed {out′} {a} p =
-        with-tests (test 8 (leb (length script) mostScript) ∷ []) (pass _ [] (true-T _ (le-leb (length script) mostScript short)) no-test)
-        (subst (λ (text : List ℕ). Delivered (counted [] text) out out′ a) (sym (r .prints)) p)
+    -- what a run answers beside a number of bytes
+    abbrev counts : ℕ → RunCounts
+    counts bytes = record { bytes = bytes; retries = ran .retries }
+
+    -- the output printed is the one promised, and so is the answer
+    run-answered : {out′ : List ℕ} {a : Reply ℕ} → Delivered (counted [] (outputOf (take (ran .shown) history) (ran .ending))) out out′ a → Delivered (runEntry script) out out′ (answering counts a)
+    run-answered {out′} {a} p =
+        let text = outputOf (take (ran .shown) history) (ran .ending) in
+        with-answer counts (counted [] text) (runEntry script) no-test (pass _ [] (true-T _ (le-leb (length script) mostScript short)) no-test) (r .prints)
+        (λ i. record { bytes = length (r .prints i); retries = r .counts i }) p
+
+    -- in either case of what the printing answers
+    pub run-printed : {out′ : List ℕ} {a : Answer} (n : ℕ) → a ≡ answer.Done n → Delivered (counted [] (outputOf (take (ran .shown) history) (ran .ending))) out out′ (answerReply a)
+        → Delivered (runEntry script) out out′ (accepted (counts n))
+    run-printed {out′} n e p = subst (λ (x : Answer). Delivered (runEntry script) out out′ (answering counts (answerReply x))) e (run-answered p)
+
+    pub run-refused : {out′ : List ℕ} {a : Answer} (x : Refusal) (place : ℕ) → a ≡ answer.Refused x place
+        → Delivered (counted [] (outputOf (take (ran .shown) history) (ran .ending))) out out′ (answerReply a) → Delivered (runEntry script) out out′ (refused (numberOf x) place)
+    run-refused {out′} x place e p = subst (λ (y : Answer). Delivered (runEntry script) out out′ (answering counts (answerReply y))) e (run-answered p)
 
 -- ---- the fresh table
 
@@ -103,11 +119,11 @@ module _ (n : ℕ) {place place′ : List ℕ} (long : length place ≡ 603) {a 
 -- ---- a run for a number of threads
 
 module _ (n : ℕ) (ls : List texts.Line) where
-  pub from-bad : countFits n ≡ false → printedFirst (spec.threads n) ls ≡ refusedLine 1 1
-  from-bad e = first-printed n ls ∙ rw e
+  pub from-bad : countFits n ≡ false → (printedFirst (spec.threads n) ls ≡ refusedLine 1 1) × (retriesFirst (spec.threads n) ls ≡ 0)
+  from-bad e = (first-printed n ls ∙ rw e, first-retries n ls ∙ rw e)
 
-  pub from-fresh : countFits n ≡ true → printedFirst (spec.threads n) ls ≡ printed (fresh n) 2 0 ls
-  from-fresh e = first-printed n ls ∙ rw e
+  pub from-fresh : countFits n ≡ true → (printedFirst (spec.threads n) ls ≡ printed (fresh n) 2 0 ls) × (retriesFirst (spec.threads n) ls ≡ retriesFrom (fresh n) ls)
+  from-fresh e = (first-printed n ls ∙ rw e, first-retries n ls ∙ rw e)
 
 pub begins-fresh : {script : List ℕ} {start : ℕ} {history : List ℕ} (n : ℕ) → start ≤ length script → Roomy script history → (table : List ℕ) → countFits n ≡ true → table ≡ fresh n
     → Begun script start table history
@@ -116,10 +132,12 @@ begins-fresh n s r table e f = rw f (record { starts = s; room = r; tested = fre
 -- ---- what a run leaves
 
 -- it is stopped at its first line
-pub stopped-first : {output history : List ℕ} (x : Refusal) {ran : Ran} → output ≡ refusedLine (numberOf x) 1 → ran ≡ record { shown = 0; ending = Refused x 1 } → Recorded output history ran
+pub stopped-first : {output : List ℕ} {retries : ℕ} {history : List ℕ} (x : Refusal) {ran : Ran} → (output ≡ refusedLine (numberOf x) 1) × (retries ≡ 0)
+    → ran ≡ record { shown = 0; retries = 0; ending = Refused x 1 } → Recorded output retries history ran
 unfolding pairsOf eventLines
-stopped-first x e r = rw r (record { fits = omega arith; prints = e })
+stopped-first x (e, none) r = rw r (record { fits = omega arith; prints = e; counts = none })
 
--- the same output under another name
-pub recorded-as : {output output′ history : List ℕ} {ran : Ran} → output ≡ output′ → Recorded output′ history ran → Recorded output history ran
-recorded-as e r = rw e r
+-- the same output and count under other names
+pub recorded-as : {output output′ : List ℕ} {retries retries′ : ℕ} {history : List ℕ} {ran : Ran} → (output ≡ output′) × (retries ≡ retries′)
+    → Recorded output′ retries′ history ran → Recorded output retries history ran
+recorded-as (e, f) r = record { fits = r .fits; prints = e ∙ r .prints; counts = f ∙ r .counts }

@@ -1,8 +1,8 @@
--- What is printed from a place of the script on: by what stands there, then by the turn of its line.
+-- What is printed from a place of the script on, and how many retries are made: by what stands there, then by the turn of its line.
 use Prim.Native.Nat.{ℕ, suc, _+_, _-_}
-use native.Mathlib.Nat.{add-zero}
+use native.Mathlib.Nat.{add-zero, zero-add}
 use native.Mathlib.Numerals.{add-one}
-use mathlib.Core.Bool.{true}
+use mathlib.Core.Bool.{true, cond}
 use mathlib.Core.List.{List, _++_}
 use mathlib.Core.Path.{_≡_, refl, sym, subst, ap, _∙_}
 use lib.Dec.{T}
@@ -11,10 +11,10 @@ use Rattle.definitions.specs.Answers.{answered}
 use Rattle.definitions.specs.Forms.{formOf}
 use Rattle.definitions.specs.Moves.{moveTable}
 use Rattle.definitions.specs.PlainLock.{pairsOf}
-use Rattle.definitions.specs.Run.{Turn, stops, passes, makes, turnOf, eventLine, eventLines, printed, stepsLine, refusedLine}
+use Rattle.definitions.specs.Run.{Turn, stops, passes, makes, turnOf, eventLine, eventLines, printed, stepsLine, refusedLine, retriesFrom}
 use Rattle.definitions.specs.Texts.{linesOf}
 use Rattle.lines.specs.Lines.{LineAt, UnendedAt, DoneAt}
-use Rattle.turns.specs.Steps.{passesOn, added, tableBehind, movesMade}
+use Rattle.turns.specs.Steps.{passesOn, added, tableBehind, movesMade, retriesMade}
 use Rattle.script.proofs.Histories.{linesIn, pair-line}
 
 -- what the line from `from` to `end` does to the run
@@ -41,7 +41,7 @@ module _ (script : List ℕ) (from : ℕ) (table : List ℕ) (line steps : ℕ) 
         elim t [
           | stops number ↦ refusedLine number line
           | passes ↦ printed table (suc line) steps (linesOf (drop (end + 1) script))
-          | makes r seen ↦ eventLine (r .thread) seen ++ printed (moveTable table r) (suc line) (suc steps) (linesOf (drop (end + 1) script))
+          | makes r answer ↦ eventLine (r .thread) (answer .seen) ++ printed (moveTable table r) (suc line) (suc steps) (linesOf (drop (end + 1) script))
         ]
 
     by-turn : (t : Turn) → turnAt script table from end ≡ t → printedAt ≡ following t
@@ -65,4 +65,42 @@ module _ (script : List ℕ) (from : ℕ) (table : List ℕ) (line steps : ℕ) 
             → printedAt ≡ linesIn (added t) ++ printed (tableBehind table t) (suc line) (steps + movesMade t) (linesOf (drop (end + 1) script))
         by (stops number) e g = absurd (subst T (sym g) tt)
         by passes e g = rw add-zero (by-turn passes e)
-        by (makes r seen) e g = rw (add-one, pair-line) (by-turn (makes r seen) e)
+        by (makes r answer) e g = rw (add-one, pair-line) (by-turn (makes r answer) e)
+
+module _ (script : List ℕ) (from : ℕ) (table : List ℕ) where
+  -- the retries of the moves made from here on
+  abbrev pub retriesAt : ℕ
+  retriesAt = retriesFrom table (linesOf (drop from script))
+
+  pub none-done : DoneAt script from → retriesAt ≡ 0
+  unfolding retriesFrom
+  none-done d = ap (retriesFrom table) (d .lines)
+
+  pub none-unended : UnendedAt script from → retriesAt ≡ 0
+  unfolding retriesFrom answered
+  none-unended u = ap (retriesFrom table) (u .lines)
+
+  module _ (end : ℕ) (l : LineAt script from end) where
+    abbrev counting : Turn → ℕ
+    counting t =
+        elim t [
+          | stops number ↦ 0
+          | passes ↦ retriesFrom table (linesOf (drop (end + 1) script))
+          | makes r answer ↦ cond (answer .retry) 1 0 + retriesFrom (moveTable table r) (linesOf (drop (end + 1) script))
+        ]
+
+    counted-by : (t : Turn) → turnAt script table from end ≡ t → retriesAt ≡ counting t
+    unfolding retriesFrom
+    counted-by t e = ap (retriesFrom table) (l .lines) ∙ ap counting e
+
+    pub none-stop : (number : ℕ) → turnAt script table from end ≡ stops number → retriesAt ≡ 0
+    none-stop number e = counted-by (stops number) e
+
+    pub counted-pass : passesOn (turnAt script table from end) ≡ true
+        → retriesAt ≡ retriesMade (turnAt script table from end) + retriesFrom (tableBehind table (turnAt script table from end)) (linesOf (drop (end + 1) script))
+    counted-pass g = by (turnAt script table from end) refl g
+      where
+        by : (t : Turn) → turnAt script table from end ≡ t → passesOn t ≡ true → retriesAt ≡ retriesMade t + retriesFrom (tableBehind table t) (linesOf (drop (end + 1) script))
+        by (stops number) e g = absurd (subst T (sym g) tt)
+        by passes e g = rw zero-add (counted-by passes e)
+        by (makes r answer) e g = counted-by (makes r answer) e

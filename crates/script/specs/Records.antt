@@ -1,9 +1,12 @@
--- What a run is started from, and the history that it leaves: its lines, with the last one, are the whole output.
+-- What a run is started from, and the history that it leaves: its lines, with the last one, are the whole output; and the retries that it counts.
 use Prim.Native.Nat.{ℕ, _+_, _*_, _≤_, _<_}
 use mathlib.Core.List.{List}
 use mathlib.Core.Path.{_≡_}
 use lib.ListN.{length, take}
 use Rattle.definitions.specs.Bounds.{mostScript}
+use Rattle.definitions.specs.Forms.{Form}
+use Rattle.definitions.specs.Run.{printed, printedFirst, runOutputOf, retriesFrom, retriesFirst, runRetries}
+use Rattle.definitions.specs.Texts.{Line, linesOf}
 use Rattle.apply.specs.MoveMade.{TestedTable}
 use Rattle.printing.specs.Output.{outputOf}
 use Rattle.script.specs.declared.Ran.{Ran}
@@ -19,7 +22,18 @@ pub record Begun (script : List ℕ) (start : ℕ) (table history : List ℕ) : 
   pub room : Roomy script history
   pub tested : TestedTable table 0
 
--- the history stands at the front, and the output is its lines and the last one
-pub record Recorded (output history : List ℕ) (ran : Ran) : Type 0 where
+-- the history stands at the front, the output is its lines and the last one, and the retries were counted
+pub record Recorded (output : List ℕ) (retries : ℕ) (history : List ℕ) (ran : Ran) : Type 0 where
   pub fits : ran .shown ≤ length history
   pub prints : output ≡ outputOf (take (ran .shown) history) (ran .ending)
+  pub counts : retries ≡ ran .retries
+
+-- by the lines behind the first on a table, by the form of the first line and those, and by the whole script
+abbrev pub RecordedLines : List ℕ → List Line → List ℕ → Ran → Type 0
+RecordedLines table ls = Recorded (printed table 2 0 ls) (retriesFrom table ls)
+
+abbrev pub RecordedFirst : Form → List Line → List ℕ → Ran → Type 0
+RecordedFirst form ls = Recorded (printedFirst form ls) (retriesFirst form ls)
+
+abbrev pub RecordedRun : List ℕ → List ℕ → Ran → Type 0
+RecordedRun script = Recorded (runOutputOf script) (runRetries (linesOf script))

@@ -1,16 +1,16 @@
 -- Lists of requests to the record `Table` that are accepted throughout (`Leads`), one behind the other; lists from the fresh table's bytes as lists from its record;
 -- one request by its effect (`makes`); and the numbers of accepted requests.
-use Prim.Native.Nat.{ℕ, _≤_, _<_, _^_}
+use Prim.Native.Nat.{ℕ, _+_, _≤_, _<_, _^_}
 use native.Mathlib.Omega.{arith}
 use mathlib.Core.Bool.{true, not}
 use mathlib.Core.List.{List, [], _∷_, _++_, append-assoc, append-nil}
 use mathlib.Core.Path.{_≡_, refl, sym, subst, ap, _∙_}
 use lib.Dec.{T}
-use Rattle.definitions.specs.Answers.{accepted, Seen}
+use Rattle.definitions.specs.Answers.{accepted}
 use Rattle.definitions.specs.Bounds.{mostThreads, lastMove}
-use Rattle.definitions.specs.Chains.{pairFor, historyIn, afterIn, acceptsAllIn, history, tableAfter, acceptsAll, AllFit16}
+use Rattle.definitions.specs.Chains.{pairSeen, pairFor, historyIn, afterIn, retriesIn, acceptsAllIn, history, retries, tableAfter, acceptsAll, AllFit16}
 use Rattle.definitions.specs.Codes.{go}
-use Rattle.definitions.specs.Moves.{ask, Effect, goEffect, effect, targetFits, mustWait, stepReply, accepts, replyIn, stepIn, acceptsIn}
+use Rattle.definitions.specs.Moves.{ask, Effect, goEffect, effect, targetFits, mustWait, moveAnswer, stepReply, accepts, replyIn, stepIn, acceptsIn}
 use Rattle.definitions.specs.Phases.{hasMove}
 use Rattle.definitions.specs.PlainLock.{Pair}
 use Rattle.definitions.specs.Sound.{sound}
@@ -20,7 +20,7 @@ use Rattle.theory.proofs.Bytes.{byte-keeps, fresh-table, fresh-sized}
 use Rattle.theory.proofs.Replies.{accepted-is, all-passed}
 use Rattle.theory.proofs.RequestNumbers.{NumbersFit, AllNumbersFit, target-below}
 use Rattle.theory.proofs.SoundSteps.{kept-sound}
-use Rattle.theory.proofs.Storages.{reply-same, accepts-e, accepts-i, accepted-stores, history-same, after-same, accepts-all-same}
+use Rattle.theory.proofs.Storages.{reply-same, accepts-e, accepts-i, accepted-stores, history-same, after-same, retries-same, accepts-all-same}
 use Rattle.theory.proofs.Tests.{and-l, and-r, and-i}
 use Rattle.theory.proofs.Ways.{Accepted, accepted-e, accepted-i}
 use Rattle.theory.proofs.Writes.{applied-keeps}
@@ -34,20 +34,19 @@ module _ (n : ℕ) (least : 1 ≤ n) (most : n ≤ mostThreads) (rs : List Reque
   pub after-fresh : tableOf (tableAfter (fresh n) rs) ≡ afterIn itself (freshTable n) rs
   after-fresh = after-same byteTable byte-keeps (fresh n) rs (fresh-sized n least most) ∙ ap (λ (s : Table). afterIn itself s rs) (fresh-table n)
 
+  pub retries-fresh : retries (fresh n) rs ≡ retriesIn itself (freshTable n) rs
+  retries-fresh = retries-same byteTable byte-keeps (fresh n) rs (fresh-sized n least most) ∙ ap (λ (s : Table). retriesIn itself s rs) (fresh-table n)
+
   pub accepts-fresh : acceptsAll (fresh n) rs ≡ acceptsAllIn itself (freshTable n) rs
   accepts-fresh = accepts-all-same byteTable byte-keeps (fresh n) rs (fresh-sized n least most) ∙ ap (λ (s : Table). acceptsAllIn itself s rs) (fresh-table n)
 
 -- ---- one request
 
--- the pair that is seen of an accepted request, if there is one
-abbrev pub pairSeen : ℕ → Seen → List Pair
-pairSeen thread seen = pairFor thread (accepted seen)
-
 -- an accepted request: its effect is what it shows and what it writes
 module _ (s : Table) (r : Request) (t : T (accepts s r)) where
-  pub own-reply : replyIn itself s r ≡ accepted (effect s r .shows)
+  pub own-reply : replyIn itself s r ≡ accepted (moveAnswer s r)
   unfolding stepReply
-  own-reply = reply-same itself s r tt ∙ all-passed (effect s r .shows) _ (subst T (accepted-is (effect s r .shows) _) t)
+  own-reply = reply-same itself s r tt ∙ all-passed (moveAnswer s r) _ (subst T (accepted-is (moveAnswer s r) _) t)
 
   pub own-step : stepIn itself s r ≡ applied s (effect s r .writes)
   own-step = accepted-stores itself s r (accepts-i itself s r tt t)
@@ -99,6 +98,11 @@ after-append : (s : Table) (rs qs : List Request) → afterIn itself s (rs ++ qs
 unfolding afterIn
 after-append s [] qs = refl
 after-append s (r ∷ rs) qs = after-append (stepIn itself s r) rs qs
+
+pub retries-append : (s : Table) (rs qs : List Request) → retriesIn itself s (rs ++ qs) ≡ retriesIn itself s rs + retriesIn itself (afterIn itself s rs) qs
+unfolding retriesIn afterIn
+retries-append s [] qs = omega arith
+retries-append s (r ∷ rs) qs = omega (arith, retries-append (stepIn itself s r) rs qs)
 
 -- one list of requests behind another
 pub both : {s t u : Table} {rs qs : List Request} {h k : List Pair} → Leads s rs h t → Leads t qs k u → Leads s (rs ++ qs) (h ++ k) u

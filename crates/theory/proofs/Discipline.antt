@@ -6,16 +6,16 @@
 -- For every table and every request with any numbers.
 use Prim.Native.Nat.{ℕ, _+_, _≤_}
 use native.Mathlib.Omega.{arith}
-use mathlib.Core.Bool.{Bool, true, cond, not, _&&_, _||_}
+use mathlib.Core.Bool.{Bool, true, false, cond, not, _&&_, _||_}
 use mathlib.Core.List.{List, [], _∷_}
 use mathlib.Core.Logic.{_⊎_, inl, inr, ⊎-elim}
 use mathlib.Core.Path.{_≡_, refl, sym, subst, ap, _∙_}
 use lib.Dec.{T, leb, ltb, eqb, eqb→eq}
 use lib.ListN.{getD}
-use Rattle.definitions.specs.Answers.{Reply, accepted, refused, leaves, Seen, Test, test, answered}
+use Rattle.definitions.specs.Answers.{Reply, accepted, refused, leaves, MoveAnswer, moved, Test, test, answered}
 use Rattle.definitions.specs.Bounds.{lastMove}
 use Rattle.definitions.specs.Codes.{go, callShared, hold}
-use Rattle.definitions.specs.Moves.{Effect, effect, goEffect, targetFits, takesMutex, mustWait, requestTests, stepReply, step, acceptsIn, moveReply, moveTable}
+use Rattle.definitions.specs.Moves.{Effect, effect, goEffect, isRetry, targetFits, takesMutex, mustWait, requestTests, moveAnswer, stepReply, step, acceptsIn, moveReply, moveTable}
 use Rattle.definitions.specs.Phases.{hasMove}
 use Rattle.definitions.specs.Sound.{sound, opened}
 use Rattle.definitions.specs.Table.{Table, Write, mutex≔, target≔, phase≔, busy≔, forbidden≔, appliedOne, applied, phaseAt, busyAt, forbiddenAt, tableOf, byteTable}
@@ -32,7 +32,7 @@ use Rattle.theory.proofs.Replies.{passed}
 use Rattle.theory.proofs.Soundness.{Sound, sound-e}
 use Rattle.theory.proofs.Stages.{between-e, between-i, opened-holds, opened-apart}
 use Rattle.theory.proofs.Storages.{accepts-e, accepted-stores, accepted-table, refused-stays, reply-same, table-step}
-use Rattle.theory.proofs.Tests.{T-true, eq-T, and-l, and-r, and-i, or-e, or-l, or-r, decided, no-both, not-i}
+use Rattle.theory.proofs.Tests.{T-true, T-false, eq-T, and-l, and-r, and-i, or-e, or-l, or-r, decided, no-both, not-i}
 use Rattle.theory.proofs.Ways.{Accepted, accepted-e, finds-free, phases-1, phases-6}
 
 -- ---- who writes what
@@ -287,6 +287,19 @@ own-effect s r (calls e) = rw e
 own-effect s r (goes e b) = rw e (own-go s (r .thread) b)
 own-effect s r (holds-elsewhere e n) = rw e
 
+-- whether it is a retry is told by what it sees
+own-retry : (s : Table) (r : Request) → Local (r .mv) (s .phase (r .thread)) → isRetry s r ≡ isRetry (ownOf s (r .thread)) r
+unfolding isRetry
+own-retry s r (calls e) = rw e
+own-retry s r (goes e b) =
+    let p = s .phase (r .thread) in
+    let not-11 : eqb p 11 ≡ false = T-false (eqb p 11) (not-i (eqb p 11) (λ t. let q = eqb→eq p 11 t in let x = between-e _ _ p b in omega arith)) in
+    rw (e, not-11)
+own-retry s r (holds-elsewhere e n) = rw e
+
+own-answer : (s : Table) (r : Request) → Local (r .mv) (s .phase (r .thread)) → moveAnswer s r ≡ moveAnswer (ownOf s (r .thread)) r
+own-answer s r t = λ k. moved (own-effect s r t k .shows) (own-retry s r t k)
+
 -- refusal 7 isn't for it
 reader-goes : (s : Table) (r : Request) (mutex : ℕ) → Local (r .mv) (s .phase (r .thread)) → not (mustWait (s .phase (r .thread)) mutex (r .mv)) ≡ true
 reader-goes s r mutex m =
@@ -305,15 +318,15 @@ own-tests s r t =
     ∷ [])
     (reader-goes s r (s .mutex) t ∙ sym (reader-goes s r 0 t))
 
-abbrev ownReply : Table → Request → Reply Seen
-ownReply o r = answered (requestTests o r) (effect o r .shows)
+abbrev ownReply : Table → Request → Reply MoveAnswer
+ownReply o r = answered (requestTests o r) (moveAnswer o r)
 
 reader-reply : (s : Table) (r : Request) → T (sound s) → Local (r .mv) (s .phase (r .thread)) → stepReply s r ≡ ownReply (ownOf s (r .thread)) r
 unfolding stepReply
 reader-reply s r z t =
-    passed (test 2 (sound s)) (requestTests s r) (effect s r .shows) z
-    ∙ (ap (λ (ts : List Test). answered ts (effect s r .shows)) (own-tests s r t)
-    ∙ ap (λ (x : Effect). answered (requestTests (ownOf s (r .thread)) r) (x .shows)) (own-effect s r t))
+    passed (test 2 (sound s)) (requestTests s r) (moveAnswer s r) z
+    ∙ (ap (λ (ts : List Test). answered ts (moveAnswer s r)) (own-tests s r t)
+    ∙ ap (answered (requestTests (ownOf s (r .thread)) r)) (own-answer s r t))
 
 abbrev ownStep : Table → Request → Table → Table
 ownStep o r s = leaves (ownReply o r) (applied s (effect o r .writes)) s
@@ -321,7 +334,7 @@ ownStep o r s = leaves (ownReply o r) (applied s (effect o r .writes)) s
 reader-step : (s : Table) (r : Request) → T (sound s) → Local (r .mv) (s .phase (r .thread)) → step s r ≡ ownStep (ownOf s (r .thread)) r s
 unfolding step
 reader-step s r z t =
-    ap (λ (x : Reply Seen). leaves x (applied s (effect s r .writes)) s) (reader-reply s r z t)
+    ap (λ (x : Reply MoveAnswer). leaves x (applied s (effect s r .writes)) s) (reader-reply s r z t)
     ∙ ap (λ (x : Effect). leaves (ownReply (ownOf s (r .thread)) r) (applied s (x .writes)) s) (own-effect s r t)
 
 -- the same writes to tables that agree
@@ -342,8 +355,8 @@ agree-all i (w ∷ ws) s t a = agree-all i ws (appliedOne s w) (appliedOne t w) 
 agree-step : (o s t : Table) (r : Request) → Agree s t (r .thread) → Agree (ownStep o r s) (ownStep o r t) (r .thread)
 agree-step o s t r a = by (ownReply o r)
   where
-    by : (x : Reply Seen) → Agree (leaves x (applied s (effect o r .writes)) s) (leaves x (applied t (effect o r .writes)) t) (r .thread)
-    by (accepted seen) = agree-all (r .thread) (effect o r .writes) s t a
+    by : (x : Reply MoveAnswer) → Agree (leaves x (applied s (effect o r .writes)) s) (leaves x (applied t (effect o r .writes)) t) (r .thread)
+    by (accepted answer) = agree-all (r .thread) (effect o r .writes) s t a
     by (refused number place) = a
 
 -- the same reply and the same three bytes, on records

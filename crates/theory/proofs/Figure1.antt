@@ -40,7 +40,7 @@ member-at [] k d h = absurd (not-suc-le-zero h)
 member-at (x ∷ xs) zero d h = List·Memᴰ·head refl
 member-at (x ∷ xs) (suc k) d h = List·Memᴰ·tail (member-at xs k d (omega arith))
 
-abbrev arrowAt : ℕ → Arrow
+abbrev pub arrowAt : ℕ → Arrow
 arrowAt k = getD arrows k (record { from = 0; to = 0; shows = quiet; nobodyIn = [] })
 
 module _ (s : Table) (z : Sound s) (i : ℕ) (l : i < s .threads) where
@@ -48,14 +48,14 @@ module _ (s : Table) (z : Sound s) (i : ℕ) (l : i < s .threads) where
   abbrev nodesWith : ℕ → List ℕ
   nodesWith v = listOf (s .threads) (λ j. nodeOf (update (s .phase) i v j))
 
-  nodes-set : (v : ℕ) → nodesWith v ≡ set (nodesOf s) i (nodeOf v)
+  pub nodes-set : (v : ℕ) → nodesWith v ≡ set (nodesOf s) i (nodeOf v)
   unfolding nodesOf
   nodes-set v =
       listOf-set (s .threads) (λ j. nodeOf (s .phase j)) (λ j. nodeOf (update (s .phase) i v j)) i l (λ j h. ap nodeOf (update-other (s .phase) i v j h))
       ∙ ap (λ (x : ℕ). set (listOf (s .threads) (λ j. nodeOf (s .phase j))) i (nodeOf x)) (update-same (s .phase) i v i refl)
 
   -- it stays in its node
-  stays : (p v : ℕ) → s .phase i ≡ p → nodeOf p ≡ nodeOf v → nodesWith v ≡ nodesOf s
+  pub stays : (p v : ℕ) → s .phase i ≡ p → nodeOf p ≡ nodeOf v → nodesWith v ≡ nodesOf s
   unfolding nodesOf
   stays p v e same = listOf-same (s .threads) (λ j. nodeOf (update (s .phase) i v j)) (λ j. nodeOf (s .phase j)) (λ j k. by j (same? j i))
     where

@@ -19,6 +19,7 @@ pub mod Outputs
 pub mod Writes
 pub mod Columns
 pub mod Sums
+pub mod FlagCounts
 pub mod Places
 pub mod Bytes
 pub mod Ways

@@ -6,8 +6,8 @@ use mathlib.Core.Logic.{⊎-elim}
 use mathlib.Core.Path.{_≡_, refl, sym, subst, ap, _∙_}
 use Rattle.definitions.specs.Answers.{Reply, accepted, refused, Test, answered}
 use Rattle.definitions.specs.Forms.{threads, request}
-use Rattle.definitions.specs.Moves.{numberTests, phaseTests, effect, replyIn, moveReply}
-use Rattle.definitions.specs.Run.{printed, printedFor, printedFirst, refusedLine, Turn, stops, turnFor, turnSaid, turnOf}
+use Rattle.definitions.specs.Moves.{numberTests, phaseTests, moveAnswer, replyIn, moveReply}
+use Rattle.definitions.specs.Run.{printed, printedFor, printedFirst, refusedLine, Turn, stops, turnFor, turnSaid, turnOf, retriesFrom, retriesFor, retriesFirst}
 use Rattle.definitions.specs.Table.{tableOf, countFits, fresh}
 use Rattle.definitions.specs.Texts.{Line}
 use Rattle.definitions.specs.declared.Request.{Request}
@@ -20,6 +20,15 @@ unfolding printedFirst answered
 first-printed n ls = by (countFits n)
   where
     by : (b : Bool) → printedFor (cond b (accepted n) (refused 1 1)) ls ≡ cond b (printed (fresh n) 2 0 ls) (refusedLine 1 1)
+    by true = refl
+    by false = refl
+
+-- and its retries
+pub first-retries : (n : ℕ) (ls : List Line) → retriesFirst (threads n) ls ≡ cond (countFits n) (retriesFrom (fresh n) ls) 0
+unfolding retriesFirst answered
+first-retries n ls = by (countFits n)
+  where
+    by : (b : Bool) → retriesFor (cond b (accepted n) (refused 1 1)) ls ≡ cond b (retriesFrom (fresh n) ls) 0
     by true = refl
     by false = refl
 
@@ -43,7 +52,7 @@ module _ (table : List ℕ) (r : Request) where
 
   module _ (s : SoundBytes table) where
     -- what the move answers on a sound table
-    pub move-answers : moveReply table r ≡ answered (numbers ++ later) (effect (tableOf table) r .shows)
+    pub move-answers : moveReply table r ≡ answered (numbers ++ later) (moveAnswer (tableOf table) r)
     unfolding replyIn
     move-answers = passed _ _ _ (s .is-sized) ∙ passed _ _ _ (s .is-sound)
 
@@ -51,5 +60,5 @@ module _ (table : List ℕ) (r : Request) where
     pub request-turn : turnOf table (request r) ≡ turnFor r (moveReply table r)
     request-turn =
         request-either (λ (t : Turn). t ≡ turnFor r (moveReply table r))
-        (λ number place e. sym (ap (turnFor r) (move-answers ∙ in-front (effect (tableOf table) r .shows) (r ∷ []) numbers later number place e)))
+        (λ number place e. sym (ap (turnFor r) (move-answers ∙ in-front (moveAnswer (tableOf table) r) (r ∷ []) numbers later number place e)))
         refl

@@ -13,7 +13,7 @@ use lib.Seq.{getD-at, getD-set-same, getD-set-other, ext-getD, take-all}
 use Rattle.definitions.specs.Nodes.{anyIn}
 use Rattle.definitions.specs.Threads.{listOf, among}
 use Rattle.theory.proofs.Quantifiers.{below-suc}
-use Rattle.theory.proofs.Tests.{or-e, no-both, not-i, same?}
+use Rattle.theory.proofs.Tests.{or-e, or-l, or-r, no-both, not-i, same?}
 
 pub length-listOf {ℓ} : {A : Type ℓ} (n : ℕ) (f : ℕ → A) → length (listOf n f) ≡ n
 unfolding listOf
@@ -59,6 +59,19 @@ pub anyIn-listOf : (wanted : List ℕ) (n : ℕ) (f : ℕ → ℕ) → ((j : ℕ
 anyIn-listOf wanted n f h =
     anyIn-none wanted (listOf n f)
     (λ j l. let k : j < n = subst (λ (m : ℕ). j < m) (length-listOf n f) l in subst (λ (x : ℕ). T (not (among x wanted))) (sym (getD-listOf n f j 0 k)) (h j k))
+
+-- and the other way: where nobody's is, no single entry is
+anyIn-at : (wanted nodes : List ℕ) → T (not (anyIn wanted nodes)) → (j : ℕ) → j < length nodes → T (not (among (getD nodes j 0) wanted))
+unfolding anyIn
+anyIn-at wanted [] t j l = absurd (not-suc-le-zero l)
+anyIn-at wanted (node ∷ nodes) t zero l = not-i (among node wanted) (λ u. no-both (among node wanted || anyIn wanted nodes) (or-l (among node wanted) (anyIn wanted nodes) u) t)
+anyIn-at wanted (node ∷ nodes) t (suc j) l =
+    anyIn-at wanted nodes (not-i (anyIn wanted nodes) (λ u. no-both (among node wanted || anyIn wanted nodes) (or-r (among node wanted) (anyIn wanted nodes) u) t)) j (omega arith)
+
+-- so no thread's is
+pub nobody-listOf : (wanted : List ℕ) (n : ℕ) (f : ℕ → ℕ) → T (not (anyIn wanted (listOf n f))) → (j : ℕ) → j < n → T (not (among (f j) wanted))
+nobody-listOf wanted n f t j l =
+    subst (λ (x : ℕ). T (not (among x wanted))) (getD-listOf n f j 0 l) (anyIn-at wanted (listOf n f) t j (subst (λ (m : ℕ). j < m) (sym (length-listOf n f)) l))
 
 -- a list from n on, as it is lent
 pub from-on : (xs : List ℕ) (n : ℕ) → take (length xs - n) (drop n xs) ≡ drop n xs

@@ -5,13 +5,13 @@ use native.Mathlib.Numerals.{add-one}
 use native.Mathlib.Omega.{arith}
 use mathlib.Core.Bool.{Bool, true, false, cond}
 use mathlib.Core.List.{List, [], _∷_, _++_, append-assoc}
-use mathlib.Core.Path.{_≡_, sym, ap, _∙_}
+use mathlib.Core.Path.{_≡_, refl, sym, ap, _∙_}
 use borrow.Author.Tests.{le-leb, lt-leb}
 use lib.Dec.{T, leb, leb→le}
 use lib.ListN.{length, take, drop, set, length-append, length-take, length-drop, take-append-drop}
 use lib.Seq.{take-at, drop-drop, drop-append-add, set-split}
 use Rattle.definitions.specs.Answers.{Reply, accepted, refused, leaves, Test, passesAll, answered, filled, Delivery, counted, roomTest, deliveryReply, deliveryOutput}
-use Rattle.theory.specs.Outputs.{putAt, RoomAt, PutAt, Delivered}
+use Rattle.theory.specs.Outputs.{answering, putAt, RoomAt, PutAt, Delivered}
 use Rattle.theory.proofs.Replies.{peel, behind, in-front}
 use Rattle.theory.proofs.TestLists.{passes-split, answered-e}
 
@@ -127,6 +127,33 @@ unfolding deliveryReply deliveryOutput
 with-tests tests {text} {out} tested p =
     let e = behind (length text) tests (roomTest text out ∷ []) tested in
     record { reply = p .reply ∙ sym e; output = p .output ∙ ap (λ (x : Reply ℕ). leaves x (filled out text) out) (sym e) }
+
+-- two entries whose tests are passed deliver the same text alike, and the answer of the one puts that of the other in other words
+pub with-answer : {A B : Type 0} (f : A → B) (d : Delivery A) (e : Delivery B) {out after : List ℕ} {r : Reply A} → T (passesAll (d .tests)) → T (passesAll (e .tests))
+    → e .text ≡ d .text → e .answer ≡ f (d .answer) → Delivered d out after r → Delivered e out after (answering f r)
+unfolding deliveryOutput
+with-answer {A} {B} f d e {out} tested tested′ text answer p =
+    let fits = leb (length (d .text)) (length out) in
+    let was = reply-by d out tested fits refl in
+    let now = reply-by e out tested′ fits (ap (λ (xs : List ℕ). leb (length xs) (length out)) text) ∙ ap (λ (b : B). cond fits (accepted b) (refused 12 0)) answer in
+    record {
+      reply = ap (answering f) (p .reply ∙ was) ∙ (same fits ∙ sym now);
+      output =
+          p .output
+          ∙ (ap (λ (x : Reply A). leaves x (filled out (d .text)) out) was
+          ∙ (left fits
+          ∙ (ap (λ (x : Reply B). leaves x (filled out (d .text)) out) (sym now)
+          ∙ ap (λ (xs : List ℕ). leaves (deliveryReply e out) (filled out xs) out) (sym text))));
+    }
+  where
+    same : (b : Bool) → answering f (cond b (accepted (d .answer)) (refused 12 0)) ≡ cond b (accepted (f (d .answer))) (refused 12 0)
+    same true = refl
+    same false = refl
+
+    left : (b : Bool) → leaves {A = A} (cond b (accepted (d .answer)) (refused 12 0)) (filled out (d .text)) out
+        ≡ leaves {A = B} (cond b (accepted (f (d .answer))) (refused 12 0)) (filled out (d .text)) out
+    left true = refl
+    left false = refl
 
 -- ---- what an accepted answer says
 

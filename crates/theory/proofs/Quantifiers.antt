@@ -64,6 +64,12 @@ module _ (f : ℕ → Bool) where
   howMany-none zero h = refl
   howMany-none (suc n) h = rw (howMany-none n (λ i l. h i (omega arith)), T-false (f n) (h n (omega arith)))
 
+  -- all counted
+  pub howMany-all : (n : ℕ) → ((i : ℕ) → i < n → T (f i)) → howMany n f ≡ n
+  unfolding howMany
+  howMany-all zero h = refl
+  howMany-all (suc n) h = rw (howMany-all n (λ i l. h i (omega arith)), T-true (f n) (h n (omega arith))) (add-one n)
+
   -- a thread's share of the count
   pub howMany-at : (n i : ℕ) → i < n → cond (f i) 1 0 ≤ howMany n f
   unfolding howMany

@@ -1,15 +1,16 @@
 -- A table behaves the same whatever stores it. Of a storage that keeps what is written:
 -- a request gets the reply that the record gives (`reply-same`), leaves what stores the record's step (`table-step`), and what fits still does (`fits-step`);
--- so lists of requests show, leave and accept the same (`history-same`, `after-same`, `accepts-all-same`).
+-- so lists of requests show, leave, retry and accept the same (`history-same`, `after-same`, `retries-same`, `accepts-all-same`).
 -- For every storage, table and request with any numbers.
+use Prim.Native.Nat.{ℕ, _+_}
 use mathlib.Core.Bool.{Bool, not, _&&_}
 use mathlib.Core.List.{List, [], _∷_, _++_}
 use mathlib.Core.Logic.{_⊎_, inl, inr}
 use mathlib.Core.Path.{_≡_, refl, sym, subst, ap, _∙_}
 use lib.Dec.{T}
-use Rattle.definitions.specs.Answers.{Reply, accepted, isAccepted, leaves, Seen, test, answered}
-use Rattle.definitions.specs.Chains.{pairFor, historyIn, afterIn, acceptsAllIn}
-use Rattle.definitions.specs.Moves.{effect, moveTests, stepReply, step, accepts, replyIn, stepIn, acceptsIn}
+use Rattle.definitions.specs.Answers.{Reply, accepted, isAccepted, leaves, MoveAnswer, test, answered}
+use Rattle.definitions.specs.Chains.{pairFor, retryFor, historyIn, afterIn, retriesIn, acceptsAllIn}
+use Rattle.definitions.specs.Moves.{effect, moveTests, moveAnswer, stepReply, step, accepts, replyIn, stepIn, acceptsIn}
 use Rattle.definitions.specs.PlainLock.{Pair}
 use Rattle.definitions.specs.Table.{Table, applied, Storage, itself}
 use Rattle.definitions.specs.declared.Request.{Request}
@@ -27,32 +28,36 @@ own-step : (s : Table) (r : Request) → stepIn itself s r ≡ step s r
 unfolding stepIn step replyIn stepReply answered
 own-step s r = refl
 
+-- the record keeps what is written
+pub own-keeps : Keeps itself
+own-keeps = record { fits = λ s ws f w. tt; writes = λ s ws f w. refl }
+
 module _ {B : Type 0} (S : Storage B) where
   -- ---- replies
 
   -- of what fits
   pub reply-same : (b : B) (r : Request) → T (S .fits b) → replyIn S b r ≡ stepReply (S .table b) r
   unfolding replyIn stepReply
-  reply-same b r t = passed (test 1 (S .fits b)) (moveTests (S .table b) r) (effect (S .table b) r .shows) t
+  reply-same b r t = passed (test 1 (S .fits b)) (moveTests (S .table b) r) (moveAnswer (S .table b) r) t
 
   -- an accepted request is to what fits, and the record accepts it
   pub accepts-e : (b : B) (r : Request) → T (acceptsIn S b r) → T (S .fits b) × T (accepts (S .table b) r)
   unfolding replyIn stepReply
   accepts-e b r t =
       let tests = moveTests (S .table b) r in
-      let x = effect (S .table b) r .shows in
+      let x = moveAnswer (S .table b) r in
       let p = peel (test 1 (S .fits b)) tests (subst T (accepted-is x (test 1 (S .fits b) ∷ tests)) t) in
       (p .0, subst T (sym (accepted-is x tests)) (p .1))
 
   pub accepts-i : (b : B) (r : Request) → T (S .fits b) → T (accepts (S .table b) r) → T (acceptsIn S b r)
-  accepts-i b r f t = subst (λ (x : Reply Seen). T (isAccepted x)) (sym (reply-same b r f)) t
+  accepts-i b r f t = subst (λ (x : Reply MoveAnswer). T (isAccepted x)) (sym (reply-same b r f)) t
 
-  -- its reply is what the move shows
-  pub accepted-reply : (b : B) (r : Request) → T (acceptsIn S b r) → replyIn S b r ≡ accepted (effect (S .table b) r .shows)
+  -- its reply is what the move shows, and whether it was a retry
+  pub accepted-reply : (b : B) (r : Request) → T (acceptsIn S b r) → replyIn S b r ≡ accepted (moveAnswer (S .table b) r)
   unfolding replyIn
   accepted-reply b r t =
       let tests = test 1 (S .fits b) ∷ moveTests (S .table b) r in
-      let x = effect (S .table b) r .shows in
+      let x = moveAnswer (S .table b) r in
       all-passed x tests (subst T (accepted-is x tests) t)
 
   -- ---- what a request leaves
@@ -84,7 +89,7 @@ module _ {B : Type 0} (S : Storage B) where
         by (inl t) = accepted-table b r t ∙ sym (leaves-yes after (S .table b) (stepReply (S .table b) r) (accepts-e b r t .1))
         by (inr t) =
             ap (S .table) (refused-stays b r t)
-            ∙ sym (leaves-no after (S .table b) (stepReply (S .table b) r) (subst (λ (x : Reply Seen). T (not (isAccepted x))) (reply-same b r f) t))
+            ∙ sym (leaves-no after (S .table b) (stepReply (S .table b) r) (subst (λ (x : Reply MoveAnswer). T (not (isAccepted x))) (reply-same b r f) t))
 
     pub fits-step : (b : B) (r : Request) → T (S .fits b) → T (S .fits (stepIn S b r))
     fits-step b r f = by (decided (acceptsIn S b r))
@@ -107,7 +112,7 @@ module _ {B : Type 0} (S : Storage B) where
     unfolding historyIn
     history-same b [] f = refl
     history-same b (r ∷ rs) f =
-        ap (λ (x : Reply Seen). pairFor (r .thread) x ++ historyIn S (stepIn S b r) rs) (same-reply b r f)
+        ap (λ (x : Reply MoveAnswer). pairFor (r .thread) x ++ historyIn S (stepIn S b r) rs) (same-reply b r f)
         ∙ ap (λ (h : List Pair). pairFor (r .thread) (replyIn itself (S .table b) r) ++ h)
         (history-same (stepIn S b r) rs (fits-step b r f) ∙ ap (λ (s : Table). historyIn itself s rs) (next b r f))
 
@@ -116,10 +121,18 @@ module _ {B : Type 0} (S : Storage B) where
     after-same b [] f = refl
     after-same b (r ∷ rs) f = after-same (stepIn S b r) rs (fits-step b r f) ∙ ap (λ (s : Table). afterIn itself s rs) (next b r f)
 
+    pub retries-same : (b : B) (rs : List Request) → T (S .fits b) → retriesIn S b rs ≡ retriesIn itself (S .table b) rs
+    unfolding retriesIn
+    retries-same b [] f = refl
+    retries-same b (r ∷ rs) f =
+        ap (λ (x : Reply MoveAnswer). retryFor x + retriesIn S (stepIn S b r) rs) (same-reply b r f)
+        ∙ ap (λ (k : ℕ). retryFor (replyIn itself (S .table b) r) + k)
+        (retries-same (stepIn S b r) rs (fits-step b r f) ∙ ap (λ (s : Table). retriesIn itself s rs) (next b r f))
+
     pub accepts-all-same : (b : B) (rs : List Request) → T (S .fits b) → acceptsAllIn S b rs ≡ acceptsAllIn itself (S .table b) rs
     unfolding acceptsAllIn
     accepts-all-same b [] f = refl
     accepts-all-same b (r ∷ rs) f =
-        ap (λ (x : Reply Seen). isAccepted x && acceptsAllIn S (stepIn S b r) rs) (same-reply b r f)
+        ap (λ (x : Reply MoveAnswer). isAccepted x && acceptsAllIn S (stepIn S b r) rs) (same-reply b r f)
         ∙ ap (λ (t : Bool). acceptsIn itself (S .table b) r && t)
         (accepts-all-same (stepIn S b r) rs (fits-step b r f) ∙ ap (λ (s : Table). acceptsAllIn itself s rs) (next b r f))

@@ -12,7 +12,8 @@ use mathlib.Core.Path.{_≡_, refl, sym, subst}
 use lib.Dec.{T, eqb, leb→le, le→leb, ltb→lt, lt→ltb, eqb→eq}
 use Rattle.definitions.specs.Bounds.{lastMove, noTarget}
 use Rattle.definitions.specs.Codes.{go, hold}
-use Rattle.definitions.specs.Moves.{Effect, quietly, showing, allForbidden, noneForbiddenBut, goEffect, setEffect, clearEffect, effect, targetFits, takesMutex, mustWait, moveTests, stepReply, accepts}
+use Rattle.definitions.specs.Moves.{Effect, quietly, showing, allForbidden, noneForbiddenBut, goEffect, setEffect, clearEffect, effect}
+use Rattle.definitions.specs.Moves.{targetFits, takesMutex, mustWait, moveTests, moveAnswer, stepReply, accepts}
 use Rattle.definitions.specs.Phases.{rows, hasMove}
 use Rattle.definitions.specs.Sound.{sound}
 use Rattle.definitions.specs.Table.{Table, mutex≔, target≔, phase≔, busy≔, forbidden≔}
@@ -36,7 +37,7 @@ pub record Accepted (s : Table) (r : Request) : Type 0 where
 pub accepted-e : (s : Table) (r : Request) → T (accepts s r) → Accepted s r
 unfolding stepReply
 accepted-e s r t =
-    let a = peel _ _ (subst T (accepted-is (effect s r .shows) (moveTests s r)) t) in
+    let a = peel _ _ (subst T (accepted-is (moveAnswer s r) (moveTests s r)) t) in
     let b = peel _ _ (a .1) in
     let c = peel _ _ (b .1) in
     let d = peel _ _ (c .1) in
@@ -54,7 +55,7 @@ accepted-e s r t =
 pub accepted-i : (s : Table) (r : Request) → Accepted s r → T (accepts s r)
 unfolding stepReply
 accepted-i s r a =
-    subst T (sym (accepted-is (effect s r .shows) (moveTests s r)))
+    subst T (sym (accepted-is (moveAnswer s r) (moveTests s r)))
     (pass _ _ (a .is-sound)
     (pass _ _ (lt→ltb (r .thread) (s .threads) (a .thread-fits))
     (pass _ _ (le→leb (r .mv) lastMove (a .move-fits))
@@ -108,11 +109,11 @@ phases-2 : phasesWhere (hasMove 2) ≡ 0 ∷ []
 unfolding rows gather among phasesWhere
 phases-2 = refl
 
-phases-3 : phasesWhere (hasMove 3) ≡ 10 ∷ 15 ∷ []
+pub phases-3 : phasesWhere (hasMove 3) ≡ 10 ∷ 15 ∷ []
 unfolding rows gather among phasesWhere
 phases-3 = refl
 
-phases-4 : phasesWhere (hasMove 4) ≡ 15 ∷ []
+pub phases-4 : phasesWhere (hasMove 4) ≡ 15 ∷ []
 unfolding rows gather among phasesWhere
 phases-4 = refl
 
@@ -186,7 +187,7 @@ clear-way s i mv t e fits = choose (decided (noneForbiddenBut t s))
     choose (inr u) = rw (T-false (noneForbiddenBut t s) u) (clear-flag e fits u)
 
 -- the only phase of a move that exists in one phase
-only : (mv p k : ℕ) → phasesWhere (hasMove mv) ≡ k ∷ [] → T (hasMove mv p) → p ≡ k
+pub only : (mv p k : ℕ) → phasesWhere (hasMove mv) ≡ k ∷ [] → T (hasMove mv p) → p ≡ k
 only mv p k e has = or-at p k [] (λ q. q) (none-of p) (has-phase mv p (k ∷ []) e has)
 
 -- a move that takes the mutex finds it free

@@ -5,9 +5,9 @@ use mathlib.Core.List.{List, [], _∷_}
 use mathlib.Core.Path.{_≡_}
 use lib.Dec.{T, eqb}
 use lib.ListN.{length, getD}
-use Rattle.definitions.specs.Answers.{accepted, Seen}
+use Rattle.definitions.specs.Answers.{accepted, Seen, moved}
 use Rattle.definitions.specs.Codes.{go, callShared, hold}
-use Rattle.definitions.specs.Moves.{namesThread, takesMutex, moveReply, moveTable}
+use Rattle.definitions.specs.Moves.{isRetry, namesThread, takesMutex, moveReply, moveTable}
 use Rattle.definitions.specs.Nodes.{nodesOf, Figure1}
 use Rattle.definitions.specs.Sound.{opened}
 use Rattle.definitions.specs.Table.{Table, Write, mutex≔, target≔, phase≔, busy≔, forbidden≔, tableOf, phaseAt, busyAt, forbiddenAt}
@@ -19,7 +19,7 @@ use Rattle.definitions.specs.declared.Request.{Request}
 -- what is seen of an accepted request: its answer, and the nodes before and after it
 pub record OutsideView (bytes : List ℕ) (r : Request) : Type 0 where
   pub seen : Seen
-  pub reply : moveReply bytes r ≡ accepted seen
+  pub reply : moveReply bytes r ≡ accepted (moved seen (isRetry (tableOf bytes) r))
   pub moves : Figure1 (nodesOf (tableOf bytes)) (r .thread) seen (nodesOf (tableOf (moveTable bytes r)))
 
 -- ---- who writes what

@@ -18,9 +18,11 @@ ghost use Rattle.turns.specs.Steps.{added, Stepped};
 pub enum Step {
     // It stopped the run.
     Stopped(Refusal),
-    // It let the run go on: the moves that it made, how many forbidden are 1 then, and the position behind the history.
+    // It let the run go on: the moves that it made and how many of them were retries, how many forbidden are 1 then, and the
+    // position behind the history.
     Passed {
         moves: usize,
+        retries: usize,
         forbidden: usize,
         at: usize,
     },
@@ -47,6 +49,13 @@ fn make(table: &mut [u8], forbidden: usize, request: Request, history: &mut [u8]
         Outcome::Refused(refusal) => Step::Stopped(refusal),
         Outcome::Quiet => Step::Passed {
             moves: 1,
+            retries: 0,
+            forbidden,
+            at,
+        },
+        Outcome::Retry => Step::Passed {
+            moves: 1,
+            retries: 1,
             forbidden,
             at,
         },
@@ -55,6 +64,7 @@ fn make(table: &mut [u8], forbidden: usize, request: Request, history: &mut [u8]
             let at = add_pair(history, at, request.thread as u8, code);
             Step::Passed {
                 moves: 1,
+                retries: 0,
                 forbidden,
                 at,
             }
@@ -79,6 +89,7 @@ pub fn take_line(
         Form::Request(request) => make(table, forbidden, request, history, at),
         Form::Note => Step::Passed {
             moves: 0,
+            retries: 0,
             forbidden,
             at,
         },

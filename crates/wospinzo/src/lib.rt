@@ -5,6 +5,7 @@ use answer_numbers::hold_place;
 use answer_numbers::inside_number;
 use answer_numbers::outcome_number;
 use answer_numbers::reading_number;
+use answer_numbers::running_number;
 use answer_numbers::watch_number;
 use definitions::Request;
 use definitions::Watcher;
@@ -22,16 +23,16 @@ ghost use Rattle.definitions.specs.Run.{runEntry};
 ghost use Rattle.definitions.specs.Scripts.{writeEntry, readEntry};
 ghost use Rattle.definitions.specs.Table.{freshEntry};
 ghost use Rattle.definitions.specs.Watch.{startReply, startRecord, eventReply, eventRecord, questionReply};
-ghost use Rattle.answer_numbers.specs.Encoding.{moveNumber, countNumber, watchNumber, insideNumber, readNumber, held};
+ghost use Rattle.answer_numbers.specs.Encoding.{moveNumber, runNumber, countNumber, watchNumber, insideNumber, readNumber, held};
 ghost use Rattle.wospinzo.specs.Records.{recordWith, left};
 ghost use Rattle.wospinzo.specs.Version.{version};
 
 // The part's version: major, minor and patch number. docs/CHANGELOG.md says what each of them promises.
 const MAJOR: u32 = 1;
 
-const MINOR: u32 = 5;
+const MINOR: u32 = 6;
 
-const PATCH: u32 = 1;
+const PATCH: u32 = 0;
 
 // A fresh table for N threads.
 #[no_mangle]
@@ -43,7 +44,7 @@ pub extern "C" fn wospinzo_fresh(threads: u16, out: &mut [u8]) -> u64
     answer_number(answer)
 }
 
-// One move of one thread; the table stays in the lent bytes.
+// One move of one thread, which also says whether it was a retry; the table stays in the lent bytes.
 #[no_mangle]
 pub extern "C" fn wospinzo_move(table: &mut [u8], thread: u16, mv: u16, target: u16) -> u64
     ensures { λ r. ⌜ r ≡ moveNumber (moveReply (now (table .entry)) (ask thread mv target)) ⌝ }
@@ -101,14 +102,14 @@ pub extern "C" fn wospinzo_plan(threads: u16, history: &[u8], out: &mut [u8]) ->
     answer_number(answer)
 }
 
-// The run of a script.
+// The run of a script, with the number of retries among its moves.
 #[no_mangle]
 pub extern "C" fn wospinzo_run(script: &[u8], out: &mut [u8]) -> u64
-    ensures { λ r. ⌜ r ≡ countNumber (deliveryReply (runEntry (now (script .entry))) (now (out .entry))) ⌝ }
+    ensures { λ r. ⌜ r ≡ runNumber (deliveryReply (runEntry (now (script .entry))) (now (out .entry))) ⌝ }
     ensures { λ r. ⌜ now (out .exit) ≡ deliveryOutput (runEntry (now (script .entry))) (now (out .entry)) ⌝ }
 {
     let answer = script::run(script, out);
-    answer_number(answer)
+    running_number(answer)
 }
 
 // A list of moves, byte triples, as a script.

@@ -1,6 +1,6 @@
 -- `answer_numbers::outcome_number` meets its contract: at each case the number computes.
 use Prim.Native.Nat.{ℕ, _*_}
-use native.Mathlib.Nat.{zero-add}
+use native.Mathlib.Nat.{zero-add, add-zero}
 use mathlib.Core.Path.{sym, ap, _∙_}
 use borrow.Author.Needs.{needs}
 use Rattle.definitions.specs.Answers.{outcomeReply}
@@ -24,6 +24,9 @@ mul-result c = search needs
 enum-told : tie.Need-enum-told
 enum-told c = search needs
 
+enum-told-2 : tie.Need-enum-told-2
+enum-told-2 c = search needs
+
 enum-known-outcome-2 : tie.Need-enum-known-outcome-2
 enum-known-outcome-2 c = search needs
 
@@ -36,7 +39,7 @@ cast-result-2 c = search needs
 returns : tie.Need-returns
 unfolding encoded
 returns c =
-    ap (λ (k : ℕ). 256 * k) (c .code .ensures) ∙ sym (ap (λ (o : Outcome). moveNumber (outcomeReply o)) (c .before .before .outcome .given .1))
+    ap (λ (k : ℕ). 256 * k) (c .code .ensures ∙ sym (add-zero _)) ∙ sym (ap (λ (o : Outcome). moveNumber (outcomeReply o)) (c .before .before .outcome .given .1))
 
 returns-2 : tie.Need-returns-2
 unfolding encoded
@@ -44,7 +47,11 @@ returns-2 c = search needs
 
 returns-3 : tie.Need-returns-3
 unfolding encoded
-returns-3 c = c .number .ensures ∙ (sym (zero-add _) ∙ sym (ap (λ (o : Outcome). moveNumber (outcomeReply o)) (c .before .before .outcome2 .given .1)))
+returns-3 c = search needs
+
+returns-4 : tie.Need-returns-4
+unfolding encoded
+returns-4 c = c .number .ensures ∙ (sym (zero-add _) ∙ sym (ap (λ (o : Outcome). moveNumber (outcomeReply o)) (c .before .before .outcome2 .given .1)))
 
 pub outcome-number-spec : {M : Type 1} → statement M
 outcome-number-spec =
@@ -55,9 +62,11 @@ outcome-number-spec =
     cast-result
     mul-result
     enum-told
+    enum-told-2
     enum-known-outcome-2
     number-requires
     cast-result-2
     returns
     returns-2
-    returns-3)
+    returns-3
+    returns-4)

@@ -2,7 +2,7 @@
 use mathlib.Core.Path.{_∙_}
 use borrow.Author.Needs.{needs}
 use Rattle.definitions.specs.Texts.{bytes}
-use Rattle.printout.proofs.Output.{too-long, too-long-line, run-delivers}
+use Rattle.printout.proofs.Output.{too-long, too-long-line, run-prints, run-refuses}
 use Rattle.printout.proofs.write_output.Statement.{statement}
 use Rattle.printout.proofs.write_output.Tie as tie
 
@@ -25,11 +25,27 @@ returns c =
 run-requires : tie.Need-run-requires
 run-requires c κs = search needs
 
+enum-known-ran : tie.Need-enum-known-ran
+enum-known-ran c = search needs
+
+enum-known-ran-2 : tie.Need-enum-known-ran-2
+enum-known-ran-2 c = search needs
+
 same-length-2 : tie.Need-same-length-2
 same-length-2 c = search needs
 
 returns-2 : tie.Need-returns-2
-returns-2 c = let r = c .before .before in run-delivers _ _ (r .before .before .if1 .left) (r .run .ensures)
+returns-2 c =
+    let r = c .before .before .before .before .before in
+    run-prints _ _ (r .before .before .if1 .left) _ _ (c .before .ran .given .1) (r .run .ensures)
+
+same-length-3 : tie.Need-same-length-3
+same-length-3 c = search needs
+
+returns-3 : tie.Need-returns-3
+returns-3 c =
+    let r = c .before .before .before .before .before in
+    run-refuses _ _ (r .before .before .if1 .left) _ _ (c .before .ran2 .given .1) (r .run .ensures)
 
 pub write-output-spec : {M : Type 1} → statement M
 write-output-spec =
@@ -40,5 +56,9 @@ write-output-spec =
     same-length
     returns
     run-requires
+    enum-known-ran
+    enum-known-ran-2
     same-length-2
-    returns-2)
+    returns-2
+    same-length-3
+    returns-3)

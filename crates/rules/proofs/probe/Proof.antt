@@ -4,11 +4,11 @@ use borrow.Author.Tests.{eq-eqb, ne-eqb}
 use Rattle.rules.proofs.probe.Statement.{statement}
 use Rattle.rules.proofs.probe.Tie as tie
 
-step-requires : tie.Need-step-requires
-step-requires c κs = search needs
+pass-requires : tie.Need-pass-requires
+pass-requires c κs = search needs
 
 returns : tie.Need-returns
-returns c = rw (eq-eqb _ _ (c .before .if1 .taken)) (c .step .ensures)
+returns c = rw (eq-eqb _ _ (c .before .if1 .taken)) (c .pass .ensures)
 
 drop-target-requires : tie.Need-drop-target-requires
 drop-target-requires c κs = search needs
@@ -25,4 +25,4 @@ returns-3 c = rw (ne-eqb _ _ (c .before .before .before .before .before .if1 .le
 pub probe-spec : {M : Type 1} → statement M
 probe-spec =
     tie.close
-    (tie.spec step-requires returns drop-target-requires returns-2 drop-target-requires-2 returns-3)
+    (tie.spec pass-requires returns drop-target-requires returns-2 drop-target-requires-2 returns-3)

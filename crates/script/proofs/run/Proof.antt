@@ -2,7 +2,7 @@
 use mathlib.Core.Path.{sym}
 use borrow.Author.Needs.{needs}
 use lib.Seq.{length-take-le}
-use Rattle.script.proofs.Entry.{too-long, measurable, run-printed}
+use Rattle.script.proofs.Entry.{too-long, measurable, run-printed, run-refused}
 use Rattle.script.proofs.run.Statement.{statement}
 use Rattle.script.proofs.run.Tie as tie
 
@@ -26,14 +26,29 @@ print-requires c κs =
     let r = c .before .before .before in
     measurable _ (r .before .before .before .before .before .args .out .now) (r .before .before .if1 .left) (r .run-script .ensures)
 
+enum-known-answer : tie.Need-enum-known-answer
+enum-known-answer c = search needs
+
 same-length : tie.Need-same-length
 same-length c = search needs
 
 returns-2 : tie.Need-returns-2
 returns-2 c =
-    let p = c .before .before in
+    let p = c .before .before .before .before .before in
     let r = p .before .before .before .before in
-    run-printed _ _ (r .before .before .if1 .left) (r .run-script .ensures) (p .print .ensures)
+    run-printed _ _ (r .before .before .if1 .left) (r .run-script .ensures) _ (c .before .answer .given .1) (p .print .ensures)
+
+enum-known-answer-2 : tie.Need-enum-known-answer-2
+enum-known-answer-2 c = search needs
+
+same-length-2 : tie.Need-same-length-2
+same-length-2 c = search needs
+
+returns-3 : tie.Need-returns-3
+returns-3 c =
+    let p = c .before .before .before .before .before in
+    let r = p .before .before .before .before in
+    run-refused _ _ (r .before .before .if1 .left) (r .run-script .ensures) _ _ (c .before .answer2 .given .1) (p .print .ensures)
 
 pub run-spec : {M : Type 1} → statement M
 run-spec =
@@ -45,5 +60,9 @@ run-spec =
     array-share-prefix-history
     slice-aggregate-print
     print-requires
+    enum-known-answer
+    enum-known-answer-2
     same-length
-    returns-2)
+    returns-2
+    same-length-2
+    returns-3)

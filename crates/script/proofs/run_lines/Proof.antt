@@ -1,22 +1,23 @@
--- `script::run_lines` meets its contract. The invariant: the lines of the history so far, and what is printed from the present line on, are the whole output (proofs/Loop).
+-- `script::run_lines` meets its contract. The invariant: the lines of the history so far, and what is printed from the present line on, are the whole output,
+-- and the retries are counted alike (proofs/Loop).
 use Prim.Native.Nat.{ℕ, _-_}
 use native.Mathlib.Omega.{arith}
 use mathlib.Core.Path.{subst, _∙_}
 use borrow.Author.Needs.{needs}
 use lib.ListN.{length, drop}
-use Rattle.definitions.specs.Run.{printed}
+use Rattle.definitions.specs.Run.{printed, retriesFrom}
 use Rattle.definitions.specs.Texts.{linesOf}
 use Rattle.lines.specs.Lines.{LineAt, NextAt}
-use Rattle.script.proofs.Loop.{AtLine, begun, finished, unended, line-room, stop, steps-fit, next}
+use Rattle.script.proofs.Loop.{AtLine, begun, finished, unended, line-room, stop, steps-fit, retries-fit, next}
 use Rattle.script.proofs.run_lines.Statement.{statement}
 use Rattle.script.proofs.run_lines.Tie as tie
 
 abbrev Inv-loop : tie.InvT-loop
-Inv-loop script start table₀ history₀ from₀ line₀ steps₀ flags₀ shown₀ table history from line steps flags shown =
-    AtLine script table₀ history₀ (printed table₀ 2 0 (linesOf (drop start script))) table history from line steps flags shown
+Inv-loop script start table₀ history₀ from₀ line₀ steps₀ retried₀ flags₀ shown₀ table history from line steps retried flags shown =
+    AtLine script table₀ history₀ (printed table₀ 2 0 (linesOf (drop start script))) (retriesFrom table₀ (linesOf (drop start script))) table history from line steps retried flags shown
 
 abbrev μ-loop : tie.MeasureT-loop
-μ-loop script start table₀ history₀ from₀ line₀ steps₀ flags₀ shown₀ table history from line steps flags shown = length script - from
+μ-loop script start table₀ history₀ from₀ line₀ steps₀ retried₀ flags₀ shown₀ table history from line steps retried flags shown = length script - from
 
 -- ---- the places of the loop
 
@@ -131,7 +132,15 @@ add-steps c =
     let p = c .before .before .before in
     let f = found p in
     let t = taken p .take-line in
-    record { fits = steps-fit (start (here f) .pre .room) (here f .loop .inv) (end f) (line-at f) (t .last .1 .0) (t .last .1 .1 .1 .0) (t .result) (t .ensures) _ _ _ (c .before .step2 .given .1) }
+    record { fits = steps-fit (start (here f) .pre .room) (here f .loop .inv) (end f) (line-at f) (t .last .1 .0) (t .last .1 .1 .1 .0) (t .result) (t .ensures) _ _ _ _ (c .before .step2 .given .1) }
+
+add-retried : tie.Need-add-retried Inv-loop μ-loop
+add-retried c =
+    let p = c .before .before .before in
+    let f = found p in
+    let t = taken p .take-line in
+    let line = line-at f in
+    record { fits = retries-fit (start (here f) .pre .room) (here f .loop .inv) (end f) line (t .last .1 .0) (t .last .1 .1 .1 .0) (t .result) (t .ensures) _ _ _ _ (c .before .step2 .given .1) }
 
 add-line : tie.Need-add-line Inv-loop μ-loop
 add-line c = search needs
@@ -146,7 +155,7 @@ loop-again c =
     let p = c .before .before .before in
     let f = found p in
     let t = taken p .take-line in
-    next (start (here f) .pre .room) (here f .loop .inv) (end f) (line-at f) (t .last .1 .0) (t .last .1 .1 .1 .0) (t .result) (t .ensures) _ _ _ (c .before .step2 .given .1) (t .kept .1 .0)
+    next (start (here f) .pre .room) (here f .loop .inv) (end f) (line-at f) (t .last .1 .0) (t .last .1 .1 .1 .0) (t .result) (t .ensures) _ _ _ _ (c .before .step2 .given .1) (t .kept .1 .0)
 
 pub run-lines-spec : {M : Type 1} → statement M
 run-lines-spec =
@@ -178,6 +187,7 @@ run-lines-spec =
     returns-3
     enum-known-step-2
     add-steps
+    add-retried
     add-line
     loop-less
     loop-again)

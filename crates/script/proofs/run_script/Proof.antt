@@ -31,7 +31,8 @@ returns : tie.Need-returns
 returns c =
     let told = c .before in
     let p = told .before .before in
-    stopped-first BadForm (first.run-bad (subst (FirstAt _) (told .enum-told .given .1) (p .first-line .ensures))) (c .stopped .ensures)
+    let none = subst (FirstAt _) (told .enum-told .given .1) (p .first-line .ensures) in
+    stopped-first BadForm (first.run-bad none, first.retries-bad none) (c .stopped .ensures)
 
 run-from-requires : tie.Need-run-from-requires
 run-from-requires c κs =
@@ -45,7 +46,7 @@ returns-2 : tie.Need-returns-2
 returns-2 c =
     let run = c .before .before in
     let k = run .before .before in
-    recorded-as (first.run-from _ _ (threads-at k)) (run .run-from .ensures)
+    recorded-as (first.run-from _ _ (threads-at k), first.retries-from _ _ (threads-at k)) (run .run-from .ensures)
 
 pub run-script-spec : {M : Type 1} → statement M
 run-script-spec =

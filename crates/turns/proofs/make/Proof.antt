@@ -1,7 +1,7 @@
 -- `turns::make` meets its contract: what the move answers says what the line does to the run (proofs/Turns).
 use borrow.Author.Needs.{needs}
 use Rattle.apply.specs.MoveMade.{MoveTried}
-use Rattle.turns.proofs.Turns.{refused-stops, quiet-passes, mover-fits, event-room, event-passes}
+use Rattle.turns.proofs.Turns.{refused-stops, quiet-passes, retry-passes, mover-fits, event-room, event-passes}
 use Rattle.turns.proofs.make.Statement.{statement}
 use Rattle.turns.proofs.make.Tie as tie
 
@@ -20,6 +20,9 @@ enum-known-outcome c = search needs
 
 enum-told : tie.Need-enum-told
 enum-told c = search needs
+
+enum-told-2 : tie.Need-enum-told-2
+enum-told-2 c = search needs
 
 enum-known-outcome-2 : tie.Need-enum-known-outcome-2
 enum-known-outcome-2 c = search needs
@@ -52,11 +55,17 @@ returns-2 c = quiet-passes _ _ _ _ (tried (c .before .before)) _ _ (c .enum-told
 same-length-3 : tie.Need-same-length-3
 same-length-3 c = search needs
 
+returns-3 : tie.Need-returns-3
+returns-3 c = retry-passes _ _ _ _ (tried (c .before .before)) _ _ (c .enum-told2 .given .1)
+
 same-length-4 : tie.Need-same-length-4
 same-length-4 c = search needs
 
-returns-3 : tie.Need-returns-3
-returns-3 c =
+same-length-5 : tie.Need-same-length-5
+same-length-5 c = search needs
+
+returns-4 : tie.Need-returns-4
+returns-4 c =
     let p = c .before .before in
     let k = p .before .before .before in
     let o = k .before .before in
@@ -69,6 +78,7 @@ make-spec =
     try-move-requires
     enum-known-outcome
     enum-told
+    enum-told-2
     enum-known-outcome-2
     code-requires
     cast-add-pair
@@ -78,5 +88,7 @@ make-spec =
     same-length-2
     returns-2
     same-length-3
+    returns-3
     same-length-4
-    returns-3)
+    same-length-5
+    returns-4)

@@ -10,7 +10,7 @@ check-requires : tie.Need-check-requires
 check-requires c κs = search needs
 
 answer-number-requires : tie.Need-answer-number-requires
-answer-number-requires c κs = check-small _ _ _ (c .check .ensures)
+answer-number-requires c κs = check-small _ _ _ (c .check .ensures) .0
 
 returns : tie.Need-returns
 returns c = c .answer-number .ensures ∙ ap countNumber (c .before .check .ensures)

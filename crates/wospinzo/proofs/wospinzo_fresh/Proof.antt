@@ -10,7 +10,7 @@ fresh-requires : tie.Need-fresh-requires
 fresh-requires c κs = search needs
 
 answer-number-requires : tie.Need-answer-number-requires
-answer-number-requires c κs = let a = c .before .before .before .before .before .args in fresh-small (a .threads) _ _ (c .before .before .fresh .ensures .reply)
+answer-number-requires c κs = let a = c .before .before .before .before .before .args in fresh-small (a .threads) _ _ (c .before .before .fresh .ensures .reply) .0
 
 same-length : tie.Need-same-length
 same-length c = search needs

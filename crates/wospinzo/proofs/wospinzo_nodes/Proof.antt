@@ -10,7 +10,7 @@ nodes-requires : tie.Need-nodes-requires
 nodes-requires c κs = search needs
 
 answer-number-requires : tie.Need-answer-number-requires
-answer-number-requires c κs = nodes-small _ _ _ (c .before .before .nodes .ensures .reply)
+answer-number-requires c κs = nodes-small _ _ _ (c .before .before .nodes .ensures .reply) .0
 
 same-length : tie.Need-same-length
 same-length c = search needs

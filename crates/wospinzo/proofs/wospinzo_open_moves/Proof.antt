@@ -10,7 +10,7 @@ open-moves-requires : tie.Need-open-moves-requires
 open-moves-requires c κs = search needs
 
 answer-number-requires : tie.Need-answer-number-requires
-answer-number-requires c κs = open-small _ _ _ _ (c .before .before .open-moves .ensures .reply)
+answer-number-requires c κs = open-small _ _ _ _ (c .before .before .open-moves .ensures .reply) .0
 
 same-length : tie.Need-same-length
 same-length c = search needs

@@ -10,7 +10,7 @@ plan-requires : tie.Need-plan-requires
 plan-requires c κs = search needs
 
 answer-number-requires : tie.Need-answer-number-requires
-answer-number-requires c κs = let a = c .before .before .before .before .before .before .args in plan-small (a .threads) (a .history .now) _ _ (c .before .before .plan .ensures .reply)
+answer-number-requires c κs = let a = c .before .before .before .before .before .before .args in plan-small (a .threads) (a .history .now) _ _ (c .before .before .plan .ensures .reply) .0
 
 same-length : tie.Need-same-length
 same-length c = search needs

@@ -10,7 +10,7 @@ plan-length-requires : tie.Need-plan-length-requires
 plan-length-requires c κs = search needs
 
 answer-number-requires : tie.Need-answer-number-requires
-answer-number-requires c κs = length-small _ _ _ (c .plan-length .ensures)
+answer-number-requires c κs = length-small _ _ _ (c .plan-length .ensures) .0
 
 returns : tie.Need-returns
 returns c = c .answer-number .ensures ∙ ap countNumber (c .before .plan-length .ensures)

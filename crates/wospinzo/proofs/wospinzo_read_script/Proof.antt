@@ -10,7 +10,7 @@ read-requires : tie.Need-read-requires
 read-requires c κs = search needs
 
 reading-number-requires : tie.Need-reading-number-requires
-reading-number-requires c κs = let a = c .before .before .before .before .before .before .args in read-small (a .script .now) _ _ (c .before .before .read .ensures .reply)
+reading-number-requires c κs = let a = c .before .before .before .before .before .before .args in read-small (a .script .now) _ _ (c .before .before .read .ensures .reply) .0
 
 same-length : tie.Need-same-length
 same-length c = search needs

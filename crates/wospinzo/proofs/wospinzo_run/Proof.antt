@@ -1,7 +1,7 @@
--- `wospinzo::wospinzo_run` meets its contract: the run's answer, whose value is small, as a number, and its output.
+-- `wospinzo::wospinzo_run` meets its contract: the run's answer, whose values are small, as a number, and its output.
 use mathlib.Core.Path.{ap, _∙_}
 use borrow.Author.Needs.{needs}
-use Rattle.answer_numbers.specs.Encoding.{countNumber}
+use Rattle.answer_numbers.specs.Encoding.{runNumber}
 use Rattle.answer_numbers.proofs.Small.{run-small}
 use Rattle.wospinzo.proofs.wospinzo_run.Statement.{statement}
 use Rattle.wospinzo.proofs.wospinzo_run.Tie as tie
@@ -9,15 +9,15 @@ use Rattle.wospinzo.proofs.wospinzo_run.Tie as tie
 run-requires : tie.Need-run-requires
 run-requires c κs = search needs
 
-answer-number-requires : tie.Need-answer-number-requires
-answer-number-requires c κs = let a = c .before .before .before .before .before .before .args in run-small (a .script .now) _ _ (c .before .before .run .ensures .reply)
+running-number-requires : tie.Need-running-number-requires
+running-number-requires c κs = let a = c .before .before .before .before .before .before .args in run-small (a .script .now) _ _ (c .before .before .run .ensures .reply) .0
 
 same-length : tie.Need-same-length
 same-length c = search needs
 
 returns : tie.Need-returns
 returns c =
-    let made = c .before .before .before .run .ensures in (c .answer-number .ensures ∙ ap countNumber (made .reply), made .output)
+    let made = c .before .before .before .run .ensures in (c .running-number .ensures ∙ ap runNumber (made .reply), made .output)
 
 pub wospinzo-run-spec : {M : Type 1} → statement M
-wospinzo-run-spec = tie.close (tie.spec run-requires answer-number-requires same-length returns)
+wospinzo-run-spec = tie.close (tie.spec run-requires running-number-requires same-length returns)

@@ -22,7 +22,7 @@ hold-place-requires : tie.Need-hold-place-requires
 hold-place-requires c κs = search needs
 
 answer-number-requires : tie.Need-answer-number-requires
-answer-number-requires c κs = let a = entry (c .before) .args in write-small (a .threads) (a .triples .now) (a .out .now) _ (is-held c)
+answer-number-requires c κs = let a = entry (c .before) .args in write-small (a .threads) (a .triples .now) (a .out .now) _ (is-held c) .0
 
 same-length : tie.Need-same-length
 same-length c = search needs

@@ -1,0 +1,2 @@
+-- What the theorem on the arrows speaks of besides the definitions of the papers.
+pub mod Arrows

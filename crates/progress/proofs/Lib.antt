@@ -1,0 +1,12 @@
+-- RetryKeeps, Limit, LimitReached, NoStandstill and PlanRetries hold the theorems; the files before them hold what the proofs use.
+pub mod Measure
+pub mod MoveKinds
+pub mod RetryKeeps
+pub mod Lowering
+pub mod Counting
+pub mod Limit
+pub mod CalledTable
+pub mod InTurn
+pub mod LimitReached
+pub mod NoStandstill
+pub mod PlanRetries

@@ -1,0 +1,2 @@
+-- What the theorems on progress speak of besides the definitions of the papers.
+pub mod Progress
