@@ -48,8 +48,10 @@
  * was accepted, else the number of the refusal, the first that fits in the
  * order of their numbers, but for 13, which is tested after 1 and before 9, and
  * for wospinzo_write_script and wospinzo_read_script, which have an order of
- * their own. The rest is the value: of an accepted request what the function
- * says it answers; of a refusal its place, which is
+ * their own. Of an accepted request the next 32 bits are the value, what the
+ * function says it answers, and the 24 above them say how many retries were
+ * made: of a move 1 or 0, of a run how many of its moves were retries, and 0 of
+ * every other function. Of a refusal the rest is its place, which is
  *   of a history        the index of the first bad pair, for 9, 10 and 11
  *   of a list of moves  the index of the first bad triple, for 3, 4 and 5; the
  *                       largest that an answer holds is 2^55 - 1, which stands
@@ -74,8 +76,8 @@ extern "C" {
 /* The version of this header; wospinzo_version answers that of the archive.
  * docs/CHANGELOG.md says what a version promises. */
 #define WOSPINZO_VERSION_MAJOR 1
-#define WOSPINZO_VERSION_MINOR 5
-#define WOSPINZO_VERSION_PATCH 1
+#define WOSPINZO_VERSION_MINOR 6
+#define WOSPINZO_VERSION_PATCH 0
 #define WOSPINZO_VERSION \
     (65536 * WOSPINZO_VERSION_MAJOR + 256 * WOSPINZO_VERSION_MINOR + WOSPINZO_VERSION_PATCH)
 
@@ -102,6 +104,9 @@ extern "C" {
 /* The longest history and the longest script, in bytes. */
 #define WOSPINZO_MAX_HISTORY 60000
 #define WOSPINZO_MAX_SCRIPT 30000
+/* The most moves that n threads can make one after the other without a call and
+ * without a retry: N x (3N + 5), which some tables come to. */
+#define WOSPINZO_MAX_PROGRESS(n) ((n) * (3ul * (n) + 5ul))
 /* The bytes of a plan of so many moves, and the moves and bytes of the longest
  * plan: that of the longest history for 200 threads, rounds of exclusive and
  * then each thread's events 5, 6 and 7. */
@@ -241,7 +246,24 @@ static inline unsigned wospinzo_refusal(uint64_t answer)
 /* The value of an accepted request, or the place of a refusal. */
 static inline uint64_t wospinzo_value(uint64_t answer)
 {
-    return answer >> 8;
+    uint64_t rest = answer >> 8;
+    return wospinzo_accepted(answer) ? rest & 0xffffffffu : rest;
+}
+
+/* Of an answer of wospinzo_move: 1 where the move was made and was a retry, else
+ * 0. A retry shows no event: it tries again what another thread kept this one
+ * from, or undoes or repeats a step of its own. An executive may run other work
+ * after one. */
+static inline int wospinzo_retry(uint64_t answer)
+{
+    return wospinzo_accepted(answer) && answer >> 40 != 0;
+}
+
+/* Of an answer of wospinzo_run: how many of the moves that it made were retries;
+ * 0 where it was refused. */
+static inline uint64_t wospinzo_run_retries(uint64_t answer)
+{
+    return wospinzo_accepted(answer) ? answer >> 40 : 0;
 }
 
 /* Of an answer of wospinzo_watch_inside: 1 where nobody is inside, else 0. A
@@ -314,6 +336,7 @@ WOSPINZO_ASSERT(moves, (3 * WOSPINZO_MAX_THREADS + 6) * (WOSPINZO_MAX_HISTORY / 
                                (3 * WOSPINZO_MAX_THREADS + 2) * WOSPINZO_MAX_THREADS ==
                            4 * WOSPINZO_MAX_PLAN_MOVES);
 WOSPINZO_ASSERT(plan, WOSPINZO_PLAN_SIZE(WOSPINZO_MAX_PLAN_MOVES) == WOSPINZO_MAX_PLAN_SIZE);
+WOSPINZO_ASSERT(progress, WOSPINZO_MAX_PROGRESS(WOSPINZO_MAX_THREADS) == 121000);
 WOSPINZO_ASSERT(room, WOSPINZO_READ_ROOM == (WOSPINZO_MAX_SCRIPT - 12) / 9 * 3);
 WOSPINZO_ASSERT(watcher, sizeof(wospinzo_watcher) == WOSPINZO_WATCHER_SIZE);
 WOSPINZO_ASSERT(places, offsetof(wospinzo_watcher, places) == 3);
@@ -334,7 +357,10 @@ uint64_t wospinzo_fresh(uint16_t threads, uint8_t *out, size_t out_len);
 /*
  * Tests the table and the request, then makes one move of one thread. The
  * table stays in the lent bytes and is sound after every accepted move.
- * Answers the code of the event shown, or WOSPINZO_QUIET.
+ * Answers the code of the event shown, or WOSPINZO_QUIET; wospinzo_retry says
+ * whether the move was a retry. Retries are go or hold in phase 4, relent, go in
+ * 11 that reads busy 1, set in 10 on a thread with forbidden 1, every set in 15,
+ * and clear in 15 on a thread with forbidden 0.
  * Refusals: 1 to 7, all with the table unchanged.
  *
  *   call shared     phase 0 to 1, event 1
@@ -424,6 +450,8 @@ uint64_t wospinzo_plan(uint16_t threads, const uint8_t *history, size_t history_
  * for each event, then `(steps K)`, or `(refused R L)` at the first line L
  * that is turned down. Such a line is an answer of the run, no refusal of it.
  * Answers the number of bytes written; WOSPINZO_RUN_ROOM always suffices.
+ * wospinzo_run_retries says how many of the moves made were retries, which isn't
+ * printed; a plan's script makes none.
  * Refusals: 8 for a script above WOSPINZO_MAX_SCRIPT bytes, 12.
  */
 WOSPINZO_USE_ANSWER

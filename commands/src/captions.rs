@@ -94,8 +94,13 @@ fn title(recording: &Recording) -> String {
         Some(stop) => format!(", stopped at line {}", stop.line),
         None => String::new(),
     };
+    let retries = match recording.retries() {
+        0 => String::new(),
+        1 => ", 1 retry".to_string(),
+        number => format!(", {number} retries"),
+    };
     format!(
-        "A run of {}: {}, {}{stopped}",
+        "A run of {}: {}, {}{retries}{stopped}",
         count(recording.rows.len(), "thread"),
         count(recording.steps.len(), "move"),
         count(recording.events().count(), "event"),

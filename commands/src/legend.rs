@@ -4,7 +4,7 @@ use wospinzo::Node;
 
 use crate::layout::{Layout, LINE_HEIGHT, MARGIN};
 use crate::palette;
-use crate::rows::{diamond, dot};
+use crate::rows::{diamond, dot, hollow};
 use crate::svg::{Style, Svg, PLAIN};
 
 /// Where the three columns begin, and where their names and meanings do.
@@ -82,13 +82,14 @@ fn marks(svg: &mut Svg, (x, y): (i32, i32), layout: &Layout, refused: bool) {
     svg.rect((x, line(4) - 6), (SWATCH.0, 4), palette::FORBIDDEN);
     svg.rect((x, line(5) - 10), SWATCH, palette::MUTEX);
     let mut texts = vec![
-        "the thread that moved",
+        "the mover; ring: a retry",
         "its move showed an event",
         "its busy flag is 1",
         "its forbidden flag is 1",
         "the mutex is held",
     ];
     if !layout.sizes.has_dots() {
+        texts[0] = "the thread that moved";
         texts[1] = "an event, of shared or exclusive";
     }
     if refused {
@@ -100,11 +101,13 @@ fn marks(svg: &mut Svg, (x, y): (i32, i32), layout: &Layout, refused: bool) {
     }
 }
 
-/// The marks of moves in large cells.
+/// The marks of moves in large cells: a dot and a ring, and a diamond below them.
 fn dots(svg: &mut Svg, (x, y): (i32, i32)) {
-    for shape in [dot((x, y)), diamond((x, y + LINE_HEIGHT))] {
+    for shape in [dot((x - 6, y)), diamond((x, y + LINE_HEIGHT))] {
         svg.push(&format!(r#"<{shape} fill="{}"/>"#, palette::INK));
     }
+    let ring = dot((x + 6, y));
+    svg.push(&format!("<{ring} {}/>", hollow(palette::INK)));
 }
 
 /// The marks of moves and events in small ones.

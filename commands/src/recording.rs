@@ -1,8 +1,8 @@
 //! A script's run, move by move.
 
 use wospinzo::{
-    busy, forbidden, fresh, make_move, mutex_held, nodes, read_script, table_size, Event, Move,
-    Node, Outcome, Rejected, MAX_SCRIPT,
+    busy, forbidden, fresh, move_answer, mutex_held, nodes, read_script, table_size, Event, Move,
+    MoveAnswer, Node, Outcome, Rejected, MAX_SCRIPT,
 };
 
 use crate::lines::{self, Notes};
@@ -17,6 +17,7 @@ pub struct Step {
     pub thread: usize,
     pub mov: Move,
     pub event: Option<Event>,
+    pub retry: bool,
 }
 
 /// A thread after each move.
@@ -44,6 +45,11 @@ impl Recording {
     pub fn events(&self) -> impl Iterator<Item = (usize, &Step, Event)> {
         let steps = self.steps.iter().enumerate();
         steps.filter_map(|(column, step)| Some((column, step, step.event?)))
+    }
+
+    /// How many moves were retries.
+    pub fn retries(&self) -> usize {
+        self.steps.iter().filter(|step| step.retry).count()
     }
 }
 
@@ -156,9 +162,9 @@ impl Recorder {
 
     /// Makes a move and records what it left, or answers why it was refused.
     fn make(&mut self, request: &Request) -> Option<Stop> {
-        match make_move(&mut self.table, request.thread as u16, request.mov) {
-            Ok(outcome) => {
-                self.keep(request, outcome);
+        match move_answer(&mut self.table, request.thread as u16, request.mov) {
+            Ok(answer) => {
+                self.keep(request, answer);
                 None
             }
             Err(refusal) => Some(Stop {
@@ -171,7 +177,7 @@ impl Recorder {
         }
     }
 
-    fn keep(&mut self, request: &Request, outcome: Outcome) {
+    fn keep(&mut self, request: &Request, answer: MoveAnswer) {
         // Whoever made the move that took the mutex holds it.
         self.holder = match mutex_held(&self.table) {
             Some(true) => self.holder.or(Some(request.thread)),
@@ -183,10 +189,11 @@ impl Recorder {
             line: request.line,
             thread: request.thread,
             mov: request.mov,
-            event: match outcome {
+            event: match answer.outcome {
                 Outcome::Shown(event) => Some(event),
                 Outcome::Quiet => None,
             },
+            retry: answer.retry,
         });
     }
 

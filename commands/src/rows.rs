@@ -109,11 +109,16 @@ fn flag(svg: &mut Svg, layout: &Layout, y: i32, track: &Track<bool>, style: (&st
     }
 }
 
-/// The mark of a move in the mover's cell: a dot, or a diamond where it showed
-/// an event. In small cells it is a bar.
+/// The mark of a move in the mover's cell: a dot, a ring where it was a retry, or
+/// a diamond where it showed an event. In small cells it is a bar.
 fn mark(svg: &mut Svg, layout: &Layout, column: usize, step: &Step, row: &Row) {
     let node = row.nodes.at(column).unwrap_or(Node::Free);
     let y = layout.y(step.thread) + mark_middle(layout.sizes);
+    let ink = palette::node(node).ink;
+    let paint = match (layout.sizes.has_dots(), step.retry) {
+        (true, true) => hollow(ink),
+        _ => format!(r#"fill="{ink}""#),
+    };
     let shape = match (layout.sizes.has_dots(), step.event) {
         (true, Some(_)) => diamond((layout.middle(column), y)),
         (true, None) => dot((layout.middle(column), y)),
@@ -121,9 +126,8 @@ fn mark(svg: &mut Svg, layout: &Layout, column: usize, step: &Step, row: &Row) {
     };
     let element = shape.split(' ').next().unwrap_or_default();
     svg.push(&format!(
-        r#"<{shape} id="move-{}" class="move" fill="{}"><title>{}</title></{element}>"#,
+        r#"<{shape} id="move-{}" class="move" {paint}><title>{}</title></{element}>"#,
         column + 1,
-        palette::node(node).ink,
         escape(&words(column, step))
     ));
 }
@@ -150,6 +154,11 @@ pub fn dot((x, y): (i32, i32)) -> String {
     format!(r#"circle cx="{x}" cy="{y}" r="3""#)
 }
 
+/// What makes a ring of a dot.
+pub fn hollow(ink: &str) -> String {
+    format!(r#"fill="none" stroke="{ink}" stroke-width="1.5""#)
+}
+
 /// A diamond around a point, without its brackets.
 pub fn diamond((x, y): (i32, i32)) -> String {
     format!(r#"path d="M{} {y}l6 -6l6 6l-6 6z""#, x - 6)
@@ -157,9 +166,10 @@ pub fn diamond((x, y): (i32, i32)) -> String {
 
 /// What a move's mark says where it is pointed at.
 fn words(column: usize, step: &Step) -> String {
-    let shown = match step.event {
-        Some(event) => format!(", {event}"),
-        None => String::new(),
+    let shown = match (step.event, step.retry) {
+        (Some(event), _) => format!(", {event}"),
+        (None, true) => ", a retry".to_string(),
+        (None, false) => String::new(),
     };
     format!(
         "move {}, line {}: thread {} {}{shown}",

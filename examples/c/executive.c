@@ -1,12 +1,13 @@
 /*
  * A cooperative executive whose tasks share a settings table under the lock.
  *
- * Each turn gives every task one move. Readers read the settings piece by
- * piece, a piece a turn, and look for tearing: words of two versions in one
- * read. Panel tasks rewrite the settings now and then, a piece a turn too. A
- * reader that is turned away waits for the mutex, for some turns at most,
- * before it tries again; it gives the mutex back in the turn in which it took
- * it. A watcher judges each event before its task acts on it.
+ * Each turn gives every task up to three moves. After a retry the next task runs
+ * at once: it is the others' moves that let this one get further. Readers read
+ * the settings piece by piece, a piece a turn, and look for tearing: words of two
+ * versions in one read. Panel tasks rewrite the settings now and then, a piece a
+ * turn too. A reader that is turned away waits for the mutex, for some turns at
+ * most, before it tries again; it gives the mutex back in the turn in which it
+ * took it. A watcher judges each event before its task acts on it.
  *
  * Twice a warm restart comes between the turns. The table that was kept over it
  * is tested before a task moves. The first passes, and the tasks go on; the
@@ -23,9 +24,11 @@
 
 enum { READERS = 6, PANELS = 2, TASKS = READERS + PANELS, PIECES = 4, WORDS = 8 };
 /* Turns before each restart, and in all. The first restart comes while a panel writes. */
-enum { LEG = 10500, TURNS = 3 * LEG };
+enum { LEG = 10600, TURNS = 3 * LEG };
 /* In turns: a reader's wait for the mutex, at most; a panel's rest after it wrote, at least. */
 enum { HOLD_TURNS = 16, PANEL_REST = 100 };
+/* A task's moves in a turn, at most. */
+enum { MOVES = 3 };
 
 struct task {
     unsigned rest;    /* turns to let pass before the next call */
@@ -45,7 +48,7 @@ static uint8_t table[WOSPINZO_TABLE_SIZE(TASKS)];
 static wospinzo_watcher watcher;
 static struct task tasks[TASKS];
 static uint32_t settings[PIECES][WORDS];
-static unsigned long reads, writes, torn_reads, waits, holds, timeouts;
+static unsigned long reads, writes, torn_reads, waits, holds, timeouts, retries;
 static unsigned restarts_kept, restarts_afresh;
 
 /* What is kept over a warm restart: the lock, its watcher, and where each task
@@ -153,8 +156,9 @@ static void heed(uint16_t number, struct task *task, uint64_t event)
     }
 }
 
-/* Makes the task's next move, and heeds the answer. */
-static void step(uint16_t number)
+/* Makes the task's next move, and heeds the answer. Says whether the task may
+ * make another one in this turn: not after a retry, an event or a refusal. */
+static int step(uint16_t number)
 {
     struct task *task = &tasks[number];
     struct request request = next_move(number);
@@ -167,10 +171,14 @@ static void step(uint16_t number)
             holds++;
         else if (phase == WOSPINZO_PHASE_TRY_AGAIN)
             timeouts++;
-        if (wospinzo_value(answer) != WOSPINZO_QUIET) {
-            watch(number, wospinzo_value(answer));
-            heed(number, task, wospinzo_value(answer));
+        if (wospinzo_retry(answer)) {
+            retries++;
+            return 0;
         }
+        if (wospinzo_value(answer) == WOSPINZO_QUIET)
+            return 1;
+        watch(number, wospinzo_value(answer));
+        heed(number, task, wospinzo_value(answer));
     } else if (wospinzo_refusal(answer) == WOSPINZO_MUTEX_HELD) {
         task->waited++;
         waits++;
@@ -178,11 +186,13 @@ static void step(uint16_t number)
         printf("task %u: refusal %u\n", (unsigned)number, wospinzo_refusal(answer));
         exit(2);
     }
+    return 0;
 }
 
 static void turn(uint16_t number)
 {
     struct task *task = &tasks[number];
+    unsigned moves = MOVES;
 
     if (task->rest > 0) {
         task->rest--;
@@ -195,7 +205,8 @@ static void turn(uint16_t number)
             read_piece(task);
         return;
     }
-    step(number);
+    while (moves > 0 && step(number))
+        moves--;
     /* A reader gives the mutex back at once: while it has it, no panel gets in. */
     if (wospinzo_phase(table, number) == WOSPINZO_PHASE_HOLD_MUTEX)
         step(number);
@@ -308,8 +319,8 @@ int main(void)
     run_turns(LEG);
     finish();
     printf("%d tasks, %d turns: %lu reads, %lu writes, %lu waits for the mutex, %lu holds, "
-           "%lu timeouts, %lu torn reads\n",
-           (int)TASKS, (int)TURNS, reads, writes, waits, holds, timeouts, torn_reads);
-    worked = reads > 0 && writes > 0 && holds > 0 && timeouts > 0;
+           "%lu timeouts, %lu retries, %lu torn reads\n",
+           (int)TASKS, (int)TURNS, reads, writes, waits, holds, timeouts, retries, torn_reads);
+    worked = reads > 0 && writes > 0 && holds > 0 && timeouts > 0 && retries > holds + timeouts;
     return torn_reads == 0 && worked && restarts_kept == 1 && restarts_afresh == 1 ? 0 : 1;
 }

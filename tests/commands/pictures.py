@@ -2,7 +2,7 @@
 """Holds pictures of runs to what the program prints for the same scripts. The folder named as argument has for each NAME a
 NAME.script, the program's output NAME.out and the picture NAME.svg. Of each picture: it is XML with a title and a
 description and nothing but plain elements; it has a row for each thread and a mark for each move made, in the mover's row
-and cell; the cells of a row cover its columns one after the other; the events are those of the output, and after each the
+and cell, a ring exactly where it was a retry; the cells of a row cover its columns one after the other; the events are those of the output, and after each the
 mover's cell has the colour that the legend gives to the node; the mutex is drawn where it is held; the flags of two examples
 are where they are set; a refused line is marked with its number; nothing is outside the picture."""
 import re
@@ -37,6 +37,10 @@ FLAGS = {
         1: {"busy": [], "forbidden": [(5, 14)]},
     },
 }
+
+
+# By example, the moves that are retries.
+RETRIES = {"writer_held_up": [8], "reader_turned_away": [12], "two_writers": []}
 
 
 class Bad(Exception):
@@ -163,6 +167,17 @@ def check_flags(name, rows, drawn):
             need(shown == moves, f"thread {thread}: {flag} in moves {shown}")
 
 
+def check_retries(name, title, steps, retries):
+    """The title counts them; relent and hold always are, a call never is; those of two examples were worked out by hand."""
+    counted = re.search(r", (\d+) retr(?:y|ies)\b", title)
+    need((int(counted[1]) if counted else 0) == len(retries), f"{len(retries)} retries, the title says {title}")
+    always = [move + 1 for move, (_, act, _) in enumerate(steps) if act in ("relent", "hold")]
+    need(set(always) <= set(retries), f"moves {always} are retries, {retries} are drawn")
+    never = [move + 1 for move, (_, act, event) in enumerate(steps) if act.startswith("call") or event]
+    need(not set(never) & set(retries), f"moves {never} are no retries, {retries} are drawn")
+    need(name not in RETRIES or retries == RETRIES[name], f"retries in moves {retries}")
+
+
 def middle(mark):
     if mark.tag == SVG + "circle":
         return number(mark, "cx"), number(mark, "cy")
@@ -186,10 +201,14 @@ def check(name, script, out, picture):
     drawn = [cells(row, moves) for row in rows]
     need(len({(spans[0][0], spans[-1][1]) for spans, _, _ in drawn if spans}) <= 1, "rows of different lengths")
     check_flags(name, rows, drawn)
-    steps = []
+    steps, retries = [], []
     for column, mark in enumerate(marks):
-        words = re.fullmatch(r"move (\d+), line (\d+): thread (\d+) (.*?)(?:, ([a-z ]+))?", mark[0].text)
-        move, line, thread, act, event = words.groups()
+        words = re.fullmatch(r"move (\d+), line (\d+): thread (\d+) (.*?)(?:, (a retry)|, ([a-z ]+))?", mark[0].text)
+        move, line, thread, act, retry, event = words.groups()
+        if mark.tag != SVG + "rect":
+            need((mark.get("fill") == "none") == bool(retry), f"move {column + 1}: a ring without a retry, or a retry without a ring")
+        if retry:
+            retries.append(column + 1)
         text = script.split(b"\n")[int(line) - 1]
         need(int(move) == column + 1 and text == f"({thread} ({act}))".encode(), f"move {column + 1} is not of line {line}")
         spans, size, (top, bottom) = drawn[int(thread)]
@@ -200,6 +219,7 @@ def check(name, script, out, picture):
         if event:
             colour = next(colour for begin, end, colour in spans if begin <= x < end)
             need(colour == legend[NODES[event]], f"move {column + 1}: not the colour of {NODES[event]}")
+    check_retries(name, root[0].text, steps, retries)
     shown = [(thread, event) for thread, _, event in steps if event]
     need(shown == events, "other events than the program's")
     if moves:

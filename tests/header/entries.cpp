@@ -1,6 +1,9 @@
 // Calls every entry from C++: the answers are those of a reader's first moves.
 #include "wospinzo.h"
 
+static_assert(WOSPINZO_MAX_PROGRESS(1) == 8 && WOSPINZO_MAX_PROGRESS(2) == 22 && WOSPINZO_MAX_PROGRESS(3) == 42 &&
+                  WOSPINZO_MAX_PROGRESS(WOSPINZO_MAX_THREADS) == 121000,
+              "the most moves without calls and retries");
 static_assert(sizeof(wospinzo_watcher) == 203 && alignof(wospinzo_watcher) == 1, "the layout of a watcher's record");
 
 // A watch of two threads: each part of the record, and each answer to the question.
@@ -72,6 +75,54 @@ static bool scripts()
     return good && wospinzo_refusal(bad_triple) == WOSPINZO_NO_THREAD && wospinzo_value(bad_triple) == 2;
 }
 
+// One move of the first of two threads, and whether it was a retry; the answer's value is that of a quiet move.
+static bool made(const uint8_t (&table)[9], uint16_t move, uint16_t target, int retry)
+{
+    uint8_t after[sizeof table];
+
+    for (size_t i = 0; i < sizeof table; i++)
+        after[i] = table[i];
+    const uint64_t answer = wospinzo_move(after, sizeof after, 0, move, target);
+    return wospinzo_accepted(answer) && wospinzo_value(answer) == WOSPINZO_QUIET && wospinzo_retry(answer) == retry;
+}
+
+// Moves that are retries, and ones that are not; of a refused move and of one that shows an event it is said that they are none.
+static bool retries()
+{
+    const uint8_t turned_away[] = {2, 0, 255, 4, 0, 0, 9, 0, 0}, holds[] = {2, 1, 255, 18, 0, 0, 9, 0, 0};
+    const uint8_t sets[] = {2, 1, 255, 10, 0, 0, 0, 0, 1}, clears[] = {2, 1, 255, 15, 0, 0, 6, 1, 1};
+    const uint8_t reads_1[] = {2, 1, 1, 11, 0, 0, 2, 1, 1}, reads_0[] = {2, 1, 1, 11, 0, 0, 1, 0, 1};
+    uint8_t held[] = {2, 1, 255, 4, 0, 0, 16, 0, 0}, free[] = {1, 0, 255, 0, 0, 0};
+
+    bool good = made(turned_away, WOSPINZO_GO, 0, 1) && made(turned_away, WOSPINZO_HOLD, 0, 1) && made(holds, WOSPINZO_GO, 0, 0);
+    good = good && made(reads_1, WOSPINZO_GO, 0, 1) && made(reads_0, WOSPINZO_GO, 0, 0) && made(reads_0, WOSPINZO_RELENT, 0, 1);
+    good = good && made(sets, WOSPINZO_SET, 1, 1) && made(sets, WOSPINZO_SET, 0, 0);
+    good = good && made(clears, WOSPINZO_SET, 0, 1) && made(clears, WOSPINZO_SET, 1, 1);
+    good = good && made(clears, WOSPINZO_CLEAR, 0, 1) && made(clears, WOSPINZO_CLEAR, 1, 0);
+    const uint64_t refused = wospinzo_move(held, sizeof held, 0, WOSPINZO_HOLD, 0);
+    good = good && wospinzo_refusal(refused) == WOSPINZO_MUTEX_HELD && wospinzo_value(refused) == 0 && !wospinzo_retry(refused);
+    const uint64_t called = wospinzo_move(free, sizeof free, 0, WOSPINZO_CALL_SHARED, 0);
+    return good && wospinzo_value(called) == WOSPINZO_ENTER_SHARED_CALL && !wospinzo_retry(called);
+}
+
+// The retries of a run, beside the bytes that it wrote: two of seven moves, the last line is refused. A refused run has none.
+static bool runs()
+{
+    const char script[] = "(threads 1)\n(0 (call exclusive))\n(0 (go))\n(0 (set 0))\n(0 (relent))\n(0 (go))\n(0 (set 0))\n"
+                          "(0 (relent))\n(0 (relent))\n";
+    const char printed[] = "(event 0 (enter exclusive call))\n(refused 6 9)\n";
+    uint8_t text[sizeof script - 1], out[sizeof printed - 1];
+
+    for (size_t i = 0; i < sizeof text; i++)
+        text[i] = static_cast<uint8_t>(script[i]);
+    const uint64_t answer = wospinzo_run(text, sizeof text, out, sizeof out);
+    bool good = wospinzo_accepted(answer) && wospinzo_value(answer) == sizeof out && wospinzo_run_retries(answer) == 2;
+    for (size_t i = 0; i < sizeof out; i++)
+        good = good && out[i] == static_cast<uint8_t>(printed[i]);
+    const uint64_t refused = wospinzo_run(text, sizeof text, out, sizeof out - 1);
+    return good && refused == WOSPINZO_NO_ROOM && wospinzo_run_retries(refused) == 0;
+}
+
 int main()
 {
     uint8_t table[WOSPINZO_TABLE_SIZE(2)], out[64];
@@ -89,7 +140,8 @@ int main()
     good = good && wospinzo_value(wospinzo_open_moves(table, sizeof table, 1, out, sizeof out)) == 4;
     good = good && wospinzo_value(wospinzo_check(2, history, sizeof history)) == 2;
     good = good && wospinzo_value(wospinzo_plan(2, history, sizeof history, out, sizeof out)) == 4;
-    good = good && wospinzo_value(wospinzo_run(script, sizeof script, out, sizeof out)) == 10;
+    const uint64_t ran = wospinzo_run(script, sizeof script, out, sizeof out);
+    good = good && wospinzo_value(ran) == 10 && wospinzo_run_retries(ran) == 0;
     good = good && wospinzo_refusal(wospinzo_check(201, history, sizeof history)) == WOSPINZO_BAD_SIZE;
-    return good && watches() && plans() && scripts() ? 0 : 1;
+    return good && watches() && plans() && scripts() && retries() && runs() ? 0 : 1;
 }

@@ -1,11 +1,12 @@
 //! A cooperative executive whose tasks share a settings table under the lock.
 //!
-//! Each turn gives every task one move. Readers read the settings piece by
-//! piece, a piece a turn, and look for tearing: words of two versions in one
-//! read. Panel tasks rewrite the settings now and then, a piece a turn too. A
-//! reader that is turned away waits for the mutex, for some turns at most,
-//! before it tries again; it gives the mutex back in the turn in which it took
-//! it. A watcher judges each event before its task acts on it.
+//! Each turn gives every task up to three moves. After a retry the next task runs
+//! at once: it is the others' moves that let this one get further. Readers read
+//! the settings piece by piece, a piece a turn, and look for tearing: words of two
+//! versions in one read. Panel tasks rewrite the settings now and then, a piece a
+//! turn too. A reader that is turned away waits for the mutex, for some turns at
+//! most, before it tries again; it gives the mutex back in the turn in which it
+//! took it. A watcher judges each event before its task acts on it.
 //!
 //! Twice a warm restart comes between the turns. The table that was kept over it
 //! is tested before a task moves. The first passes, and the tasks go on; the
@@ -19,7 +20,7 @@ use std::mem::take;
 use std::process::ExitCode;
 
 use wospinzo::{
-    forbidden, fresh, make_move, nodes, phase, table_size, Event, Move, Node, Outcome, Phase,
+    forbidden, fresh, move_answer, nodes, phase, table_size, Event, Move, Node, Outcome, Phase,
     Refusal, Watcher, NO_TARGET,
 };
 
@@ -27,7 +28,7 @@ const READERS: usize = 6;
 const PANELS: usize = 2;
 const TASKS: usize = READERS + PANELS;
 /// Turns before each restart. The first restart comes while a panel writes.
-const LEG: usize = 10_500;
+const LEG: usize = 10_600;
 const TURNS: usize = 3 * LEG;
 const PIECES: usize = 4;
 const WORDS: usize = 8;
@@ -35,6 +36,8 @@ const WORDS: usize = 8;
 const HOLD_TURNS: usize = 16;
 /// Turns of a panel's rest after it wrote, at least.
 const PANEL_REST: usize = 100;
+/// A task's moves in a turn, at most.
+const MOVES: usize = 3;
 
 type Table = [u8; table_size(TASKS as u16)];
 
@@ -61,6 +64,7 @@ struct Counts {
     waits: usize,
     holds: usize,
     timeouts: usize,
+    retries: usize,
     torn: usize,
     restarts_kept: usize,
     restarts_afresh: usize,
@@ -184,15 +188,16 @@ impl Executive {
         }
     }
 
-    /// Makes the task's next move, and heeds the answer.
-    fn step(&mut self, number: usize) -> Result<(), Refusal> {
+    /// Makes the task's next move, and heeds the answer. Says whether the task may
+    /// make another one in this turn: not after a retry, an event or a refusal.
+    fn step(&mut self, number: usize) -> Result<bool, Refusal> {
         let before = self.phase(number);
         let next = self.next_move(number);
-        let outcome = match make_move(&mut self.table, number as u16, next) {
+        let answer = match move_answer(&mut self.table, number as u16, next) {
             Err(Refusal::MutexHeld) => {
                 self.tasks[number].waited += 1;
                 self.counts.waits += 1;
-                return Ok(());
+                return Ok(false);
             }
             answer => answer?,
         };
@@ -202,11 +207,13 @@ impl Executive {
             (Some(Phase::TryAgain), _) => self.counts.timeouts += 1,
             _ => (),
         }
-        if let Outcome::Shown(event) = outcome {
+        self.counts.retries += usize::from(answer.retry);
+        if let Outcome::Shown(event) = answer.outcome {
             self.watcher.event(number as u16, event)?;
             self.heed(number, event);
+            return Ok(false);
         }
-        Ok(())
+        Ok(!answer.retry)
     }
 
     fn turn(&mut self, number: usize) -> Result<(), Refusal> {
@@ -219,7 +226,11 @@ impl Executive {
             self.work(number);
             return Ok(());
         }
-        self.step(number)?;
+        for _ in 0..MOVES {
+            if !self.step(number)? {
+                break;
+            }
+        }
         // A reader gives the mutex back at once: while it has it, no panel gets in.
         if self.phase(number) == Some(Phase::HoldMutex) {
             self.step(number)?;
@@ -311,6 +322,7 @@ fn main() -> ExitCode {
         waits,
         holds,
         timeouts,
+        retries,
         torn,
         restarts_kept,
         restarts_afresh,
@@ -323,9 +335,11 @@ fn main() -> ExitCode {
     };
     println!(
         "{TASKS} tasks, {TURNS} turns: {reads} reads, {writes} writes, \
-         {waits} waits for the mutex, {holds} holds, {timeouts} timeouts, {torn} torn reads"
+         {waits} waits for the mutex, {holds} holds, {timeouts} timeouts, {retries} retries, \
+         {torn} torn reads"
     );
-    let worked = reads > 0 && writes > 0 && holds > 0 && timeouts > 0;
+    let retried = timeouts > 0 && retries > holds + timeouts;
+    let worked = reads > 0 && writes > 0 && holds > 0 && retried;
     let good = torn == 0 && worked && restarts_kept == 1 && restarts_afresh == 1;
     ExitCode::from(u8::from(!good))
 }

@@ -370,3 +370,15 @@ pub enum Outcome {
     /// The move shows nothing.
     Quiet,
 }
+
+/// What an accepted move answers, with whether it was a retry.
+#[derive(Clone, Copy, Debug, PartialEq, Eq, Hash)]
+pub struct MoveAnswer {
+    /// The event that it shows, if it does.
+    pub outcome: Outcome,
+    /// Whether it was a retry, which shows nothing: go or hold in
+    /// [`Phase::TryAgain`]; relent; go in [`Phase::ReadBusy`] that reads busy
+    /// 1; set in [`Phase::SetFlag`] on a thread with forbidden 1; any set in
+    /// [`Phase::ClearFlags`]; clear there on a thread with forbidden 0.
+    pub retry: bool,
+}

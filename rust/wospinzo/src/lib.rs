@@ -76,6 +76,14 @@
 //! # }
 //! ```
 //!
+//! # After a retry
+//!
+//! A move that gets its thread no further is a retry, and [`move_answer`] says
+//! so. Every list of moves without calls and without retries ends after at most
+//! [`max_progress`] moves (a theorem, `crates/progress/proofs/Limit.antt`), so
+//! that a thread which makes nothing but retries for long is kept waiting by
+//! another one. An executive runs other work then.
+//!
 //! # A watcher
 //!
 //! A [`Watcher`] judges each event as it happens, as [`check`] would judge the
@@ -105,13 +113,13 @@
 //! | function | what it does | refusals |
 //! |---|---|---|
 //! | [`fresh`] | writes a fresh table | 1, 12 |
-//! | [`make_move`] | makes one move | 1 to 7 |
+//! | [`make_move`], [`move_answer`] | makes one move; the second also says whether it was a retry | 1 to 7 |
 //! | [`nodes`] | where every thread is | 1, 2, 12 |
 //! | [`open_moves`] | the moves that a thread has now | 1, 2, 3, 12 |
 //! | [`check`] | judges a history of events | 1, 8 to 11 |
 //! | [`plan_length`] | how many moves the plan will have | 1, 8 to 11 |
 //! | [`plan`] | moves that show a given history | 1, 8 to 12 |
-//! | [`run`] | runs a script | 8, 12 |
+//! | [`run`], [`run_counts`] | runs a script; the second also counts the retries | 8, 12 |
 //! | [`write_script`] | writes moves as a script | 1, 3 to 5, 8, 12 |
 //! | [`read_script`] | reads a script's moves | 1, 3, 5, 8, 12 |
 //! | [`Watcher::new`] | starts a watch | 1 |
@@ -153,8 +161,8 @@
 //! The functions are in the archive `libwospinzo.a`. The build looks for it in
 //! the folder that the environment variable `WOSPINZO_LIB_DIR` names, else in
 //! `target/staticlib` of the repository. The features `history` ([`check`],
-//! [`plan_length`], [`plan`]) and `script` ([`run`], [`write_script`],
-//! [`read_script`]) are on by default.
+//! [`plan_length`], [`plan`]) and `script` ([`run`], [`run_counts`],
+//! [`write_script`], [`read_script`]) are on by default.
 //!
 //! No function panics, as long as the archive is the one described here.
 
@@ -167,14 +175,14 @@ pub mod raw;
 mod script;
 mod watcher;
 
-pub use codes::{Event, Move, Node, Outcome, Phase, Refusal, Rejected};
+pub use codes::{Event, Move, MoveAnswer, Node, Outcome, Phase, Refusal, Rejected};
 #[cfg(feature = "script")]
-pub use script::{read_script, run, write_script, ScriptRead};
+pub use script::{read_script, run, run_counts, write_script, RunCounts, ScriptRead};
 pub use watcher::Watcher;
 
 /// The version of this crate and of the header: 65,536 times the major, 256
 /// times the minor, and the patch number. [`version`] is that of the archive.
-pub const VERSION: u32 = 65_536 + 5 * 256 + 1;
+pub const VERSION: u32 = 65_536 + 6 * 256;
 /// The largest number of threads.
 pub const MAX_THREADS: u16 = 200;
 /// The bytes of the largest table.
@@ -212,6 +220,12 @@ pub const fn table_size(threads: u16) -> usize {
 /// Bytes in which a thread's open moves always fit, for so many threads.
 pub const fn open_moves_room(threads: u16) -> usize {
     4 * threads as usize
+}
+
+/// The most moves that so many threads can make one after the other without a
+/// call and without a retry, which some tables come to.
+pub const fn max_progress(threads: u16) -> usize {
+    threads as usize * (3 * threads as usize + 5)
 }
 
 /// The bytes of a plan of so many moves.
@@ -331,17 +345,41 @@ pub fn fresh(threads: u16, out: &mut [u8]) -> Result<usize, Refusal> {
 /// assert_eq!(table, [1, 0, 255, 9, 0, 0]);
 /// ```
 pub fn make_move(table: &mut [u8], thread: u16, mov: Move) -> Result<Outcome, Refusal> {
+    move_answer(table, thread, mov).map(|answer| answer.outcome)
+}
+
+/// Makes one move as [`make_move`] does, and also says whether it was a retry:
+/// an executive may run other work after one.
+///
+/// # Errors
+///
+/// Those of [`make_move`].
+///
+/// ```
+/// use wospinzo::{move_answer, Move, MoveAnswer, Outcome};
+///
+/// // Thread 0 was turned away by thread 1, which has yet to let the mutex go.
+/// let mut table = [2, 1, 255, 4, 0, 0, 16, 0, 0];
+/// let quiet = |retry| Ok(MoveAnswer { outcome: Outcome::Quiet, retry });
+/// assert_eq!(move_answer(&mut table, 0, Move::Go), quiet(true));
+/// assert_eq!(move_answer(&mut table, 0, Move::Go), quiet(false));
+/// ```
+pub fn move_answer(table: &mut [u8], thread: u16, mov: Move) -> Result<MoveAnswer, Refusal> {
     let (number, target) = mov.numbers();
     // SAFETY: pointer and length are those of one slice that is lent here.
     let answer =
         unsafe { raw::wospinzo_move(table.as_mut_ptr(), table.len(), thread, number, target) };
-    match placeless(answer)? {
-        0 => Ok(Outcome::Quiet),
+    let outcome = match placeless(answer)? {
+        0 => Outcome::Quiet,
         code => match Event::from_code(code as u8) {
-            Some(event) => Ok(Outcome::Shown(event)),
+            Some(event) => Outcome::Shown(event),
             None => panic!("the archive gave an unknown event"),
         },
-    }
+    };
+    Ok(MoveAnswer {
+        outcome,
+        retry: raw::retries(answer) != 0,
+    })
 }
 
 /// Writes the code of each thread's node, one byte a thread; see

@@ -2,8 +2,8 @@
 //!
 //! A slice is a pointer, which is never null, and the number of bytes there.
 //! The slices of one call must not overlap. A watcher is lent by a pointer to
-//! it, which is never null. An answer is taken apart by [`refusal`] and
-//! [`value`].
+//! it, which is never null. An answer is taken apart by [`refusal`], [`value`]
+//! and [`retries`].
 
 use crate::Watcher;
 
@@ -12,8 +12,8 @@ extern "C" {
     pub fn wospinzo_version() -> u32;
     /// See [`fresh`](crate::fresh).
     pub fn wospinzo_fresh(threads: u16, out: *mut u8, out_len: usize) -> u64;
-    /// See [`make_move`](crate::make_move). The value answered is the event's
-    /// code, 0 for a quiet move.
+    /// See [`move_answer`](crate::move_answer). The value answered is the
+    /// event's code, 0 for a quiet move; [`retries`] is 1 for a retry.
     pub fn wospinzo_move(
         table: *mut u8,
         table_len: usize,
@@ -46,7 +46,8 @@ extern "C" {
         out: *mut u8,
         out_len: usize,
     ) -> u64;
-    /// See [`run`](crate::run).
+    /// See [`run_counts`](crate::run_counts). The value answered is the number
+    /// of bytes written; [`retries`] says how many moves were retries.
     #[cfg(feature = "script")]
     pub fn wospinzo_run(script: *const u8, script_len: usize, out: *mut u8, out_len: usize) -> u64;
     /// See [`write_script`](crate::write_script).
@@ -83,5 +84,17 @@ pub const fn refusal(answer: u64) -> u8 {
 
 /// The value of an accepted request, or the place of a refusal.
 pub const fn value(answer: u64) -> u64 {
+    if refusal(answer) == 0 {
+        return answer >> 8 & 0xffff_ffff;
+    }
     answer >> 8
+}
+
+/// How many retries an accepted request made: of a move 1 or 0, of a run how
+/// many of its moves, 0 of every other entry and of a refusal.
+pub const fn retries(answer: u64) -> u64 {
+    if refusal(answer) == 0 {
+        return answer >> 40;
+    }
+    0
 }

@@ -20,10 +20,44 @@ use crate::{counted, placeless, raw, Refusal, Rejected};
 /// # Ok::<(), wospinzo::Refusal>(())
 /// ```
 pub fn run(script: &[u8], out: &mut [u8]) -> Result<usize, Refusal> {
+    run_counts(script, out).map(|counts| counts.bytes)
+}
+
+/// What a run answers: how many bytes it wrote, and how many of its moves were
+/// retries, which isn't printed.
+#[derive(Clone, Copy, Debug, PartialEq, Eq, Hash)]
+pub struct RunCounts {
+    /// The number of bytes written.
+    pub bytes: usize,
+    /// How many of the moves made were retries.
+    pub retries: usize,
+}
+
+/// Runs a script as [`run`] does, and also says how many of its moves were
+/// retries.
+///
+/// # Errors
+///
+/// Those of [`run`].
+///
+/// ```
+/// use wospinzo::{run_counts, RunCounts};
+///
+/// // The writer sets its flag, takes it back and sets it again.
+/// let script = b"(threads 1)\n(0 (call exclusive))\n(0 (go))\n\
+///     (0 (set 0))\n(0 (relent))\n(0 (go))\n(0 (set 0))\n";
+/// let mut out = [0; 100];
+/// assert_eq!(run_counts(script, &mut out), Ok(RunCounts { bytes: 43, retries: 1 }));
+/// # Ok::<(), wospinzo::Refusal>(())
+/// ```
+pub fn run_counts(script: &[u8], out: &mut [u8]) -> Result<RunCounts, Refusal> {
     // SAFETY: each pointer and length are those of one slice; one is only
     // read, the other is lent, so that they do not overlap.
-    placeless(unsafe {
-        raw::wospinzo_run(script.as_ptr(), script.len(), out.as_mut_ptr(), out.len())
+    let answer =
+        unsafe { raw::wospinzo_run(script.as_ptr(), script.len(), out.as_mut_ptr(), out.len()) };
+    placeless(answer).map(|bytes| RunCounts {
+        bytes,
+        retries: raw::retries(answer) as usize,
     })
 }
 

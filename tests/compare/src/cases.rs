@@ -165,8 +165,8 @@ fn run(r: &mut Random) -> Call {
     let script = script(r);
     let mut room = vec![0; RUN_ROOM];
     let needed = match model::run(&script, &mut room) {
-        Answer::Done(size) => size,
-        Answer::Refused(..) => 14,
+        Ok(ran) => ran.bytes,
+        Err(_) => 14,
     };
     Call::run(script, output(r, needed))
 }

@@ -1,6 +1,7 @@
 //! Calls made of the part and of the model, and what differed.
 
-use crate::part::{hex, number_of, value_of, Call, Caller, Entry, Model, Part};
+use crate::part::{hex, number_of, retries_of, value_of};
+use crate::part::{Call, Caller, Entry, Model, Part};
 
 /// How many numbers an answer can have: 0 where accepted, and the refusals'.
 const NUMBERS: usize = 14;
@@ -139,7 +140,10 @@ impl<'a> Comparison<'a> {
 
 fn answer_words(answer: u64) -> String {
     match number_of(answer) {
-        0 => format!("accepted {}", value_of(answer)),
+        0 => match retries_of(answer) {
+            0 => format!("accepted {}", value_of(answer)),
+            retries => format!("accepted {} with retries {retries}", value_of(answer)),
+        },
         number => format!("refused {number} {}", value_of(answer)),
     }
 }

@@ -4,7 +4,7 @@
 use crate::comparison::Comparison;
 use crate::histories;
 use crate::model::{self, Record, MAX_HISTORY, MAX_SCRIPT, RECORD_SIZE, RUN_ROOM};
-use crate::part::{done, refused, Call};
+use crate::part::{done, refused, retried, Call};
 use crate::random::Random;
 use crate::scripts;
 use crate::watchers::record;
@@ -127,8 +127,8 @@ pub fn hold(c: &mut Comparison) {
     let taken = [2, 1, 255, 4, 0, 0, 10, 0, 0];
     // table, thread, move, target, answer, table after
     let requests = [
-        (before, [0, 6, 0], done(0), held),
-        (before, [0, 0, 0], done(0), again),
+        (before, [0, 6, 0], retried(done(0), 1), held),
+        (before, [0, 0, 0], retried(done(0), 1), again),
         (held, [0, 0, 0], done(0), again),
         (before, [0, 7, 0], refused(4, 0), before),
         (before, [0, 6, 1], refused(5, 0), before),

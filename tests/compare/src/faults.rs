@@ -6,7 +6,9 @@ use crate::length_faults;
 use crate::model::{
     Record, EXCLUSIVE_TOTAL, GO, HOLD, MAX_THREADS, PLACES, READER_HOLDS, SET, SHARED_TOTAL,
 };
-use crate::part::{done, number_of, refused, value_of, Entry, Model, Part};
+use crate::part::{done, number_of, refused, value_of};
+use crate::part::{Entry, Model, Part, ENTRIES};
+use crate::retry_faults::Retrying;
 use crate::script_faults;
 use crate::scripts;
 use crate::sound_faults::{judged, passing};
@@ -240,6 +242,51 @@ pub enum Fault {
     LengthBoundLess,
     /// The longest history whose plan has a length has 60,002 bytes.
     LengthBoundMore,
+    /// No move says that it was a retry.
+    RetryNeverSaid,
+    /// Every quiet move says so.
+    RetryAlwaysSaid,
+    /// One kind of retry isn't said.
+    GoIn4NoRetry,
+    HoldNoRetry,
+    RelentNoRetry,
+    Busy1NoRetry,
+    SetIn10NoRetry,
+    SetIn15NoRetry,
+    ClearIn15NoRetry,
+    /// In 15 set is a retry as in 10, on forbidden 1.
+    SetIn15AsIn10,
+    /// A move that is none says that it was a retry: go in 11 that reads busy 0,
+    /// set in 10 on forbidden 0, clear in 15 on forbidden 1, go in 3, 12 and 18.
+    Busy0Retry,
+    NewFlagRetry,
+    FlagClearedRetry,
+    GoIn3Retry,
+    GoIn12Retry,
+    GoIn18Retry,
+    /// A move that shows an event says that it was a retry.
+    EventRetry,
+    /// A refused move does.
+    RefusedRetry,
+    /// The answer of another entry has bit 40 set where it is accepted.
+    OtherRetry(Entry),
+    /// The run counts no retry, all its moves, or each thread's once.
+    RunCountsNone,
+    RunCountsMoves,
+    RunCountsThreads,
+    /// The run counts the line that stops it: any by 6 or 7, or hold by 7.
+    RunCountsRefused,
+    RunCountsRefusedHold,
+    /// The run's last retry isn't counted, or only where it is the last move.
+    RunWithoutLast,
+    RunWithoutLastMove,
+    /// A run that a line stops counts nothing.
+    RunStoppedCountsNone,
+    /// The run counts in 8 bits, or in 11.
+    RunCountOf8,
+    RunCountOf11,
+    /// A run that is refused tells of its retries.
+    RunRefusedCounts,
 }
 
 /// The faults but those of the rule below.
@@ -370,9 +417,69 @@ pub const OF_RULE: [Fault; 14] = [
     Fault::BarredCleared,
 ];
 
+/// Faults of the retry that a move says.
+pub const OF_RETRY: [Fault; 18] = [
+    Fault::RetryNeverSaid,
+    Fault::RetryAlwaysSaid,
+    Fault::GoIn4NoRetry,
+    Fault::HoldNoRetry,
+    Fault::RelentNoRetry,
+    Fault::Busy1NoRetry,
+    Fault::SetIn10NoRetry,
+    Fault::SetIn15NoRetry,
+    Fault::ClearIn15NoRetry,
+    Fault::SetIn15AsIn10,
+    Fault::Busy0Retry,
+    Fault::NewFlagRetry,
+    Fault::FlagClearedRetry,
+    Fault::GoIn3Retry,
+    Fault::GoIn12Retry,
+    Fault::GoIn18Retry,
+    Fault::EventRetry,
+    Fault::RefusedRetry,
+];
+
+/// Faults of the retries that a run counts.
+pub const OF_COUNT: [Fault; 11] = [
+    Fault::RunCountsNone,
+    Fault::RunCountsMoves,
+    Fault::RunCountsThreads,
+    Fault::RunCountsRefused,
+    Fault::RunCountsRefusedHold,
+    Fault::RunWithoutLast,
+    Fault::RunWithoutLastMove,
+    Fault::RunStoppedCountsNone,
+    Fault::RunCountOf8,
+    Fault::RunCountOf11,
+    Fault::RunRefusedCounts,
+];
+
+/// Entries that make no move, each with a retry in its answer.
+fn of_other_entries() -> impl Iterator<Item = Fault> {
+    let entries = ENTRIES.into_iter().filter(|entry| !entry.makes_moves());
+    entries.map(Fault::OtherRetry)
+}
+
 /// All of them.
 pub fn faults() -> impl Iterator<Item = Fault> {
-    OTHERS.into_iter().chain(OF_RULE)
+    OTHERS
+        .into_iter()
+        .chain(OF_RULE)
+        .chain(OF_RETRY)
+        .chain(OF_COUNT)
+        .chain(of_other_entries())
+}
+
+/// The model with a fault.
+pub fn faulty(fault: Fault) -> Box<dyn Part> {
+    let of_retries = matches!(fault, Fault::OtherRetry(_))
+        || OF_RETRY.contains(&fault)
+        || OF_COUNT.contains(&fault);
+    if of_retries {
+        Box::new(Retrying { fault })
+    } else {
+        Box::new(Faulty::new(fault))
+    }
 }
 
 /// A line `(T (hold K))` without its target.
@@ -394,14 +501,14 @@ fn replace_one(places: &mut [u8], from: u8, to: u8) -> u8 {
     }
 }
 
-pub struct Faulty {
+struct Faulty {
     fault: Fault,
     /// Whether the watch has stopped.
     stopped: Cell<bool>,
 }
 
 impl Faulty {
-    pub fn new(fault: Fault) -> Faulty {
+    fn new(fault: Fault) -> Faulty {
         Faulty {
             fault,
             stopped: Cell::new(false),

@@ -2,17 +2,22 @@
 
 #[cfg(feature = "archive")]
 pub mod archive;
+pub mod arrows;
 pub mod cases;
 pub mod comparison;
 pub mod examples;
 pub mod faults;
+pub mod graph;
 pub mod histories;
 mod length_faults;
 pub mod lengths;
 pub mod lists;
 pub mod model;
 pub mod part;
+pub mod progress;
 pub mod random;
+pub mod retries;
+mod retry_faults;
 mod script_faults;
 pub mod scripts;
 pub mod sections;

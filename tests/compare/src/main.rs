@@ -14,9 +14,10 @@ use std::path::Path;
 use std::process::ExitCode;
 
 use compare::comparison::Comparison;
-use compare::faults::{faults, Fault, Faulty, OF_RULE};
+use compare::faults::{faults, faulty, Fault, OF_COUNT, OF_RETRY, OF_RULE};
 use compare::part::{Entry, Model, Part, ENTRIES};
-use compare::{examples, lengths, sections, spoiled, unreached, vectors, written};
+use compare::{arrows, examples, lengths, progress, retries, sections, spoiled};
+use compare::{unreached, vectors, written};
 
 const SEED: u64 = 0x5eed_0f10_c4ed_2026;
 
@@ -45,7 +46,7 @@ struct Section {
     run: fn(&mut Comparison, &[vectors::Vector]),
 }
 
-const SECTIONS: [Section; 32] = [
+const SECTIONS: [Section; 35] = [
     Section {
         name: "vectors",
         needs: None,
@@ -70,6 +71,11 @@ const SECTIONS: [Section; 32] = [
         name: "examples of hold",
         needs: None,
         run: |c, _| examples::hold(c),
+    },
+    Section {
+        name: "examples of retries",
+        needs: Some(Entry::Run),
+        run: |c, _| retries::examples(c),
     },
     Section {
         name: "examples of tables that no moves leave",
@@ -192,6 +198,16 @@ const SECTIONS: [Section; 32] = [
         run: |c, _| sections::reached_by_part(c),
     },
     Section {
+        name: "moves without calls and retries from every sound table: how many there can be",
+        needs: None,
+        run: |c, _| progress::limit(c),
+    },
+    Section {
+        name: "arrows of Figure 1 from every sound table: taken where their condition holds",
+        needs: None,
+        run: |c, _| arrows::figure_1(c),
+    },
+    Section {
         name: "tables with all threads in phases 3, 4 and 18",
         needs: None,
         run: |c, _| unreached::barred(c, SEED),
@@ -234,7 +250,7 @@ fn compare_all(c: &mut Comparison, vectors: &[vectors::Vector]) -> (u64, u64) {
 /// A section, and faults that it must find by itself, whatever others find.
 type Alone = (&'static str, fn(&mut Comparison), &'static [Fault]);
 
-const ALONE: [Alone; 5] = [
+const ALONE: [Alone; 10] = [
     (
         "the tables reached and the sound ones",
         sections::reached_by_part,
@@ -294,12 +310,53 @@ const ALONE: [Alone; 5] = [
         |c| sections::random_cases(c, SEED),
         &OF_RULE,
     ),
+    (
+        "random cases",
+        |c| sections::random_cases(c, SEED),
+        &OF_RETRY,
+    ),
+    (
+        "random scripts",
+        |c| written::against_run(c, SEED),
+        &[
+            Fault::RunCountsNone,
+            Fault::RunCountsMoves,
+            Fault::RunCountsThreads,
+            Fault::RunCountsRefused,
+            Fault::RunCountsRefusedHold,
+            Fault::RunWithoutLast,
+            Fault::RunWithoutLastMove,
+            Fault::RunStoppedCountsNone,
+        ],
+    ),
+    ("examples of retries", retries::examples, &OF_RETRY),
+    ("examples of retries", retries::examples, &OF_COUNT),
+    (
+        "moves without calls and retries",
+        progress::limit,
+        &[
+            Fault::RetryNeverSaid,
+            Fault::RetryAlwaysSaid,
+            Fault::GoIn4NoRetry,
+            Fault::HoldNoRetry,
+            Fault::RelentNoRetry,
+            Fault::Busy1NoRetry,
+            Fault::SetIn10NoRetry,
+            Fault::SetIn15NoRetry,
+            Fault::ClearIn15NoRetry,
+            Fault::SetIn15AsIn10,
+            Fault::Busy0Retry,
+            Fault::NewFlagRetry,
+            Fault::FlagClearedRetry,
+            Fault::EventRetry,
+        ],
+    ),
 ];
 
 /// Whether a comparison finds a fault.
 fn finds(fault: Fault, compare: impl FnOnce(&mut Comparison)) -> bool {
-    let part = Faulty::new(fault);
-    let mut c = Comparison::silent(&part, &ENTRIES);
+    let part = faulty(fault);
+    let mut c = Comparison::silent(&*part, &ENTRIES);
     compare(&mut c);
     c.failed > 0
 }

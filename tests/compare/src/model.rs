@@ -78,11 +78,12 @@ pub enum Refusal {
     Inconsistent = 13,
 }
 
-/// What a move answers. A shown event is given by its code.
+/// What a move answers. A shown event is given by its code. A retry shows none.
 #[derive(Clone, Copy, PartialEq, Eq, Debug)]
 pub enum Outcome {
     Shown(u8),
     Quiet,
+    Retry,
     Refused(Refusal),
 }
 
@@ -284,6 +285,35 @@ fn apply(
     target: usize,
 ) -> Outcome {
     let at = place_of(thread);
+    let before = (table[at], *forbidden);
+    match step(table, threads, forbidden, at, mov, target) {
+        Outcome::Quiet if was_retry(before, (table[at], *forbidden)) => Outcome::Retry,
+        outcome => outcome,
+    }
+}
+
+/// Whether a quiet move was a retry, by the mover's phase and the number of
+/// threads with forbidden 1, before it and after it. Phase 4 is left by retries
+/// alone, and 12 is entered by retries alone. In 10 a new flag must be set, in
+/// 15 a flag must be cleared.
+fn was_retry((phase, flags): (u8, usize), (next, flags_after): (u8, usize)) -> bool {
+    match phase {
+        4 => true,
+        10 => flags_after == flags,
+        15 => flags_after >= flags,
+        _ => next == 12,
+    }
+}
+
+/// Makes a move of the thread whose phase stands at `at`.
+fn step(
+    table: &mut [u8],
+    threads: usize,
+    forbidden: &mut usize,
+    at: usize,
+    mov: u16,
+    target: usize,
+) -> Outcome {
     let flag = place_of(target) + 2;
     match (mov, table[at]) {
         (GO, _) => return go(table, threads, forbidden, at),
@@ -713,23 +743,32 @@ impl Printer {
     }
 }
 
+/// What a run answers: how many bytes it wrote, and how many of its moves were
+/// retries.
+#[derive(Clone, Copy, PartialEq, Eq, Debug)]
+pub struct Ran {
+    pub bytes: usize,
+    pub retries: usize,
+}
+
 /// Runs a script and writes what it prints.
 #[inline(never)]
-pub fn run(script: &[u8], out: &mut [u8]) -> Answer {
+pub fn run(script: &[u8], out: &mut [u8]) -> Result<Ran, Refusal> {
     if script.len() > MAX_SCRIPT {
-        return refused(Refusal::BadForm);
+        return Err(Refusal::BadForm);
     }
     let mut printer = Printer {
         bytes: [0; RUN_ROOM],
         len: 0,
     };
-    run_lines(script, &mut printer);
+    let retries = run_lines(script, &mut printer);
     let printed = &printer.bytes[..printer.len];
     if out.len() < printed.len() {
-        return refused(Refusal::NoRoom);
+        return Err(Refusal::NoRoom);
     }
     out[..printed.len()].copy_from_slice(printed);
-    Answer::Done(printed.len())
+    let bytes = printed.len();
+    Ok(Ran { bytes, retries })
 }
 
 /// Takes the first line off a script, without its line feed. A line that lacks
@@ -792,35 +831,46 @@ impl Iterator for Lines<'_> {
     }
 }
 
-fn run_lines(script: &[u8], printer: &mut Printer) {
+/// Runs the lines and prints. Gives how many of the moves made were retries.
+fn run_lines(script: &[u8], printer: &mut Printer) -> usize {
     let mut lines = match Lines::start(script) {
         Ok(lines) => lines,
-        Err(refusal) => return printer.refused(refusal, 1),
+        Err(refusal) => {
+            printer.refused(refusal, 1);
+            return 0;
+        }
     };
     let threads = lines.threads;
     let mut bytes = [0; 3 + 3 * MAX_THREADS];
     let table = &mut bytes[..table_size(threads)];
     start(threads, table);
-    let (mut forbidden, mut steps) = (0, 0);
+    let (mut forbidden, mut steps, mut retries) = (0, 0, 0);
     while let Some(line) = lines.next() {
-        let made = match line {
-            Ok(Some(made)) => made,
+        let outcome = match line {
             Ok(None) => continue,
-            Err(refusal) => return printer.refused(refusal, lines.place),
+            Err(refusal) => Outcome::Refused(refusal),
+            Ok(Some(made)) => {
+                let Move {
+                    thread,
+                    mov,
+                    target,
+                } = made;
+                let outcome = apply(table, threads, &mut forbidden, thread, mov, target);
+                if let Outcome::Shown(event) = outcome {
+                    printer.event(thread, event);
+                }
+                outcome
+            }
         };
-        let Move {
-            thread,
-            mov,
-            target,
-        } = made;
-        match apply(table, threads, &mut forbidden, thread, mov, target) {
-            Outcome::Quiet => (),
-            Outcome::Shown(event) => printer.event(thread, event),
-            Outcome::Refused(refusal) => return printer.refused(refusal, lines.place),
+        if let Outcome::Refused(refusal) = outcome {
+            printer.refused(refusal, lines.place);
+            return retries;
         }
         steps += 1;
+        retries += usize::from(outcome == Outcome::Retry);
     }
     printer.steps(steps);
+    retries
 }
 
 // --------------------------------------------------------------- the watcher

@@ -1,12 +1,15 @@
 //! The entries of the part, as the archive exports them, and the calls that
 //! are made of them.
 //!
-//! An answer's low byte is the refusal's number, 0 where accepted. The rest is
-//! the refusal's place, or the number answered: a count, or for the move the
-//! event's code, 0 for quiet. The watcher answers 0, and its question 1 for yes
-//! and 0 for no. Reading a script answers N and 256 times the number of bytes.
+//! An answer's low byte is the refusal's number, 0 where accepted. The rest of a
+//! refusal is its place. Of an accepted call the next 32 bits are the number
+//! answered: a count, or for the move the event's code, 0 for quiet. The watcher
+//! answers 0, and its question 1 for yes and 0 for no. Reading a script answers N
+//! and 256 times the number of bytes. The bits from 40 upward count the retries:
+//! 1 for a move that was one, for a run those among its moves, and 0 for every
+//! other entry.
 
-use crate::model::{self, Answer, Outcome, Record, Refusal};
+use crate::model::{self, Answer, Outcome, Ran, Record, Refusal};
 use crate::spelling::{self, Reading};
 
 /// The entries of the part. Those that an archive lacks keep the default.
@@ -62,8 +65,33 @@ pub fn number_of(answer: u64) -> u8 {
     answer as u8
 }
 
+/// The number answered, or the place of a refusal.
 pub fn value_of(answer: u64) -> u64 {
-    answer >> 8
+    match number_of(answer) {
+        0 => answer >> 8 & 0xffff_ffff,
+        _ => answer >> 8,
+    }
+}
+
+/// An accepted answer with so many retries.
+pub fn retried(answer: u64, retries: u64) -> u64 {
+    answer | retries << 40
+}
+
+/// The retries of an accepted answer.
+pub fn retries_of(answer: u64) -> u64 {
+    match number_of(answer) {
+        0 => answer >> 40,
+        _ => 0,
+    }
+}
+
+/// An answer without its retries.
+pub fn without_retries(answer: u64) -> u64 {
+    match number_of(answer) {
+        0 => done(value_of(answer)),
+        _ => answer,
+    }
 }
 
 /// The model as a part.
@@ -92,6 +120,7 @@ impl Part for Model {
         match model::make_move(table, thread, mov, target) {
             Outcome::Shown(event) => done(u64::from(event)),
             Outcome::Quiet => done(0),
+            Outcome::Retry => retried(done(0), 1),
             Outcome::Refused(refusal) => refused(refusal as u64, 0),
         }
     }
@@ -111,7 +140,10 @@ impl Part for Model {
         encoded(model::plan_length(threads, history))
     }
     fn run(&self, script: &[u8], out: &mut [u8]) -> u64 {
-        encoded(model::run(script, out))
+        match model::run(script, out) {
+            Ok(Ran { bytes, retries }) => retried(done(bytes as u64), retries as u64),
+            Err(refusal) => refused(refusal as u64, 0),
+        }
     }
     fn watch_start(&self, threads: u16, record: &mut Record) -> u64 {
         watched(model::watch_start(threads, record).map(|()| 0))
@@ -198,6 +230,11 @@ impl Entry {
 
     pub fn is_of_writing(self) -> bool {
         matches!(self, Entry::WriteScript | Entry::ReadScript)
+    }
+
+    /// Whether the entry makes moves, so that its answer tells of retries.
+    pub fn makes_moves(self) -> bool {
+        matches!(self, Entry::Move | Entry::Run)
     }
 
     /// The refusals that the entry can give.

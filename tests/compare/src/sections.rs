@@ -4,11 +4,12 @@ use std::collections::HashSet;
 
 use crate::cases;
 use crate::comparison::Comparison;
+use crate::graph::REACHED;
 use crate::histories;
 use crate::lengths;
 use crate::model::{self, LAST_MOVE};
 use crate::model::{Record, EXCLUSIVE_TOTAL, RECORD_SIZE, SHARED_TOTAL};
-use crate::part::{done, hex, number_of, refused, value_of};
+use crate::part::{done, hex, number_of, refused, retried, retries_of, value_of, without_retries};
 use crate::part::{Call, Caller, Entry, Model, ENTRIES};
 use crate::random::Random;
 use crate::tables;
@@ -22,9 +23,6 @@ const CASES: usize = 200_000;
 const PRINTED: [u8; 7] = [0, 1, 3, 5, 6, 7, 8];
 /// Numbers past every range, some of which a cut to eight bits brings back.
 const FAR: [u16; 3] = [255, 256, 65535];
-/// Numbers of threads, and how many tables moves reach for each. These are the
-/// sound ones.
-const REACHED: [(usize, usize); 3] = [(1, 16), (2, 479), (3, 14_118)];
 /// Numbers of threads, and how many of the small records are consistent.
 const CONSISTENT: [(usize, usize); 2] = [(1, 7), (2, 46)];
 /// Numbers of threads of walks, plans and watches.
@@ -44,24 +42,29 @@ const VERDICTS: [u8; 4] = [0, 9, 10, 11];
 /// `before_hold` names are held in the form that it gives them; as they stand,
 /// model and part must agree on them, and the answer of some is another now.
 /// Those that `before_rule` names are held to refusal 2, all others to the
-/// answer that they came with.
+/// answer that they came with. They say nothing of retries: of a move or a run
+/// model and part must agree on these.
 pub fn vectors(c: &mut Comparison, vectors: &[Vector]) {
     // Planted faults are sought without vectors too.
     if vectors.is_empty() {
         return;
     }
     let (mut named, mut changed, mut barred) = (0, 0, 0);
+    let mut retries = 0;
     for vector in vectors {
         let old = before_hold(vector);
         let held = old.as_ref().unwrap_or(vector);
         let unsound = before_rule(held);
         let held = unsound.as_ref().unwrap_or(held);
-        c.expect(&held.name, &held.call, held.answer, &held.after);
+        let answer = with_retries(c, held);
+        c.expect(&held.name, &held.call, answer, &held.after);
+        retries += u32::from(answer != held.answer);
         barred += u32::from(unsound.is_some());
         if old.is_some() {
             let answer = c.compare(&vector.call);
             named += 1;
-            changed += u32::from(answer != vector.answer || c.lent() != vector.after);
+            let same = without_retries(answer) == vector.answer && c.lent() == vector.after;
+            changed += u32::from(!same);
         }
         if c.stopped() {
             return;
@@ -77,6 +80,10 @@ pub fn vectors(c: &mut Comparison, vectors: &[Vector]) {
         "  made before the rule on 3, 4 and 18, with a table that it bars: {barred} vectors, held to refusal 2"
     ));
     c.claim(barred > 0, || "the rule bars no vector's table".to_string());
+    c.say(&format!(
+        "  made before retries were told: {retries} vectors with a retry, held to the answer without it"
+    ));
+    c.claim(retries > 0, || "no vector has a retry".to_string());
     for entry in vectors::entries() {
         let count = vectors
             .iter()
@@ -89,6 +96,16 @@ pub fn vectors(c: &mut Comparison, vectors: &[Vector]) {
         };
         c.say(&format!("  {}: {count} vectors, {who}", entry.name()));
     }
+}
+
+/// The answer of a vector with the retries of its move or run, on which model
+/// and part must agree.
+fn with_retries(c: &mut Comparison, vector: &Vector) -> u64 {
+    if !vector.call.entry.makes_moves() {
+        return vector.answer;
+    }
+    let answer = c.compare(&vector.call);
+    retried(vector.answer, retries_of(answer))
 }
 
 fn upto(last: u16) -> Vec<u16> {
@@ -291,10 +308,12 @@ pub fn random_cases(c: &mut Comparison, seed: u64) {
     {
         let mut r = Random::new(seed ^ (entry as u64) << 32);
         let mut printed = [false; 13];
+        let mut retries = 0;
         c.reset_seen();
         for _ in 0..CASES {
             let call = cases::any(&mut r, entry);
             let answer = c.compare(&call);
+            retries += retries_of(answer);
             if entry == Entry::Run && number_of(answer) == 0 {
                 printed[refusal_printed(&c.lent()[..value_of(answer) as usize])] = true;
             }
@@ -308,6 +327,10 @@ pub fn random_cases(c: &mut Comparison, seed: u64) {
             "  {}: {CASES} cases, refusals {refusals}",
             entry.name()
         ));
+        if entry.makes_moves() {
+            c.claim(retries > 0, || format!("{} made no retry", entry.name()));
+            c.say(&format!("  {}: {retries} retries", entry.name()));
+        }
         if entry == Entry::Run {
             for number in PRINTED {
                 c.claim(printed[usize::from(number)], || {
@@ -411,11 +434,11 @@ fn edited_script(c: &mut Comparison, script: &[u8], refusal: u64) {
 /// Lists of requests from a fresh table, each on the table that the one before
 /// left; what they show is a permitted history.
 pub fn walks(c: &mut Comparison, seed: u64) {
-    let (mut requests, mut shown) = (0, 0);
+    let (mut requests, mut shown, mut retries) = (0, 0, 0);
     for (round, threads) in THREADS.repeat(4).into_iter().enumerate() {
         let mut r = Random::new(seed ^ round as u64);
         let mut history = Vec::new();
-        walk(c, &mut r, threads, |_, pair, _| history.extend(pair));
+        retries += walk(c, &mut r, threads, |_, pair, _| history.extend(pair));
         requests += REQUESTS;
         shown += history.len() / 2;
         permitted(c, threads, &history);
@@ -424,24 +447,24 @@ pub fn walks(c: &mut Comparison, seed: u64) {
         }
     }
     c.say(&format!(
-        "  28 walks, {requests} requests, {shown} events shown, all permitted"
+        "  28 walks, {requests} requests, {retries} retries, {shown} events shown, all permitted"
     ));
 }
 
 /// Makes the requests of a walk. `see` gets each event shown, its thread before
-/// it, and the table after it.
+/// it, and the table after it. Gives how many moves were retries.
 fn walk(
     c: &mut Comparison,
     r: &mut Random,
     threads: usize,
     mut see: impl FnMut(&mut Comparison, [u8; 2], &[u8]),
-) {
+) -> u64 {
     c.compare(&Call::fresh(
         threads as u16,
         vec![0x5a; model::table_size(threads)],
     ));
     let mut table = c.lent().to_vec();
-    let mut thread = 0;
+    let (mut thread, mut retries) = (0, 0);
     for _ in 0..REQUESTS {
         if r.chance(1, 3) {
             thread = r.below(threads) as u16;
@@ -454,10 +477,12 @@ fn walk(
         };
         let answer = c.compare(&Call::make_move(table.clone(), thread, mov, target));
         table.copy_from_slice(c.lent());
+        retries += retries_of(answer);
         if number_of(answer) == 0 && value_of(answer) > 0 {
             see(c, [thread as u8, value_of(answer) as u8], &table);
         }
     }
+    retries
 }
 
 /// A move for a thread: as a rule one that its phase has, with the lowest
@@ -502,7 +527,7 @@ fn permitted(c: &mut Comparison, threads: usize, history: &[u8]) {
 }
 
 /// Plans of random histories, made move by move from a fresh table: each move
-/// is accepted, and together they show the history.
+/// is accepted, none is a retry, and together they show the history.
 pub fn plans(c: &mut Comparison, seed: u64) {
     let mut moves = 0;
     for (round, threads) in THREADS.repeat(20).into_iter().enumerate() {
@@ -526,7 +551,7 @@ pub fn plans(c: &mut Comparison, seed: u64) {
         }
     }
     c.say(&format!(
-        "  140 plans, {moves} moves, all accepted, showing the histories planned"
+        "  140 plans, {moves} moves, all accepted, none a retry, showing the histories planned"
     ));
 }
 
@@ -542,7 +567,7 @@ fn replay(c: &mut Comparison, threads: usize, plan: &[u8], history: &[u8]) -> us
         let [thread, mov, target] = [0, 1, 2].map(|i| u16::from(triple[i]));
         let answer = c.compare(&Call::make_move(table.clone(), thread, mov, target));
         table.copy_from_slice(c.lent());
-        accepted &= number_of(answer) == 0;
+        accepted &= number_of(answer) == 0 && retries_of(answer) == 0;
         if value_of(answer) > 0 {
             shown.extend([triple[0], value_of(answer) as u8]);
         }
