@@ -9,10 +9,7 @@ use Rattle.definitions.specs.Sound.{backedOff}
 use Rattle.rows.specs.Rows.{oneBad, rowFor, rowAt}
 use Rattle.soundness.specs.Pass.{threadFits, forbiddenReader}
 use Rattle.theory.proofs.Cases.{holder-phase}
-
-one-most : (b : Bool) → cond b 1 0 ≤ 1
-one-most true = omega arith
-one-most false = omega arith
+use Rattle.theory.proofs.Tests.{one-most}
 
 phase-most : (b : Bool) (phase : ℕ) → (T b → phase ≤ lastPhase) → cond b phase 0 ≤ lastPhase
 phase-most true phase h = h tt

@@ -1,7 +1,7 @@
 -- What an arm of the rules has to show, from plain facts: the phase or the move that chose it, and the decision that its call answers.
 use Prim.Native.Nat.{ℕ, suc, _≤_, _<_}
 use native.Mathlib.Omega.{arith}
-use mathlib.Core.Bool.{Bool, true, false, cond, _&&_, _||_}
+use mathlib.Core.Bool.{Bool, true, false, cond, _&&_, _||_, or-false}
 use mathlib.Core.List.{List, [], _∷_}
 use mathlib.Core.Logic.{⊎-elim}
 use mathlib.Core.Path.{_≡_, refl, sym, subst, subst⁻¹, ap, _∙_}
@@ -50,10 +50,6 @@ unseen-says b retry e = by b ∙ ap (λ (x : Bool). accepted (moved quiet x)) e
     by : (x : Bool) → outcomeReply (unseenBy x) ≡ accepted (moved quiet x)
     by true = refl
     by false = refl
-
-or-none : (b : Bool) → b ≡ (b || false)
-or-none true = refl
-or-none false = refl
 
 -- an arm of the moves
 pub move-arm : (v : View) (mv m : ℕ) (d d′ : Decided) → mv ≡ m → d ≡ d′
@@ -150,7 +146,7 @@ pub probe-says : (v : View) (s : Table) (i t u : ℕ) → Sees v 11 s i t → ou
 unfolding isRetry
 probe-says v s i t u seen =
     unseen-says (eqb (v .«subject_busy») 1) (eqb (s .busy (s .target)) 1 || false)
-    (ap (λ (x : View). eqb (x .«subject_busy») 1) (seen .view) ∙ ap (λ (x : ℕ). eqb (s .busy x) 1) (seen .subject) ∙ or-none (eqb (s .busy (s .target)) 1))
+    (ap (λ (x : View). eqb (x .«subject_busy») 1) (seen .view) ∙ ap (λ (x : ℕ). eqb (s .busy x) 1) (seen .subject) ∙ sym (or-false (eqb (s .busy (s .target)) 1)))
 
 -- ---- set and clear
 
@@ -165,7 +161,7 @@ set-retry : (s : Table) (r : Request) → T (accepts s (asking r setMove)) → (
 unfolding isRetry
 set-retry s r a =
     let p = s .phase (r .thread) in
-    or-at p 10 _ (λ e. rw e (or-none (eqb (s .forbidden (r .target)) 1))) (or-at p 15 _ (λ e. rw e) (none-of p))
+    or-at p 10 _ (λ e. rw e (sym (or-false (eqb (s .forbidden (r .target)) 1)))) (or-at p 15 _ (λ e. rw e) (none-of p))
     (has-phase 3 p _ phases-3 (accepted-e s (asking r setMove) a .has-move))
 
 pub set-arm : (v : View) (d : Decided)

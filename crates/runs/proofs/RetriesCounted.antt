@@ -16,6 +16,7 @@ use Rattle.definitions.specs.Table.{countFits, fresh}
 use Rattle.definitions.specs.Texts.{Line, linesOf}
 use Rattle.runs.specs.Requests.{movesFrom, movesFirst, movesOf}
 use Rattle.theory.proofs.Numbers.{decimal-some}
+use Rattle.theory.proofs.Tests.{one-most}
 use Rattle.runs.proofs.Lines.{lineSize, sizeOf, behind-size, lines-size, Does, line-does}
 
 -- ---- the lines behind the first
@@ -50,10 +51,6 @@ unfolding retriesFrom
 few-lines table [] = omega arith
 few-lines table (l ∷ ls) = by (turnOf table (lineForm l)) (line-does table l) (few-lines table ls) (λ after. few-lines after ls)
   where
-    one : (b : Bool) → cond b 1 0 ≤ 1
-    one true = omega arith
-    one false = omega arith
-
     by : (u : Turn) → Does table (lineSize l) u → 9 * retriesFrom table ls ≤ sizeOf ls → ((after : List ℕ) → 9 * retriesFrom after ls ≤ sizeOf ls)
         → 9 * elim u [
           | stops number ↦ 0
@@ -65,7 +62,7 @@ few-lines table (l ∷ ls) = by (turnOf table (lineForm l)) (line-does table l) 
     by (makes r answer) d same next =
         let long = d .1 .plain in
         let rest = next (moveTable table r) in
-        let here = one (answer .retry) in
+        let here = one-most (answer .retry) in
         omega (arith, decimal-some (r .thread))
 
 -- ---- the whole run

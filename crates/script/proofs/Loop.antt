@@ -3,7 +3,7 @@ use Prim.Native.Nat.{ℕ, _+_, _-_, _*_, _%_, _^_, _≤_, _<_}
 use native.Mathlib.Nat.{zero-add}
 use native.Mathlib.Numerals.{add-one}
 use native.Mathlib.Omega.{arith}
-use mathlib.Core.Bool.{Bool, true, false, cond}
+use mathlib.Core.Bool.{true}
 use mathlib.Core.List.{List, _++_, append-assoc}
 use mathlib.Core.Path.{_≡_, refl, sym, subst, ap, _∙_}
 use lib.ListN.{length, take, drop, length-take, length-drop}
@@ -30,6 +30,7 @@ use Rattle.runs.proofs.Lines.{Does, line-does}
 use Rattle.theory.proofs.Numbers.{decimal-some}
 use Rattle.theory.proofs.Outputs.{same-size, put-front}
 use Rattle.theory.proofs.SoundKept.{sound-kept}
+use Rattle.theory.proofs.Tests.{one-most}
 use Rattle.script.proofs.Histories.{linesIn, lines-append}
 use Rattle.script.proofs.PrintedText.{turnAt, at-done, at-unended, at-stop, at-pass, none-done, none-unended, none-stop, counted-pass}
 
@@ -82,11 +83,7 @@ made-most (makes r answer) = omega arith
 retried-most : (t : Turn) → retriesMade t ≤ 1
 retried-most (stops number) = omega arith
 retried-most passes = omega arith
-retried-most (makes r answer) = by (answer .retry)
-  where
-    by : (b : Bool) → cond b 1 0 ≤ 1
-    by true = omega arith
-    by false = omega arith
+retried-most (makes r answer) = one-most (answer .retry)
 
 -- and it adds a pair or nothing, a pair only if it has nine bytes
 record OnePair (size : ℕ) (bytes : List ℕ) : Type 0 where

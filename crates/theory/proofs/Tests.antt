@@ -108,6 +108,11 @@ ne-T a b h = not-i (eqb a b) (λ t. h (eqb→eq a b t))
 pub T-ne : (a b : ℕ) → T (not (eqb a b)) → a ≡ b → ⊥
 T-ne a b t e = no-both (eqb a b) (eq-T a b e) t
 
+-- a test counts one or nothing
+pub one-most : (b : Bool) → cond b 1 0 ≤ 1
+one-most true = omega arith
+one-most false = omega arith
+
 -- two numbers are equal or not
 pub same? : (a b : ℕ) → (a ≡ b) ⊎ (a ≡ b → ⊥)
 same? a b = go (decided (eqb a b))
