@@ -10,11 +10,15 @@ CARGO_TARGET_DIR="$PWD/target/cargo"
 export WOSPINZO_LIB_DIR CARGO_TARGET_DIR
 mkdir -p target/examples
 
-${CC:-cc} -std=c99 -O2 -Wall -Wextra -pedantic -Werror -Iinclude \
-    -o target/examples/executive examples/c/executive.c "$lib/libwospinzo.a"
-echo 'C:'
-target/examples/executive
+for example in executive dispatcher; do
+    ${CC:-cc} -std=c99 -O2 -Wall -Wextra -pedantic -Werror -Iinclude \
+        -o target/examples/$example examples/c/$example.c "$lib/libwospinzo.a"
+    echo "C, $example:"
+    target/examples/$example
+done
 
 cargo build --quiet --release --offline --manifest-path examples/rust/Cargo.toml
-echo 'Rust:'
-target/cargo/release/executive
+for example in executive dispatcher; do
+    echo "Rust, $example:"
+    target/cargo/release/$example
+done

@@ -9,9 +9,10 @@
  *
  * A readers-writer lock for N threads (tasks of an executive) kept in one
  * table of bytes that the caller owns. Every step of a thread through the lock
- * is one call of wospinzo_move. The functions start no threads, take no
- * memory, keep no state between calls and call nothing back; none calls itself,
- * directly or through others, and none is called through a pointer (tests/calls).
+ * is one call of wospinzo_move, or of wospinzo_dispatch, which chooses the thread
+ * and the move by itself. The functions start no threads, take no memory, keep no
+ * state between calls and call nothing back; none calls itself, directly or
+ * through others, and none is called through a pointer (tests/calls).
  *
  * The table: 3 + 3N bytes.
  *   byte 0           N, 1 to 200
@@ -21,9 +22,9 @@
  *   byte 4 + 3i      its busy flag, 0 or 1
  *   byte 5 + 3i      its forbidden flag, 0 or 1
  *
- * wospinzo_fresh fills it, wospinzo_move brings it up to date, and nobody else
- * may write it between calls. The caller may read it, and may put back, over a
- * restart, the bytes that the last call left.
+ * wospinzo_fresh fills it, wospinzo_move and wospinzo_dispatch bring it up to
+ * date, and nobody else may write it between calls. The caller may read it, and
+ * may put back, over a restart, the bytes that the last call left.
  *
  * The table is sound exactly if some list of moves, all accepted, leaves it from
  * the fresh table for its N: the theorem complete, for every N from 1 to 200, in
@@ -76,7 +77,7 @@ extern "C" {
 /* The version of this header; wospinzo_version answers that of the archive.
  * docs/CHANGELOG.md says what a version promises. */
 #define WOSPINZO_VERSION_MAJOR 1
-#define WOSPINZO_VERSION_MINOR 6
+#define WOSPINZO_VERSION_MINOR 7
 #define WOSPINZO_VERSION_PATCH 0
 #define WOSPINZO_VERSION \
     (65536 * WOSPINZO_VERSION_MAJOR + 256 * WOSPINZO_VERSION_MINOR + WOSPINZO_VERSION_PATCH)
@@ -107,6 +108,10 @@ extern "C" {
 /* The most moves that n threads can make one after the other without a call and
  * without a retry: N x (3N + 5), which some tables come to. */
 #define WOSPINZO_MAX_PROGRESS(n) ((n) * (3ul * (n) + 5ul))
+/* The most turns of the dispatcher that make a move, one after the other and for
+ * n threads: 6N - 2, which some tables come to. With the host making no moves
+ * between, waiting comes after so many turns at most, from any sound table. */
+#define WOSPINZO_MOST_TURNS(n) (6u * (n) - 2u)
 /* The bytes of a plan of so many moves, and the moves and bytes of the longest
  * plan: that of the longest history for 200 threads, rounds of exclusive and
  * then each thread's events 5, 6 and 7. */
@@ -266,6 +271,42 @@ static inline uint64_t wospinzo_run_retries(uint64_t answer)
     return wospinzo_accepted(answer) ? answer >> 40 : 0;
 }
 
+/* Of an answer of wospinzo_dispatch: 1 where no thread had a move for it, so that
+ * the table is as it was, else 0. */
+static inline int wospinzo_waiting(uint64_t answer)
+{
+    return answer == 0;
+}
+
+/* Of an answer of wospinzo_dispatch: 1 where a move was made, else 0. */
+static inline int wospinzo_dispatched(uint64_t answer)
+{
+    return wospinzo_accepted(answer) && answer != 0;
+}
+
+/* Of an answer of wospinzo_dispatch: the code of the event that its move shows, or
+ * WOSPINZO_QUIET; the thread that made the move; the move; and its target, 0 where
+ * it takes none. Where no move was made they are 0. */
+static inline uint16_t wospinzo_turn_event(uint64_t answer)
+{
+    return (uint16_t)(wospinzo_dispatched(answer) ? (answer >> 8) & 127u : 0u);
+}
+
+static inline uint16_t wospinzo_turn_thread(uint64_t answer)
+{
+    return (uint16_t)(wospinzo_dispatched(answer) ? (answer >> 16) & 255u : 0u);
+}
+
+static inline uint16_t wospinzo_turn_move(uint64_t answer)
+{
+    return (uint16_t)(wospinzo_dispatched(answer) ? (answer >> 24) & 255u : 0u);
+}
+
+static inline uint16_t wospinzo_turn_target(uint64_t answer)
+{
+    return (uint16_t)(wospinzo_dispatched(answer) ? (answer >> 32) & 255u : 0u);
+}
+
 /* Of an answer of wospinzo_watch_inside: 1 where nobody is inside, else 0. A
  * refusal says nothing of who is inside, although its value is 0. */
 static inline int wospinzo_nobody_inside(uint64_t answer)
@@ -321,8 +362,8 @@ static inline unsigned wospinzo_forbidden(const uint8_t *table, uint16_t thread)
 }
 
 /* Of this header: the largest table, that an answer's parts fit, the longest
- * plan, the room for a script's moves, and the layout of a watcher's record. Its
- * size is odd, so that its alignment is 1. */
+ * plan, the limits on moves and turns, the room for a script's moves, and the
+ * layout of a watcher's record. Its size is odd, so that its alignment is 1. */
 #if defined(__cplusplus)
 #define WOSPINZO_ASSERT(name, condition) static_assert(condition, "wospinzo.h: " #name)
 #elif defined(__STDC_VERSION__) && __STDC_VERSION__ >= 201112L
@@ -337,6 +378,7 @@ WOSPINZO_ASSERT(moves, (3 * WOSPINZO_MAX_THREADS + 6) * (WOSPINZO_MAX_HISTORY / 
                            4 * WOSPINZO_MAX_PLAN_MOVES);
 WOSPINZO_ASSERT(plan, WOSPINZO_PLAN_SIZE(WOSPINZO_MAX_PLAN_MOVES) == WOSPINZO_MAX_PLAN_SIZE);
 WOSPINZO_ASSERT(progress, WOSPINZO_MAX_PROGRESS(WOSPINZO_MAX_THREADS) == 121000);
+WOSPINZO_ASSERT(turns, WOSPINZO_MOST_TURNS(1) == 4 && WOSPINZO_MOST_TURNS(WOSPINZO_MAX_THREADS) == 1198);
 WOSPINZO_ASSERT(room, WOSPINZO_READ_ROOM == (WOSPINZO_MAX_SCRIPT - 12) / 9 * 3);
 WOSPINZO_ASSERT(watcher, sizeof(wospinzo_watcher) == WOSPINZO_WATCHER_SIZE);
 WOSPINZO_ASSERT(places, offsetof(wospinzo_watcher, places) == 3);
@@ -385,6 +427,33 @@ uint64_t wospinzo_fresh(uint16_t threads, uint8_t *out, size_t out_len);
 WOSPINZO_USE_ANSWER
 uint64_t wospinzo_move(uint8_t *table, size_t table_len, uint16_t thread, uint16_t move,
                        uint16_t target);
+
+/*
+ * The dispatcher. Tests the table, then makes one move: for the lowest-numbered
+ * thread that has one, a move that is no call, no retry and no leaving (go in 6
+ * or 14). The table stays in the lent bytes and is sound after it.
+ * Answers whether a move was made and which (wospinzo_dispatched,
+ * wospinzo_turn_thread, wospinzo_turn_move, wospinzo_turn_target), with the
+ * move's own answer (wospinzo_turn_event); or, where no thread has such a move,
+ * that it is waiting (wospinzo_waiting), with the table unchanged.
+ * wospinzo_value is 0 for waiting, else 128 + the event's code + 256 times the
+ * thread + 65,536 times the move + 16,777,216 times the target.
+ * Refusals: 1, 2, both with the table unchanged.
+ *
+ *   go       in phases 1, 2, 3, 5, 7, 8, 12, 13, 16, 17 and 18; in 9 while the
+ *            mutex is 0; in 11 while the target's busy flag is 0
+ *   set t    in phase 10, t being the lowest thread with forbidden 0
+ *   clear t  in phase 15, t being the lowest thread with forbidden 1
+ *
+ * The host makes all other moves by wospinzo_move, between turns: calls,
+ * leavings, and a reader's go or hold in phase 4. While it makes none, waiting
+ * comes after at most WOSPINZO_MOST_TURNS(N) turns, from any sound table. In a
+ * table that is waiting every thread is in phase 0, 4, 6, 9, 11 or 14, a writer in
+ * 11 has a target in Shared (6), and a thread in 9 finds the mutex taken: it is
+ * the host's move that lets them go on.
+ */
+WOSPINZO_USE_ANSWER
+uint64_t wospinzo_dispatch(uint8_t *table, size_t table_len);
 
 /*
  * Tests the table and writes the node of each thread, one byte a thread (enum

@@ -10,8 +10,8 @@ use std::time::Instant;
 use compare::archive::Archive;
 use compare::histories;
 use compare::model::{self, Record, EXCLUSIVE_TOTAL, PLACES, RECORD_SIZE, SHARED_TOTAL};
-use compare::model::{MAX_HISTORY, MAX_SCRIPT, RUN_ROOM};
-use compare::part::{done, done_reading, number_of, value_of, Model, Part};
+use compare::model::{CALL_EXCLUSIVE, CALL_SHARED, GO, MAX_HISTORY, MAX_SCRIPT, RUN_ROOM};
+use compare::part::{done, done_reading, number_of, value_of, Model, Part, WAITING};
 use compare::random::Random;
 use compare::scripts;
 use compare::tables;
@@ -193,8 +193,16 @@ fn assert_same(kind: &Kind, requests: &[Request]) {
     }
 }
 
-/// Makes the move on each table in turn. What a move may write is put back
-/// after it: mutex and target, and the bytes of the mover and of the targets.
+/// What a move may write, with the bytes that are there before it: mutex and
+/// target, and the bytes of the mover and of the targets.
+fn kept(request: &Request) -> [(usize, u8); 7] {
+    let old = usize::from(request.table[2]).min(request.table.len() / 3 - 2);
+    let (own, other) = (3 + 3 * request.thread, 5 + 3 * request.target);
+    let places = [1, 2, own, own + 1, own + 2, other, 5 + 3 * old];
+    places.map(|place| (place, request.table[place]))
+}
+
+/// Makes the move on each table in turn. What it may write is put back after it.
 fn turns(kind: &Kind, requests: &[Request]) -> impl FnMut(&dyn Part) -> u64 {
     struct Turn {
         table: Vec<u8>,
@@ -205,16 +213,11 @@ fn turns(kind: &Kind, requests: &[Request]) -> impl FnMut(&dyn Part) -> u64 {
     let mov = kind.mov;
     let mut turns = requests
         .iter()
-        .map(|request| {
-            let old = usize::from(request.table[2]).min(request.table.len() / 3 - 2);
-            let (own, other) = (3 + 3 * request.thread, 5 + 3 * request.target);
-            let places = [1, 2, own, own + 1, own + 2, other, 5 + 3 * old];
-            Turn {
-                table: request.table.clone(),
-                thread: request.thread as u16,
-                target: request.target as u16,
-                kept: places.map(|place| (place, request.table[place])),
-            }
+        .map(|request| Turn {
+            table: request.table.clone(),
+            thread: request.thread as u16,
+            target: request.target as u16,
+            kept: kept(request),
         })
         .collect::<Vec<_>>();
     let mut next = 0;
@@ -469,10 +472,116 @@ fn watch_rows() {
     });
 }
 
+// -------------------------------------------------------------- the dispatcher
+
+/// A random table in which the dispatcher is waiting.
+fn waiting(r: &mut Random, threads: usize) -> Vec<u8> {
+    let mut table = tables::sound(r, threads);
+    while Model.dispatch(&mut table) != WAITING {}
+    table
+}
+
+/// The thread and target of the move that the dispatcher makes in a table.
+fn moved(table: &[u8]) -> Option<(usize, usize)> {
+    let answer = Model.dispatch(&mut table.to_vec());
+    let byte = |at: u32| (value_of(answer) >> at & 255) as usize;
+    (answer != WAITING).then(|| (byte(8), byte(24)))
+}
+
+/// A random table in which this thread moves and all others wait, where it comes
+/// to one: the host made a call of the thread, a leaving or a retry, and then some
+/// turns were made.
+fn moving(r: &mut Random, threads: usize, thread: usize) -> Option<Request> {
+    let mut table = waiting(r, threads);
+    let mov = match table[3 + 3 * thread] {
+        0 => r.pick(&[CALL_SHARED, CALL_EXCLUSIVE]),
+        _ => GO,
+    };
+    Model.make_move(&mut table, thread as u16, mov, 0);
+    let mut found = None;
+    for _ in 0..=r.below(2 * threads + 4) {
+        match moved(&table) {
+            Some((mover, target)) if mover == thread => {
+                found = Some(Request {
+                    table: table.clone(),
+                    thread,
+                    target,
+                });
+                Model.dispatch(&mut table);
+            }
+            _ => break,
+        }
+    }
+    found
+}
+
+/// Tables in which this thread moves and all others wait.
+fn movings(threads: usize, thread: usize) -> Vec<Request> {
+    let mut r = Random::new(29);
+    let mut found = Vec::new();
+    while found.len() < TABLES {
+        found.extend(moving(&mut r, threads, thread));
+    }
+    found
+}
+
+/// Tables in which the dispatcher is waiting. Nothing is written.
+fn waitings(threads: usize) -> Vec<Request> {
+    let mut r = Random::new(31);
+    let request = |_| Request {
+        table: waiting(&mut r, threads),
+        thread: 0,
+        target: 0,
+    };
+    (0..TABLES).map(request).collect()
+}
+
+/// Makes a turn on each table in turn. What it may write is put back after it.
+/// Both parts give each table the same answer, and it is waiting or not.
+fn dispatches(requests: &[Request], waits: bool) -> impl FnMut(&dyn Part) -> u64 {
+    let mut turns = Vec::new();
+    for request in requests {
+        let make = |part: &dyn Part| {
+            let mut table = request.table.clone();
+            (part.dispatch(&mut table), table)
+        };
+        let made = make(&Archive);
+        assert_eq!(made, make(&Model));
+        assert_eq!(made.0 == WAITING, waits);
+        turns.push((request.table.clone(), kept(request)));
+    }
+    let mut next = 0;
+    move |part| {
+        let (table, kept) = &mut turns[next];
+        let answer = part.dispatch(table);
+        for (place, byte) in *kept {
+            table[place] = byte;
+        }
+        next = (next + 1) % turns.len();
+        answer
+    }
+}
+
+fn dispatch_rows() {
+    head("the dispatcher, one turn");
+    row("thread 0 moves", |threads| {
+        times(dispatches(&movings(threads, 0), false))
+    });
+    row("the last thread moves", |threads| {
+        times(dispatches(&movings(threads, threads - 1), false))
+    });
+    row("waiting", |threads| {
+        times(dispatches(&waitings(threads), true))
+    });
+}
+
 fn main() {
     println!("nanoseconds a call, median of {ROUNDS} rounds (31 or more for long calls)");
     moves();
     readings();
+    if cfg!(feature = "dispatch") {
+        dispatch_rows();
+    }
     if cfg!(feature = "history") {
         history_rows();
     }

@@ -4,6 +4,9 @@
 static_assert(WOSPINZO_MAX_PROGRESS(1) == 8 && WOSPINZO_MAX_PROGRESS(2) == 22 && WOSPINZO_MAX_PROGRESS(3) == 42 &&
                   WOSPINZO_MAX_PROGRESS(WOSPINZO_MAX_THREADS) == 121000,
               "the most moves without calls and retries");
+static_assert(WOSPINZO_MOST_TURNS(1) == 4 && WOSPINZO_MOST_TURNS(2) == 10 && WOSPINZO_MOST_TURNS(3) == 16 &&
+                  WOSPINZO_MOST_TURNS(WOSPINZO_MAX_THREADS) == 1198,
+              "the most turns of the dispatcher");
 static_assert(sizeof(wospinzo_watcher) == 203 && alignof(wospinzo_watcher) == 1, "the layout of a watcher's record");
 
 // A watch of two threads: each part of the record, and each answer to the question.
@@ -123,6 +126,61 @@ static bool runs()
     return good && refused == WOSPINZO_NO_ROOM && wospinzo_run_retries(refused) == 0;
 }
 
+// One turn that makes a move: each part of the answer, which has no refusal and no retry.
+static bool turned(uint64_t answer, uint16_t thread, uint16_t move, uint16_t target, uint16_t event)
+{
+    const uint64_t value = 128u + event + 256u * thread + 65536u * move + 16777216u * static_cast<uint64_t>(target);
+
+    bool good = wospinzo_dispatched(answer) && !wospinzo_waiting(answer) && wospinzo_accepted(answer) && !wospinzo_retry(answer);
+    good = good && wospinzo_turn_thread(answer) == thread && wospinzo_turn_move(answer) == move;
+    return good && wospinzo_turn_target(answer) == target && wospinzo_turn_event(answer) == event && wospinzo_value(answer) == value;
+}
+
+// An answer that tells of no move.
+static bool not_turned(uint64_t answer, int waiting)
+{
+    bool good = wospinzo_waiting(answer) == waiting && !wospinzo_dispatched(answer) && wospinzo_value(answer) == 0;
+    good = good && wospinzo_turn_thread(answer) == 0 && wospinzo_turn_move(answer) == 0;
+    return good && wospinzo_turn_target(answer) == 0 && wospinzo_turn_event(answer) == 0;
+}
+
+// Thread 199 sets the flag of thread 198, the lowest that has none; then its own, which is read and is the last.
+static bool last_of_200()
+{
+    uint8_t table[WOSPINZO_MAX_TABLE_SIZE] = {WOSPINZO_MAX_THREADS, 1, WOSPINZO_NO_TARGET};
+
+    for (uint16_t thread = 0; thread < 198; thread++)
+        table[WOSPINZO_TABLE_SIZE(thread) + 2] = 1;
+    table[WOSPINZO_TABLE_SIZE(199)] = WOSPINZO_PHASE_SET_FLAG;
+    bool good = turned(wospinzo_dispatch(table, sizeof table), 199, WOSPINZO_SET, 198, WOSPINZO_QUIET);
+    good = good && turned(wospinzo_dispatch(table, sizeof table), 199, WOSPINZO_GO, 0, WOSPINZO_QUIET);
+    good = good && turned(wospinzo_dispatch(table, sizeof table), 199, WOSPINZO_SET, 199, WOSPINZO_QUIET);
+    good = good && turned(wospinzo_dispatch(table, sizeof table), 199, WOSPINZO_GO, 0, WOSPINZO_QUIET);
+    good = good && turned(wospinzo_dispatch(table, sizeof table), 199, WOSPINZO_GO, 0, WOSPINZO_ENTER_EXCLUSIVE_RETURN);
+    return good && not_turned(wospinzo_dispatch(table, sizeof table), 1) && wospinzo_phase(table, 199) == WOSPINZO_PHASE_IN_EXCLUSIVE;
+}
+
+// Turns of the dispatcher: a reader comes in, a writer waits for it, and both refusals.
+static bool turns()
+{
+    uint8_t table[] = {2, 0, 255, 9, 0, 0, 5, 1, 0};
+    const uint8_t stuck[] = {2, 1, 1, 11, 0, 1, 6, 1, 1};
+
+    bool good = turned(wospinzo_dispatch(table, sizeof table), 0, WOSPINZO_GO, 0, WOSPINZO_QUIET);
+    good = good && turned(wospinzo_dispatch(table, sizeof table), 0, WOSPINZO_SET, 0, WOSPINZO_QUIET);
+    good = good && turned(wospinzo_dispatch(table, sizeof table), 0, WOSPINZO_GO, 0, WOSPINZO_QUIET);
+    good = good && turned(wospinzo_dispatch(table, sizeof table), 0, WOSPINZO_SET, 1, WOSPINZO_QUIET);
+    good = good && turned(wospinzo_dispatch(table, sizeof table), 1, WOSPINZO_GO, 0, WOSPINZO_ENTER_SHARED_RETURN);
+    good = good && not_turned(wospinzo_dispatch(table, sizeof table), 1);
+    for (size_t i = 0; i < sizeof table; i++)
+        good = good && table[i] == stuck[i];
+    const uint64_t bad_size = wospinzo_dispatch(table, sizeof table - 1);
+    good = good && bad_size == WOSPINZO_BAD_SIZE && not_turned(bad_size, 0);
+    table[1] = 0;
+    const uint64_t unsound = wospinzo_dispatch(table, sizeof table);
+    return good && unsound == WOSPINZO_UNSOUND && not_turned(unsound, 0);
+}
+
 int main()
 {
     uint8_t table[WOSPINZO_TABLE_SIZE(2)], out[64];
@@ -143,5 +201,5 @@ int main()
     const uint64_t ran = wospinzo_run(script, sizeof script, out, sizeof out);
     good = good && wospinzo_value(ran) == 10 && wospinzo_run_retries(ran) == 0;
     good = good && wospinzo_refusal(wospinzo_check(201, history, sizeof history)) == WOSPINZO_BAD_SIZE;
-    return good && watches() && plans() && scripts() && retries() && runs() ? 0 : 1;
+    return good && watches() && plans() && scripts() && retries() && runs() && turns() && last_of_200() ? 0 : 1;
 }

@@ -29,6 +29,7 @@ static void nothing(void) { answer = 0; }
 static void version(void) { answer = 256u * (uint64_t)wospinzo_version(); }
 static void fresh(void) { answer = wospinzo_fresh(WOSPINZO_MAX_THREADS, table, sizeof table); }
 static void move(void) { answer = wospinzo_move(table, sizeof table, 199, WOSPINZO_CALL_EXCLUSIVE, 0); }
+static void dispatch(void) { answer = wospinzo_dispatch(table, sizeof table); }
 static void nodes(void) { answer = wospinzo_nodes(table, sizeof table, out, sizeof out); }
 static void open_moves(void) { answer = wospinzo_open_moves(table, sizeof table, 199, out, sizeof out); }
 static void check(void) { answer = wospinzo_check(WOSPINZO_MAX_THREADS, history, sizeof history); }
@@ -130,6 +131,7 @@ int main(void)
         {"wospinzo_version", version, WOSPINZO_STACK},
         {"wospinzo_fresh", fresh, WOSPINZO_STACK},
         {"wospinzo_move", move, WOSPINZO_STACK},
+        {"wospinzo_dispatch", dispatch, WOSPINZO_STACK},
         {"wospinzo_nodes", nodes, WOSPINZO_STACK},
         {"wospinzo_open_moves", open_moves, WOSPINZO_STACK},
         {"wospinzo_check", check, WOSPINZO_STACK},

@@ -133,6 +133,60 @@ static void moves(uint16_t n)
     COUNT(WOSPINZO_UNSOUND, wospinzo_move(table, WOSPINZO_TABLE_SIZE(n), 0, WOSPINZO_GO, 0), "move %u refused by 2", n);
 }
 
+/* A turn that is counted. */
+static void turn(unsigned expected, uint16_t n, const char *what)
+{
+    COUNT(expected, wospinzo_dispatch(table, WOSPINZO_TABLE_SIZE(n)), "dispatch %u %s", n, what);
+}
+
+/* Turns until the dispatcher is waiting, each counted. */
+static void settle(uint16_t n, const char *what)
+{
+    unsigned turns;
+
+    for (turns = 0; turns <= WOSPINZO_MOST_TURNS(n); turns++) {
+        turn(WOSPINZO_ACCEPTED, n, what);
+        if (wospinzo_waiting(answer)) return;
+    }
+    fprintf(stderr, "%u threads, %s: not waiting after %u turns\n", n, what, turns);
+    failures++;
+}
+
+/* A reader and a writer from their calls to their returns, with the others where they are. */
+static void dispatched(uint16_t n, uint16_t thread, const char *reader, const char *writer)
+{
+    move(thread, WOSPINZO_CALL_SHARED, 0);
+    settle(n, reader);
+    move(thread, WOSPINZO_GO, 0);
+    settle(n, reader);
+    move(thread, WOSPINZO_CALL_EXCLUSIVE, 0);
+    settle(n, writer);
+    move(thread, WOSPINZO_GO, 0);
+    settle(n, writer);
+}
+
+/* The first thread and the last, with the others outside; a writer that waits for a reader, and readers that it turns away. */
+static void turns(uint16_t n)
+{
+    uint16_t last = (uint16_t)(n - 1), t;
+
+    fresh(n);
+    turn(WOSPINZO_ACCEPTED, n, "waiting, all outside");
+    dispatched(n, 0, "the first reads", "the first writes");
+    dispatched(n, last, "the last reads", "the last writes");
+    if (n == 1) return;
+    move(last, WOSPINZO_CALL_SHARED, 0);
+    settle(n, "the last reads");
+    move(0, WOSPINZO_CALL_EXCLUSIVE, 0);
+    settle(n, "the first waits for the last");
+    for (t = 1; t < last; t++) move(t, t % 2 == 0 ? WOSPINZO_CALL_SHARED : WOSPINZO_CALL_EXCLUSIVE, 0);
+    settle(n, "others are turned away");
+    move(last, WOSPINZO_GO, 0);
+    settle(n, "the last has left");
+    move(0, WOSPINZO_GO, 0);
+    settle(n, "the first has left");
+}
+
 /* The fresh table, the nodes, and the open moves of threads in several phases. */
 static void lists(uint16_t n)
 {
@@ -144,11 +198,17 @@ static void lists(uint16_t n)
     COUNT(WOSPINZO_NO_ROOM, wospinzo_nodes(table, WOSPINZO_TABLE_SIZE(n), out, n - 1u), "nodes %u refused by 12", n);
     COUNT(WOSPINZO_NO_ROOM, wospinzo_open_moves(table, WOSPINZO_TABLE_SIZE(n), 0, out, 1), "open_moves %u refused by 12", n);
     COUNT(WOSPINZO_NO_THREAD, wospinzo_open_moves(table, WOSPINZO_TABLE_SIZE(n), n, out, sizeof out), "open_moves %u refused by 3", n);
+    turn(WOSPINZO_ACCEPTED, n, "waiting, all outside");
+    table[0] = (uint8_t)(n == 1 ? 2 : n - 1);
+    turn(WOSPINZO_BAD_SIZE, n, "refused by 1");
+    table[0] = (uint8_t)n;
     table[1] = 1;
+    turn(WOSPINZO_UNSOUND, n, "refused by 2");
     COUNT(WOSPINZO_UNSOUND, wospinzo_nodes(table, WOSPINZO_TABLE_SIZE(n), out, sizeof out), "nodes %u refused by 2", n);
     COUNT(WOSPINZO_UNSOUND, wospinzo_open_moves(table, WOSPINZO_TABLE_SIZE(n), 0, out, sizeof out), "open_moves %u refused by 2", n);
     table[1] = 0;
     all_in(n, WOSPINZO_PHASE_TRY_AGAIN);
+    turn(WOSPINZO_UNSOUND, n, "refused by 2, all in 4");
     COUNT(WOSPINZO_UNSOUND, wospinzo_nodes(table, WOSPINZO_TABLE_SIZE(n), out, sizeof out), "nodes %u refused by 2, all in 4", n);
     COUNT(WOSPINZO_UNSOUND, wospinzo_open_moves(table, WOSPINZO_TABLE_SIZE(n), 0, out, sizeof out), "open_moves %u refused by 2, all in 4", n);
     all_in(n, WOSPINZO_PHASE_FREE);
@@ -494,5 +554,6 @@ int main(void)
           "read_script %u 0 too long", WOSPINZO_MAX_SCRIPT + 1);
     COUNT(WOSPINZO_BAD_SIZE, wospinzo_read_script((const uint8_t *)"(threads 0)\n", 12, triples, sizeof triples), "read_script 12 0 refused by 1");
     long_list();
+    for (i = 0; i < sizeof counts / sizeof *counts; i++) turns(counts[i]);
     return failures != 0;
 }

@@ -3,17 +3,25 @@ use Prim.Native.Nat.{ℕ, _+_, _*_, _≤_, _<_}
 use native.Mathlib.Nat.{mul-le-mul-left, mul-add}
 use native.Mathlib.Omega.{arith}
 use mathlib.Core.Bool.{Bool, true, false}
+use mathlib.Core.List.{List}
 use mathlib.Core.Logic.{⊎-elim}
 use mathlib.Core.Path.{_≡_, refl, sym, ap, ap₂}
 use lib.Dec.{lit≤}
 use Rattle.definitions.specs.Answers.{Reply, accepted, refused, shown, moved, codeOf, numberOf, outcomeReply, answerReply}
+use Rattle.definitions.specs.Bounds.{lastEvent}
+use Rattle.definitions.specs.Dispatch.{Turn, made, waiting, eventSeen, dispatchReply, dispatchedReply}
+use Rattle.definitions.specs.Moves.{ask}
 use Rattle.definitions.specs.declared.Answer.{Answer}
 use Rattle.definitions.specs.declared.Answer.the-variants as answer
+use Rattle.definitions.specs.declared.Dispatched.{Dispatched}
+use Rattle.definitions.specs.declared.Dispatched.the-variants as dispatched
 use Rattle.definitions.specs.declared.Event.{Event}
 use Rattle.definitions.specs.declared.Event.the-variants.{EnterSharedCall, EnterSharedReturn, LeaveSharedCall, LeaveSharedReturn}
 use Rattle.definitions.specs.declared.Event.the-variants.{EnterExclusiveCall, EnterExclusiveReturn, LeaveExclusiveCall, LeaveExclusiveReturn}
 use Rattle.definitions.specs.declared.Inside.{Inside}
 use Rattle.definitions.specs.declared.Inside.the-variants as inside
+use Rattle.definitions.specs.declared.MoveEvent.{MoveEvent}
+use Rattle.definitions.specs.declared.MoveEvent.the-variants as event
 use Rattle.definitions.specs.declared.Outcome.{Outcome}
 use Rattle.definitions.specs.declared.Outcome.the-variants as outcome
 use Rattle.definitions.specs.declared.Reading.{Reading}
@@ -27,9 +35,10 @@ use Rattle.definitions.specs.declared.Watched.the-variants as watched
 use Rattle.definitions.specs.Run.{runningReply}
 use Rattle.definitions.specs.Scripts.{readingReply}
 use Rattle.definitions.specs.Watch.{watchedReply, insideReply}
+use Rattle.dispatching.proofs.TurnIsMove.{turn-is-move}
 use Rattle.theory.proofs.Tests.{below?}
-use Rattle.answer_numbers.specs.Encoding.{encoded, retryUnit, seenValue, countValue, watchValue, insideValue, Below, ByteCount, BytesBelow}
-use Rattle.answer_numbers.specs.Encoding.{moveNumber, runNumber, countNumber, watchNumber, insideNumber, readNumber}
+use Rattle.answer_numbers.specs.Encoding.{encoded, retryUnit, madeMark, seenValue, turnValue, countValue, watchValue, insideValue, Below, ByteCount, BytesBelow, TurnBytes}
+use Rattle.answer_numbers.specs.Encoding.{moveNumber, turnNumber, runNumber, countNumber, watchNumber, insideNumber, readNumber}
 
 -- a refusal's number is from 1 to 255
 abbrev Numbered : {A : Type 0} → Reply A → Type 0
@@ -71,6 +80,11 @@ codes EnterExclusiveCall = (lit≤ tt, lit≤ tt)
 codes EnterExclusiveReturn = (lit≤ tt, lit≤ tt)
 codes LeaveExclusiveCall = (lit≤ tt, lit≤ tt)
 codes LeaveExclusiveReturn = (lit≤ tt, lit≤ tt)
+
+-- what is seen of a move
+pub seen-most : (e : MoveEvent) → seenValue (eventSeen e) ≤ lastEvent
+seen-most (event.Shown e) = codes e .1
+seen-most event.Quiet = omega arith
 
 -- ---- the encodings
 
@@ -183,3 +197,60 @@ pub runs-apart : (a b : Running) → BytesBelow (runningReply a) → BytesBelow 
 runs-apart a b f g e =
     units-apart (runningReply a) (runningReply b) retryUnit (λ c. c .bytes) (λ c. c .retries) (running-numbered a) (running-numbered b)
     (λ x y p q. λ i. record { bytes = p i; retries = q i }) f g e
+
+-- ---- the dispatcher's answers, whose thread, move and target fit a byte each
+
+-- what is seen is told by its value
+seen-told : (d e : MoveEvent) → seenValue (eventSeen d) ≡ seenValue (eventSeen e) → eventSeen d ≡ eventSeen e
+seen-told (event.Shown d) (event.Shown e) h = ap shown h
+seen-told (event.Shown d) event.Quiet h = absurd (omega (arith, codes d))
+seen-told event.Quiet (event.Shown e) h = absurd (omega (arith, codes e))
+seen-told event.Quiet event.Quiet h = refl
+
+-- and so are the four bytes of a turn that made a move
+bytes-told : (v w i j m n t u : ℕ) → v ≤ lastEvent → w ≤ lastEvent → i < 256 → j < 256 → m < 256 → n < 256
+    → madeMark + v + 256 * i + 65_536 * m + 16_777_216 * t ≡ madeMark + w + 256 * j + 65_536 * n + 16_777_216 * u → (v ≡ w) × (i ≡ j) × (m ≡ n) × (t ≡ u)
+bytes-told v w i j m n t u a b c d e f h =
+    let low = both-told 256 (madeMark + v) (madeMark + w) (i + 256 * (m + 256 * t)) (j + 256 * (n + 256 * u)) (omega arith) (omega arith) (omega arith) in
+    let (thread, rest) = both-told 256 i j (m + 256 * t) (n + 256 * u) c d (low .1) in
+    let (mv, target) = both-told 256 m n t u e f rest in
+    (omega (arith, low .0), thread, mv, target)
+
+-- no refusal's number has the mark
+never-made : (k v i m t : ℕ) → (1 ≤ k) × (k < 256) → 256 * (madeMark + v + 256 * i + 65_536 * m + 16_777_216 * t) ≡ 256 * 0 + k → ⊥
+never-made k v i m t (least, most) e = omega arith
+
+-- what is seen, without a retry above it
+abbrev seen : MoveEvent → ℕ
+seen e = seenValue (eventSeen e) + retryUnit * 0
+
+pub turns-apart : (a b : Dispatched) → TurnBytes (dispatchedReply a) → TurnBytes (dispatchedReply b) → turnNumber (dispatchedReply a) ≡ turnNumber (dispatchedReply b)
+    → dispatchedReply a ≡ dispatchedReply b
+unfolding encoded
+turns-apart (dispatched.Moved i m t d) (dispatched.Moved j n u e) (a, b, c) (a′, b′, c′) h =
+    let told = bytes-told (seen d) (seen e) i j m n t u (omega (arith, seen-most d)) (omega (arith, seen-most e)) a a′ b b′ (halves _ _ h) in
+    let event : eventSeen d ≡ eventSeen e = seen-told d e (omega (arith, told .0)) in
+    (λ x. accepted (made (ask (told .1 x) (told .2 x) (told .3 x)) (moved (event x) false)))
+turns-apart (dispatched.Moved i m t d) dispatched.Waiting f g h = absurd (omega arith)
+turns-apart (dispatched.Moved i m t d) (dispatched.Refused s) f g h = absurd (never-made (numberOf s) (seen d) i m t (numbers s) h)
+turns-apart dispatched.Waiting (dispatched.Moved j n u e) f g h = absurd (omega arith)
+turns-apart dispatched.Waiting dispatched.Waiting f g h = refl
+turns-apart dispatched.Waiting (dispatched.Refused s) f g h = absurd (omega (arith, numbers s))
+turns-apart (dispatched.Refused r) (dispatched.Moved j n u e) f g h = absurd (never-made (numberOf r) (seen e) j n u (numbers r) (sym h))
+turns-apart (dispatched.Refused r) dispatched.Waiting f g h = absurd (omega (arith, numbers r))
+turns-apart (dispatched.Refused r) (dispatched.Refused s) f g h = ap (λ (k : ℕ). refused k 0) (omega arith)
+
+-- where it is accepted, the value has 32 bits
+pub turns-low : (a : Dispatched) → TurnBytes (dispatchedReply a) → Below retryUnit turnValue (dispatchedReply a)
+turns-low (dispatched.Moved i m t e) (a, b, c) = omega (arith, seen-most e)
+turns-low dispatched.Waiting f = omega arith
+turns-low (dispatched.Refused r) f = tt
+
+-- the thread, the move and the target do fit
+pub turn-bytes : (table : List ℕ) → TurnBytes (dispatchReply table)
+turn-bytes table = by (dispatchReply table) refl
+  where
+    by : (x : Reply Turn) → dispatchReply table ≡ x → TurnBytes x
+    by (accepted (made r a)) e = let n = turn-is-move table r a e .numbers in (omega (arith, n), omega (arith, n), omega (arith, n))
+    by (accepted waiting) e = tt
+    by (refused number place) e = tt

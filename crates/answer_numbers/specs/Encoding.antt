@@ -4,6 +4,7 @@ use Prim.Native.Nat.{ℕ, _+_, _-_, _*_, _<_}
 use mathlib.Core.Bool.{Bool, cond}
 use lib.Dec.{leb}
 use Rattle.definitions.specs.Answers.{Reply, accepted, refused, Seen, shown, quiet, MoveAnswer}
+use Rattle.definitions.specs.Dispatch.{Turn, made, waiting}
 use Rattle.definitions.specs.Run.{RunCounts}
 use Rattle.definitions.specs.Scripts.{Listed}
 
@@ -29,6 +30,14 @@ moveValue a = seenValue (a .seen) + retryUnit * cond (a .retry) 1 0
 abbrev pub runValue : RunCounts → ℕ
 runValue c = c .bytes + retryUnit * c .retries
 
+-- of a turn of the dispatcher, 0 for waiting; where it made a move, this and what is seen of the move in the lowest byte, and above it the thread, the move and the target, a byte each (02 §8)
+abbrev pub madeMark : ℕ
+madeMark = 128
+
+abbrev pub turnValue : Turn → ℕ
+turnValue (made r a) = madeMark + moveValue a + 256 * r .thread + 65_536 * r .mv + 16_777_216 * r .target
+turnValue waiting = 0
+
 -- of a count, the count
 abbrev pub countValue : ℕ → ℕ
 countValue count = count
@@ -44,9 +53,12 @@ insideValue inside = cond inside 1 0
 abbrev pub listedValue : Listed → ℕ
 listedValue l = l .threads + 256 * l .bytes
 
--- what the move entry answers for its reply, the run for its own, the watcher's for theirs, and every other entry for its own
+-- what the move entry answers for its reply, the dispatcher and the run for theirs, the watcher's for theirs, and every other entry for its own
 abbrev pub moveNumber : Reply MoveAnswer → ℕ
 moveNumber = encoded moveValue
+
+abbrev pub turnNumber : Reply Turn → ℕ
+turnNumber = encoded turnValue
 
 abbrev pub runNumber : Reply RunCounts → ℕ
 runNumber = encoded runValue
@@ -74,6 +86,12 @@ ByteCount = Below 256 (λ l. l .threads)
 
 abbrev pub BytesBelow : Reply RunCounts → Type 0
 BytesBelow = Below retryUnit (λ c. c .bytes)
+
+-- the dispatcher answers a thread, a move and a target that fit a byte each
+abbrev pub TurnBytes : Reply Turn → Type 0
+TurnBytes (accepted (made r a)) = (r .thread < 256) × (r .mv < 256) × (r .target < 256)
+TurnBytes (accepted waiting) = Unit {0}
+TurnBytes (refused number place) = Unit {0}
 
 -- an answer's value: that of what is answered, or the place
 abbrev pub valueOf : {A : Type 0} → (A → ℕ) → Reply A → ℕ

@@ -1,7 +1,7 @@
 -- Completeness (02 §6): the tables that pass the tests of size and soundness are exactly those that moves leave.
 -- `complete`: for every N of 1 to 200 and every list of bytes, the bytes have the right size for N and are sound if and only if some list of 16-bit requests, accepted throughout from the
 -- fresh table for N, leaves exactly them.
--- `move-refused`, `nodes-refused`, `open-refused`: so each entry that is lent a table refuses it by 2 exactly if it has the right size and no list of accepted requests leaves it.
+-- `move-refused`, `nodes-refused`, `open-refused`, `dispatch-refused`: so each entry that is lent a table refuses it by 2 exactly if it has the right size and no list of accepted requests leaves it.
 use Prim.Native.Nat.{ℕ, _≤_}
 use native.Mathlib.Omega.{arith}
 use mathlib.Core.Bool.{Bool, true, false, cond, not}
@@ -12,6 +12,7 @@ use lib.Dec.{T}
 use Rattle.definitions.specs.Answers.{Reply, accepted, refused, Test, test, answered, deliveryReply}
 use Rattle.definitions.specs.Bounds.{mostThreads}
 use Rattle.definitions.specs.Chains.{tableAfter, afterIn}
+use Rattle.definitions.specs.Dispatch.{turnOf, dispatchReplyIn, dispatchReply}
 use Rattle.definitions.specs.Moves.{requestTests, moveAnswer, replyIn, moveReply, moveTable}
 use Rattle.definitions.specs.Nodes.{nodesEntry}
 use Rattle.definitions.specs.OpenMoves.{openEntry}
@@ -125,3 +126,7 @@ module _ (bytes : List ℕ) where
   pub open-refused : (thread : ℕ) (out : List ℕ) → (deliveryReply (openEntry bytes thread) out ≡ refused 2 0) ↔ (T (sized bytes) × (Reached (tableOf bytes .threads) bytes → ⊥))
   unfolding deliveryReply
   open-refused thread out = refused-2 _ _ ((λ e. omega arith), ((λ e. omega arith), tt))
+
+  pub dispatch-refused : (dispatchReply bytes ≡ refused 2 0) ↔ (T (sized bytes) × (Reached (tableOf bytes .threads) bytes → ⊥))
+  unfolding dispatchReplyIn
+  dispatch-refused = refused-2 (turnOf (tableOf bytes)) [] tt

@@ -1,7 +1,8 @@
--- The marked examples of the scope paper, and examples of 02 §1 to §7.
+-- The marked examples of the scope paper, and examples of 02 §1 to §8.
 pub mod Marked
 pub mod Waiting
 pub mod Retrying
+pub mod Dispatching
 pub mod Watching
 pub mod Writing
 pub mod Measuring

@@ -9,6 +9,7 @@ pub mod Sound
 pub mod Nodes
 pub mod Moves
 pub mod OpenMoves
+pub mod Dispatch
 pub mod PlainLock
 pub mod Watch
 pub mod Plan

@@ -1,4 +1,4 @@
--- Words on the threads 0 to n - 1, and on short lists: every, some, how many; a sum; one entry for each; membership; a list of rules.
+-- Words on the threads 0 to n - 1, and on short lists: every, some, how many, the lowest; a sum; one entry for each; membership; a list of rules.
 -- What the papers say of threads is said by these.
 use Prim.Native.Nat.{ℕ, zero, suc, _+_}
 use mathlib.Core.Bool.{Bool, true, false, cond, _&&_, _||_}
@@ -19,6 +19,11 @@ some (suc n) f = some n f || f n
 unfoldable pub howMany : ℕ → (ℕ → Bool) → ℕ
 howMany zero f = 0
 howMany (suc n) f = howMany n f + cond (f n) 1 0
+
+-- the lowest thread below n of which f holds, and n where there is none
+unfoldable pub lowest : ℕ → (ℕ → Bool) → ℕ
+lowest zero f = 0
+lowest (suc n) f = cond (some n f) (lowest n f) (cond (f n) n (suc n))
 
 -- f 0 + f 1 + .. up to n - 1
 abbrev pub sumOf : ℕ → (ℕ → ℕ) → ℕ

@@ -207,3 +207,22 @@ pub enum Reading {
     Read { threads: u8, bytes: usize },
     Refused(Refusal, usize),
 }
+
+// What is seen of a move that was made.
+pub enum MoveEvent {
+    Shown(Event),
+    Quiet,
+}
+
+// What the dispatcher answers: "thread, move and target with the move's own answer"; or that no thread has a move of its
+// kind; or why the table is turned down (02 §8).
+pub enum Dispatched {
+    Moved {
+        thread: u8,
+        mv: u8,
+        target: u8,
+        event: MoveEvent,
+    },
+    Waiting,
+    Refused(Refusal),
+}

@@ -5,6 +5,7 @@ pub mod RetryKeeps
 pub mod Lowering
 pub mod Counting
 pub mod Limit
+pub mod ThreadBytes
 pub mod CalledTable
 pub mod InTurn
 pub mod LimitReached

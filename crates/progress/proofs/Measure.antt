@@ -12,10 +12,10 @@ use lib.ListN.{getD}
 use Rattle.definitions.specs.Bounds.{lastPhase}
 use Rattle.definitions.specs.Phases.{rows, holds}
 use Rattle.definitions.specs.Table.{Table, freshTable}
-use Rattle.definitions.specs.Threads.{every, sumOf}
+use Rattle.definitions.specs.Threads.{every, sumOf, between}
 use Rattle.theory.proofs.FlagCounts.{flagsSet}
 use Rattle.theory.proofs.Cases.{or-at, none-of, is-holder}
-use Rattle.theory.proofs.Quantifiers.{every-at, howMany-pos, howMany-most}
+use Rattle.theory.proofs.Quantifiers.{every-at, howMany-pos, howMany-all, howMany-most}
 use Rattle.theory.proofs.SoundChanges.{Column, in-phase}
 use Rattle.theory.proofs.Soundness.{Sound}
 use Rattle.theory.proofs.Sums.{sum-but-below, sum-most, sum-zero}
@@ -81,7 +81,7 @@ alone-most n phase least l = by (decided (eqb phase 9))
     by (inl t) = let e = cond-yes (eqb phase 9) (3 * n + 5) (short phase) t in omega arith
     by (inr t) = let e = cond-no (eqb phase 9) (3 * n + 5) (short phase) t in omega (arith, few)
 
--- what the holder adds; in 12 its target's flag is set
+-- what the holder adds; in 12 some flag is set
 holding-most : (n k phase : ℕ) → 1 ≤ n → k ≤ n → T (holds phase) → (phase ≡ 12 → 1 ≤ k) → holding n k phase ≤ 3 * n + 5
 unfolding holding
 holding-most n k phase least most t up =
@@ -93,9 +93,20 @@ holding-most n k phase least most t up =
     (or-at phase 15 _ (λ e. rw e (omega arith)) (or-at phase 16 _ (λ e. rw e (omega arith)) (or-at phase 18 _ (λ e. rw e (omega arith)) (none-of phase))))))))
     (is-holder phase t)
 
+-- in 12 the target's flag is set, in 13 and 14 every flag is
+module _ (s : Table) (z : Sound s) (i : ℕ) (l : i < s .threads) where
+  pub some-set : s .phase i ≡ 12 → 1 ≤ flagsSet (s .threads) (s .forbidden)
+  unfolding rows
+  some-set e =
+      let r = z .has-target i l (in-phase s z i l 12 e tt 11 12 tt) in
+      howMany-pos (λ j. eqb (s .forbidden j) 1) (s .threads) (s .target) (r .0) (eq-T (s .forbidden (s .target)) 1 (r .1))
+
+  pub all-set : T (between 13 14 (s .phase i)) → flagsSet (s .threads) (s .forbidden) ≡ s .threads
+  all-set t = howMany-all (λ j. eqb (s .forbidden j) 1) (s .threads) (λ j k. eq-T (s .forbidden j) 1 (z .all-forbidden i l t j k))
+
 -- a sound table's
 pub measure-most : (s : Table) → Sound s → measure s ≤ mostProgress (s .threads)
-unfolding total part rows
+unfolding total part
 measure-most s z = sum-most (λ j. part n k (s .phase j)) (3 * n + 5) n (λ j l. by j l (decided (holds (s .phase j))))
   where
     n : ℕ
@@ -104,16 +115,10 @@ measure-most s z = sum-most (λ j. part n k (s .phase j)) (3 * n + 5) n (λ j l.
     k : ℕ
     k = flagsSet n (s .forbidden)
 
-    -- a target's flag is set
-    some-set : (j : ℕ) → j < n → s .phase j ≡ 12 → 1 ≤ k
-    some-set j l e =
-        let r = z .has-target j l (in-phase s z j l 12 e tt 11 12 tt) in
-        howMany-pos (λ x. eqb (s .forbidden x) 1) n (s .target) (r .0) (eq-T (s .forbidden (s .target)) 1 (r .1))
-
     by : (j : ℕ) → j < n → T (holds (s .phase j)) ⊎ T (not (holds (s .phase j))) → part n k (s .phase j) ≤ 3 * n + 5
     by j l (inl t) =
         let e = cond-yes (holds (s .phase j)) (holding n k (s .phase j)) (alone n (s .phase j)) t in
-        omega (arith, holding-most n k (s .phase j) (omega arith) (howMany-most (λ x. eqb (s .forbidden x) 1) n) t (some-set j l))
+        omega (arith, holding-most n k (s .phase j) (omega arith) (howMany-most (λ x. eqb (s .forbidden x) 1) n) t (some-set s z j l))
     by j l (inr t) =
         let e = cond-no (holds (s .phase j)) (holding n k (s .phase j)) (alone n (s .phase j)) t in
         omega (arith, alone-most n (s .phase j) (omega arith) (z .phases j l))

@@ -5,6 +5,10 @@ use Rattle.promises.specs.Promises.{Promises}
 use Rattle.arrows.proofs.EveryArrow.{every-arrow}
 use Rattle.arrows.proofs.FigureExact.{figure-exact}
 use Rattle.completeness.proofs.Completeness as completeness
+use Rattle.dispatched_orders.proofs.StepsSafe.{as-requests, steps-safe}
+use Rattle.dispatching.proofs.TurnIsMove.{turn-is-move}
+use Rattle.dispatching.proofs.WaitingExactly.{waiting-exactly, waiting-stays, refused-so}
+use Rattle.dispatching.proofs.WaitingMeans.{waiting-means, waiting-holder, waiting-host}
 use Rattle.forms.proofs.Spelling as spelled
 use Rattle.orders.proofs.EveryOrder as orders
 use Rattle.plan_lengths.proofs.Longest as long
@@ -33,10 +37,13 @@ use Rattle.theory.proofs.OpenMovesExact as exact
 use Rattle.theory.proofs.SameCount as count
 use Rattle.theory.proofs.SoundKept as kept
 use Rattle.theory.proofs.Storages as storages
+use Rattle.turn_limit.proofs.TurnLimit.{turns-sound, turn-limit, waits-then}
+use Rattle.turn_limit.proofs.TurnLimitReached.{turn-limit-reached}
 use Rattle.watching.proofs.EveryEvent as watching
 use Rattle.answer_numbers.proofs.Apart as apart
 use Rattle.answer_numbers.proofs.Small as small
 use Rattle.wospinzo.proofs.wospinzo_check.Met as check
+use Rattle.wospinzo.proofs.wospinzo_dispatch.Met as dispatch
 use Rattle.wospinzo.proofs.wospinzo_fresh.Met as fresh
 use Rattle.wospinzo.proofs.wospinzo_move.Met as move
 use Rattle.wospinzo.proofs.wospinzo_nodes.Met as nodes
@@ -58,6 +65,7 @@ proved =
       wospinzo-version = version.met;
       wospinzo-fresh = fresh.met;
       wospinzo-move = move.met;
+      wospinzo-dispatch = dispatch.met;
       wospinzo-nodes = nodes.met;
       wospinzo-open-moves = open-moves.met;
       wospinzo-check = check.met;
@@ -70,6 +78,8 @@ proved =
       wospinzo-watch-event = watch-event.met;
       wospinzo-watch-inside = watch-inside.met;
       move-told = apart.outcomes-apart;
+      turn-told = apart.turns-apart;
+      turn-bytes = apart.turn-bytes;
       count-told = apart.answers-apart;
       watch-told = apart.watched-apart;
       inside-told = apart.inside-apart;
@@ -78,6 +88,7 @@ proved =
       run-told = apart.runs-apart;
       run-below = λ script out. small.run-small script out _ refl .1;
       move-low = apart.outcomes-low;
+      turn-low = apart.turns-low;
       fresh-low = λ n out. small.fresh-small n out _ refl .1;
       nodes-low = λ table out. small.nodes-small table out _ refl .1;
       open-low = λ table thread out. small.open-small table thread out _ refl .1;
@@ -114,6 +125,7 @@ proved =
       move-refused = completeness.move-refused;
       nodes-refused = completeness.nodes-refused;
       open-refused = completeness.open-refused;
+      dispatch-refused = completeness.dispatch-refused;
       figure-1 = figure.figure-1;
       one-pass = one-pass;
       discipline = discipline.discipline;
@@ -176,4 +188,17 @@ proved =
       no-standstill = no-standstill;
       every-arrow = every-arrow;
       figure-exact = figure-exact;
+      turn-is-move = turn-is-move;
+      waiting-exactly = waiting-exactly;
+      waiting-stays = waiting-stays;
+      turn-refused = refused-so;
+      waiting-means = waiting-means;
+      waiting-holder = waiting-holder;
+      waiting-host = waiting-host;
+      turn-limit = turn-limit;
+      waits-then = waits-then;
+      turns-sound = turns-sound;
+      turn-limit-reached = turn-limit-reached;
+      as-requests = as-requests;
+      steps-safe = steps-safe;
     }

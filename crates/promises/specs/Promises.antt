@@ -1,5 +1,5 @@
 -- Everything that is promised and proved of the part, in the order of the three demands, then of the watcher (02 §2), of scripts written out and read (02 §3), of the length of a plan (02 §4),
--- and of retries, progress and every arrow (02 §7).
+-- of retries, progress and every arrow (02 §7), and of the dispatcher (02 §8).
 -- proofs/Citations.antt proves it, each line by citing.
 -- The words are those of crates/definitions/specs and of the specs/ of the crates named below. `statement` is the contract of a function as it stands in its source, for every model `M` of memory.
 use Prim.Native.Nat.{ℕ, _+_, _*_, _≤_, _<_}
@@ -9,9 +9,10 @@ use mathlib.Core.Logic.{_↔_}
 use mathlib.Core.Path.{_≡_}
 use lib.Dec.{T, eqb}
 use lib.ListN.{length, getD, take, drop, replicate}
-use Rattle.definitions.specs.Answers.{accepted, refused, quiet, moved, isAccepted, answerReply, outcomeReply, filled, deliveryReply, deliveryOutput}
+use Rattle.definitions.specs.Answers.{accepted, refused, quiet, MoveAnswer, moved, isAccepted, answerReply, outcomeReply, filled, deliveryReply, deliveryOutput}
 use Rattle.definitions.specs.Bounds.{mostThreads, mostScript, enoughOutput}
 use Rattle.definitions.specs.Chains.{historyIn, history, retries, tableAfter, acceptsAll, requestsOf}
+use Rattle.definitions.specs.Dispatch.{made, waiting, dispatchReply, dispatchTable, dispatchedReply}
 use Rattle.definitions.specs.Forms.{threads, request, note, noteFits, formOf, threadsLine, spelled}
 use Rattle.definitions.specs.Moves.{ask, effect, isRetry, stepReply, step, accepts, replyIn, stepIn, acceptsIn, moveReply, moveTable}
 use Rattle.definitions.specs.Nodes.{nodesOf, nodesEntry, Arrow, arrows}
@@ -26,6 +27,7 @@ use Rattle.definitions.specs.Texts.{bytes, linesOf}
 use Rattle.definitions.specs.Threads.{howMany, among}
 use Rattle.definitions.specs.Watch.{recordOf, started, consistent, watchedReply, insideReply, questionReply, watchReplies, watchRecord}
 use Rattle.definitions.specs.declared.Answer.{Answer}
+use Rattle.definitions.specs.declared.Dispatched.{Dispatched}
 use Rattle.definitions.specs.declared.Inside.{Inside}
 use Rattle.definitions.specs.declared.Outcome.{Outcome}
 use Rattle.definitions.specs.declared.Reading.{Reading}
@@ -35,6 +37,8 @@ use Rattle.definitions.specs.declared.Watched.{Watched}
 use Rattle.definitions.specs.declared.Watcher.{Watcher}
 use Rattle.arrows.specs.Arrows.{Enabled, CanTake}
 use Rattle.completeness.specs.Reached.{Reached}
+use Rattle.dispatched_orders.specs.Steps.{Step, shownBy, AsRequests}
+use Rattle.dispatching.specs.Turns.{TurnMade, TurnRefused, NoTurn, WaitsThere, HostMoves}
 use Rattle.forms.specs.Grammar.{numberBound, Spellable, Spells}
 use Rattle.orders.specs.Histories.{mostEvents, pairOf, historyBytes, AllBytes, Passes, FirstBad, Makes}
 use Rattle.orders.specs.Rounds.{placesOf}
@@ -46,11 +50,13 @@ use Rattle.soundness.specs.Pass.{foundOf, passes}
 use Rattle.theory.specs.Outputs.{Delivered}
 use Rattle.theory.specs.Statements.{OutsideView, writesMutex, MayWrite, Disciplined, atMutex, localMove, Agree, Stands}
 use Rattle.theory.specs.Tables.{SoundBytes, Keeps}
+use Rattle.turn_limit.specs.TurnLimit.{mostTurns, afterTurns, WaitsAfter, TurnsReached}
 use Rattle.watching.specs.Verdicts.{verdictOn, verdictsOn, acceptedOf, someInside}
-use Rattle.answer_numbers.specs.Encoding.{retryUnit, seenValue, countValue, listedValue, Below, ByteCount, BytesBelow, valueBound, held}
-use Rattle.answer_numbers.specs.Encoding.{moveNumber, runNumber, countNumber, watchNumber, insideNumber, readNumber}
+use Rattle.answer_numbers.specs.Encoding.{retryUnit, seenValue, turnValue, countValue, listedValue, Below, ByteCount, BytesBelow, TurnBytes, valueBound, held}
+use Rattle.answer_numbers.specs.Encoding.{moveNumber, turnNumber, runNumber, countNumber, watchNumber, insideNumber, readNumber}
 use Rattle.printout.proofs.print_input.Statement as printing
 use Rattle.wospinzo.proofs.wospinzo_check.Statement as check
+use Rattle.wospinzo.proofs.wospinzo_dispatch.Statement as dispatch
 use Rattle.wospinzo.proofs.wospinzo_fresh.Statement as fresh-table
 use Rattle.wospinzo.proofs.wospinzo_move.Statement as move
 use Rattle.wospinzo.proofs.wospinzo_nodes.Statement as nodes
@@ -70,6 +76,7 @@ pub record Promises (M : Type 1) : Type 2 where
 
   -- The entries (crates/wospinzo/src/lib.rt). Each may be called with any numbers and any lent bytes, and says what it answers and what it leaves in every lent byte, refused or not.
   -- The version answers `version`. The move, asked r, answers `moveNumber (moveReply table r)` and leaves `moveTable table r`.
+  -- The dispatcher answers `turnNumber (dispatchReply table)` and leaves `dispatchTable table`.
   -- The check answers `countNumber (checkReply n history)`, and of the length of a plan `countNumber (planLengthReply n history)` is answered.
   -- The others write: they answer `countNumber (deliveryReply d out)` and leave `deliveryOutput d out`, where d is
   -- `freshEntry n`, `nodesEntry table`, `openEntry table thread` or `planEntry n history`. Lent bytes that are only read stay.
@@ -81,6 +88,7 @@ pub record Promises (M : Type 1) : Type 2 where
   pub wospinzo-version : version.statement M
   pub wospinzo-fresh : fresh-table.statement M
   pub wospinzo-move : move.statement M
+  pub wospinzo-dispatch : dispatch.statement M
   pub wospinzo-nodes : nodes.statement M
   pub wospinzo-open-moves : open-moves.statement M
   pub wospinzo-check : check.statement M
@@ -94,6 +102,9 @@ pub record Promises (M : Type 1) : Type 2 where
   pub wospinzo-watch-inside : watch-inside.statement M
   -- The number that an entry answers tells its reply.
   pub move-told : (a b : Outcome) → moveNumber (outcomeReply a) ≡ moveNumber (outcomeReply b) → outcomeReply a ≡ outcomeReply b
+  pub turn-told : (a b : Dispatched) → TurnBytes (dispatchedReply a) → TurnBytes (dispatchedReply b) → turnNumber (dispatchedReply a) ≡ turnNumber (dispatchedReply b)
+      → dispatchedReply a ≡ dispatchedReply b
+  pub turn-bytes : (table : List ℕ) → TurnBytes (dispatchReply table)
   pub count-told : (a b : Answer) → countNumber (answerReply a) ≡ countNumber (answerReply b) → answerReply a ≡ answerReply b
   pub watch-told : (a b : Watched) → watchNumber (watchedReply a) ≡ watchNumber (watchedReply b) → watchedReply a ≡ watchedReply b
   pub inside-told : (a b : Inside) → insideNumber (insideReply a) ≡ insideNumber (insideReply b) → insideReply a ≡ insideReply b
@@ -103,6 +114,7 @@ pub record Promises (M : Type 1) : Type 2 where
   pub run-below : (script out : List ℕ) → BytesBelow (deliveryReply (runEntry script) out)
   -- Where an entry accepts, its value has 32 bits, but for the retries, which stand above them.
   pub move-low : (a : Outcome) → Below retryUnit (λ x. seenValue (x .seen)) (outcomeReply a)
+  pub turn-low : (a : Dispatched) → TurnBytes (dispatchedReply a) → Below retryUnit turnValue (dispatchedReply a)
   pub fresh-low : (n : ℕ) (out : List ℕ) → Below retryUnit countValue (deliveryReply (freshEntry n) out)
   pub nodes-low : (table out : List ℕ) → Below retryUnit countValue (deliveryReply (nodesEntry table) out)
   pub open-low : (table : List ℕ) (thread : ℕ) (out : List ℕ) → Below retryUnit countValue (deliveryReply (openEntry table thread) out)
@@ -158,6 +170,7 @@ pub record Promises (M : Type 1) : Type 2 where
   pub nodes-refused : (table out : List ℕ) → (deliveryReply (nodesEntry table) out ≡ refused 2 0) ↔ (T (sized table) × (Reached (tableOf table .threads) table → ⊥))
   pub open-refused : (table : List ℕ) (thread : ℕ) (out : List ℕ)
       → (deliveryReply (openEntry table thread) out ≡ refused 2 0) ↔ (T (sized table) × (Reached (tableOf table .threads) table → ⊥))
+  pub dispatch-refused : (table : List ℕ) → (dispatchReply table ≡ refused 2 0) ↔ (T (sized table) × (Reached (tableOf table .threads) table → ⊥))
   -- From outside: an accepted request keeps every task in its node or takes one along one arrow of Figure 1, its condition met.
   pub figure-1 : (table : List ℕ) (r : Request) → T (acceptsIn byteTable table r) → OutsideView table r
   -- The soundness test makes one pass over the threads: what it decides is `sound`.
@@ -307,3 +320,26 @@ pub record Promises (M : Type 1) : Type 2 where
       → Enabled (nodesOf (tableOf table)) a i → CanTake table a i
   pub figure-exact : (n : ℕ) → 1 ≤ n → n ≤ mostThreads → (table : List ℕ) → Reached n table → (a : Arrow) → List·Memᴰ a arrows → (i : ℕ) → i < n
       → Enabled (nodesOf (tableOf table)) a i ↔ CanTake table a i
+  -- ---- 8. The dispatcher
+
+  -- A turn that makes a move makes an accepted request, with the move's own answer and table: no call, no retry, no leaving, of the lowest thread that has one, with its lowest target.
+  pub turn-is-move : (table : List ℕ) (r : Request) (a : MoveAnswer) → dispatchReply table ≡ accepted (made r a) → TurnMade table r a
+  -- It says waiting exactly if no such request is there, and then the table stays; a refusal is 1 or 2, and keeps the table too.
+  pub waiting-exactly : (table : List ℕ) → (dispatchReply table ≡ accepted waiting) ↔ (SoundBytes table × NoTurn table)
+  pub waiting-stays : (table : List ℕ) → dispatchReply table ≡ accepted waiting → dispatchTable table ≡ table
+  pub turn-refused : (table : List ℕ) (number place : ℕ) → dispatchReply table ≡ refused number place → TurnRefused table number place
+  -- What waiting means: a writer in 11 has a target in Shared, a thread in EE finds the mutex taken, and every thread is in 0, 4, 6, 9, 11 or 14.
+  pub waiting-means : (table : List ℕ) → dispatchReply table ≡ accepted waiting → (i : ℕ) → i < tableOf table .threads → WaitsThere (tableOf table) i
+  -- So the mutex, if it is taken, is held by a writer in 11 or 14; and where some thread isn't Free some thread is in 4, 6 or 14, where the host has a move that is no call.
+  pub waiting-holder : (table : List ℕ) → dispatchReply table ≡ accepted waiting → tableOf table .mutex ≡ 1
+      → (h : ℕ) × (h < tableOf table .threads) × T (among (tableOf table .phase h) (11 ∷ 14 ∷ []))
+  pub waiting-host : (table : List ℕ) → dispatchReply table ≡ accepted waiting → (i : ℕ) → i < tableOf table .threads → NotFree table i
+      → (j : ℕ) × (j < tableOf table .threads) × HostMoves (tableOf table) j
+  -- From every sound table waiting comes after at most 6N - 2 turns, and every turn from then on says it; turns keep a table sound. For every N some table takes exactly so many.
+  pub turn-limit : (table : List ℕ) → SoundBytes table → (k : ℕ) × (k ≤ mostTurns (tableOf table .threads)) × WaitsAfter table k
+  pub waits-then : (table : List ℕ) → SoundBytes table → (j : ℕ) → mostTurns (tableOf table .threads) ≤ j → dispatchReply (afterTurns j table) ≡ accepted waiting
+  pub turns-sound : (table : List ℕ) → SoundBytes table → (k : ℕ) → SoundBytes (afterTurns k table)
+  pub turn-limit-reached : (n : ℕ) → 1 ≤ n → n ≤ mostThreads → TurnsReached n
+  -- Demand 3 with the dispatcher: requests of the host and turns, in any order, show and leave what some list of requests does; so what they show from a fresh table is permitted.
+  pub as-requests : (table : List ℕ) (xs : List Step) → AsRequests table xs
+  pub steps-safe : (n : ℕ) → 1 ≤ n → n ≤ mostThreads → (xs : List Step) → T (permitted n (shownBy (fresh n) xs))

@@ -1,7 +1,9 @@
 -- Shared facts first, then the theorems; each file says what it shows.
 pub mod Tests
 pub mod Quantifiers
+pub mod Lowest
 pub mod Cases
+pub mod Casts
 pub mod Matches
 pub mod Lists
 pub mod Lengths

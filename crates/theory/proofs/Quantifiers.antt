@@ -7,8 +7,8 @@ use mathlib.Core.Bool.{Bool, true, false, cond, not, _&&_, _||_, Bool·not-not}
 use mathlib.Core.Logic.{_⊎_, inl, inr, ⊎-elim}
 use mathlib.Core.Path.{_≡_, refl, sym, subst, ap, _∙_}
 use lib.Dec.{T, eqb, eqb·suc-zero}
-use Rattle.definitions.specs.Threads.{every, some, howMany}
-use Rattle.theory.proofs.Tests.{and-l, and-r, and-i, or-e, or-l, or-r, T-true, T-false, decided, no-both, not-i}
+use Rattle.definitions.specs.Threads.{every, some, howMany, implies}
+use Rattle.theory.proofs.Tests.{and-l, and-r, and-i, or-e, or-l, or-r, T-true, T-false, decided, no-both, not-i, implies-e}
 
 -- below suc n: below n, or n itself
 pub below-suc : (i n : ℕ) → i < suc n → (i ≡ n) ⊎ (i < n)
@@ -139,6 +139,10 @@ every-same zero f g h = refl
 every-same (suc n) f g h = cc (every-same n f g (λ i l. h i (omega arith)), h n (omega arith))
 
 module _ (f g : ℕ → Bool) where
+  -- g holds wherever f does
+  pub implied : (n : ℕ) → T (every n (λ i. implies (f i) (g i))) → (i : ℕ) → i < n → T (f i) → T (g i)
+  implied n t i l = implies-e (f i) (g i) (every-at (λ j. implies (f j) (g j)) n t i l)
+
   pub howMany-same : (n : ℕ) → ((i : ℕ) → i < n → f i ≡ g i) → howMany n f ≡ howMany n g
   unfolding howMany
   howMany-same zero h = refl

@@ -9,7 +9,8 @@ use Rattle.definitions.specs.Threads.{sumOf}
 use Rattle.theory.proofs.Quantifiers.{below-suc}
 use Rattle.theory.proofs.Writes.{update-same, update-other}
 
-sum-same : (n : ℕ) (f g : ℕ → ℕ) → ((j : ℕ) → j < n → g j ≡ f j) → sumOf n g ≡ sumOf n f
+-- two functions that agree below n
+pub sum-same : (n : ℕ) (f g : ℕ → ℕ) → ((j : ℕ) → j < n → g j ≡ f j) → sumOf n g ≡ sumOf n f
 sum-same zero f g h = refl
 sum-same (suc n) f g h = let rest = sum-same n f g (λ j l. h j (omega arith)) in let here = h n (omega arith) in omega arith
 
@@ -38,6 +39,11 @@ sum-update n f column i v l =
 pub sum-zero : (n : ℕ) → sumOf n (λ j. 0) ≡ 0
 sum-zero zero = refl
 sum-zero (suc n) = let rest = sum-zero n in omega arith
+
+-- each entry of f is at most that of g and e together
+pub sum-within : (n : ℕ) (f g e : ℕ → ℕ) → ((j : ℕ) → j < n → f j ≤ g j + e j) → sumOf n f ≤ sumOf n g + sumOf n e
+sum-within zero f g e h = omega arith
+sum-within (suc n) f g e h = omega (arith, sum-within n f g e (λ j l. h j (omega arith)), h n (omega arith))
 
 -- every entry is at most m, and every entry is m
 module _ (f : ℕ → ℕ) (m : ℕ) where

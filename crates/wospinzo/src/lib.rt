@@ -1,6 +1,7 @@
 // The part's entries for C and Rust: thin functions on numbers and byte slices, each with its promise. An answer is one
 // number (crate answer_numbers).
 use answer_numbers::answer_number;
+use answer_numbers::dispatched_number;
 use answer_numbers::hold_place;
 use answer_numbers::inside_number;
 use answer_numbers::outcome_number;
@@ -14,6 +15,7 @@ ghost use mathlib.Core.Path.{_≡_};
 ghost use lib.ListN.{length};
 ghost use Rattle.definitions.specs.Answers.{deliveryReply, deliveryOutput};
 ghost use Rattle.definitions.specs.Bounds.{mostThreads};
+ghost use Rattle.definitions.specs.Dispatch.{dispatchReply, dispatchTable};
 ghost use Rattle.definitions.specs.Moves.{ask, moveReply, moveTable};
 ghost use Rattle.definitions.specs.Nodes.{nodesEntry};
 ghost use Rattle.definitions.specs.OpenMoves.{openEntry};
@@ -23,14 +25,14 @@ ghost use Rattle.definitions.specs.Run.{runEntry};
 ghost use Rattle.definitions.specs.Scripts.{writeEntry, readEntry};
 ghost use Rattle.definitions.specs.Table.{freshEntry};
 ghost use Rattle.definitions.specs.Watch.{startReply, startRecord, eventReply, eventRecord, questionReply};
-ghost use Rattle.answer_numbers.specs.Encoding.{moveNumber, runNumber, countNumber, watchNumber, insideNumber, readNumber, held};
+ghost use Rattle.answer_numbers.specs.Encoding.{moveNumber, turnNumber, runNumber, countNumber, watchNumber, insideNumber, readNumber, held};
 ghost use Rattle.wospinzo.specs.Records.{recordWith, left};
 ghost use Rattle.wospinzo.specs.Version.{version};
 
 // The part's version: major, minor and patch number. docs/CHANGELOG.md says what each of them promises.
 const MAJOR: u32 = 1;
 
-const MINOR: u32 = 6;
+const MINOR: u32 = 7;
 
 const PATCH: u32 = 0;
 
@@ -52,6 +54,16 @@ pub extern "C" fn wospinzo_move(table: &mut [u8], thread: u16, mv: u16, target: 
 {
     let outcome = lock::make_move(table, Request { thread, mv, target });
     outcome_number(outcome)
+}
+
+// One turn of the dispatcher: a move that is no call, no retry and no leaving, for the lowest thread that has one.
+#[no_mangle]
+pub extern "C" fn wospinzo_dispatch(table: &mut [u8]) -> u64
+    ensures { λ r. ⌜ r ≡ turnNumber (dispatchReply (now (table .entry))) ⌝ }
+    ensures { λ r. ⌜ now (table .exit) ≡ dispatchTable (now (table .entry)) ⌝ }
+{
+    let answer = dispatch::dispatch(table);
+    dispatched_number(answer)
 }
 
 // The nodes of all threads.

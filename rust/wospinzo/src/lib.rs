@@ -84,6 +84,48 @@
 //! that a thread which makes nothing but retries for long is kept waiting by
 //! another one. An executive runs other work then.
 //!
+//! # A dispatcher
+//!
+//! A host without an executive of its own calls [`dispatch`]: each turn makes one
+//! move, for the lowest-numbered thread that has one, which is no call, no retry
+//! and no leaving. Where no thread has such a move it is [`Turn::Waiting`], after
+//! at most [`most_turns`] turns. The host makes the calls and the leavings, and
+//! the go or hold of a reader that was turned away.
+//!
+//! ```
+//! use wospinzo::{dispatch, fresh, make_move, most_turns, table_size, Move, Refusal, Turn};
+//! use wospinzo::{phase, Phase};
+//!
+//! /// Makes moves until the dispatcher is waiting. Gives how many.
+//! fn settle(table: &mut [u8]) -> Result<usize, Refusal> {
+//!     let mut turns = 0;
+//!     while dispatch(table)? != Turn::Waiting {
+//!         turns += 1;
+//!     }
+//!     Ok(turns)
+//! }
+//!
+//! # fn main() -> Result<(), Refusal> {
+//! const THREADS: u16 = 2;
+//! let mut table = [0; table_size(THREADS)];
+//! fresh(THREADS, &mut table)?;
+//!
+//! // Thread 0 calls, and the dispatcher takes it to Shared.
+//! make_move(&mut table, 0, Move::CallShared)?;
+//! assert_eq!(settle(&mut table)?, 3);
+//! assert_eq!(phase(&table, 0), Some(Phase::InShared));
+//!
+//! // Thread 1 wants to write, and has to wait until thread 0 leaves.
+//! make_move(&mut table, 1, Move::CallExclusive)?;
+//! settle(&mut table)?;
+//! assert_eq!(phase(&table, 1), Some(Phase::ReadBusy));
+//! make_move(&mut table, 0, Move::Go)?;
+//! assert!(settle(&mut table)? <= most_turns(THREADS));
+//! assert_eq!(phase(&table, 1), Some(Phase::InExclusive));
+//! # Ok(())
+//! # }
+//! ```
+//!
 //! # A watcher
 //!
 //! A [`Watcher`] judges each event as it happens, as [`check`] would judge the
@@ -114,6 +156,7 @@
 //! |---|---|---|
 //! | [`fresh`] | writes a fresh table | 1, 12 |
 //! | [`make_move`], [`move_answer`] | makes one move; the second also says whether it was a retry | 1 to 7 |
+//! | [`dispatch`] | makes one move of its own choice | 1, 2 |
 //! | [`nodes`] | where every thread is | 1, 2, 12 |
 //! | [`open_moves`] | the moves that a thread has now | 1, 2, 3, 12 |
 //! | [`check`] | judges a history of events | 1, 8 to 11 |
@@ -134,8 +177,8 @@
 //! Byte 0 is N, byte 1 the mutex (0 or 1), byte 2 the target of the thread that
 //! holds the mutex, 255 for none. Then come three bytes a thread: its phase (0
 //! to 18, see [`Phase`]), its busy flag and its forbidden flag. Nobody but
-//! [`fresh`] and [`make_move`] may write it; over a restart the caller may put
-//! back the bytes that the last call left.
+//! [`fresh`], [`make_move`] and [`dispatch`] may write it; over a restart the
+//! caller may put back the bytes that the last call left.
 //!
 //! Every function of the table above that takes a table tests it first. One of
 //! the right size is turned down as [`Refusal::Unsound`] exactly if no list of
@@ -170,19 +213,21 @@
 #![warn(missing_docs)]
 
 mod codes;
+mod dispatcher;
 pub mod raw;
 #[cfg(feature = "script")]
 mod script;
 mod watcher;
 
 pub use codes::{Event, Move, MoveAnswer, Node, Outcome, Phase, Refusal, Rejected};
+pub use dispatcher::{dispatch, Turn};
 #[cfg(feature = "script")]
 pub use script::{read_script, run, run_counts, write_script, RunCounts, ScriptRead};
 pub use watcher::Watcher;
 
 /// The version of this crate and of the header: 65,536 times the major, 256
 /// times the minor, and the patch number. [`version`] is that of the archive.
-pub const VERSION: u32 = 65_536 + 6 * 256;
+pub const VERSION: u32 = 65_536 + 7 * 256;
 /// The largest number of threads.
 pub const MAX_THREADS: u16 = 200;
 /// The bytes of the largest table.
@@ -226,6 +271,13 @@ pub const fn open_moves_room(threads: u16) -> usize {
 /// call and without a retry, which some tables come to.
 pub const fn max_progress(threads: u16) -> usize {
     threads as usize * (3 * threads as usize + 5)
+}
+
+/// The most turns of [`dispatch`] that make a move, one after the other and for
+/// so many threads, which some tables come to. With the host making no moves
+/// between, it is waiting after so many turns at most, from any sound table.
+pub const fn most_turns(threads: u16) -> usize {
+    (6 * threads as usize).saturating_sub(2)
 }
 
 /// The bytes of a plan of so many moves.
@@ -310,6 +362,15 @@ fn placeless(answer: u64) -> Result<usize, Refusal> {
     counted(answer).map_err(|rejected| rejected.refusal)
 }
 
+/// What a move shows, by the code that was answered: 0 for nothing.
+fn outcome(code: u8) -> Outcome {
+    match (code, Event::from_code(code)) {
+        (0, _) => Outcome::Quiet,
+        (_, Some(event)) => Outcome::Shown(event),
+        (_, None) => panic!("the archive gave an unknown event"),
+    }
+}
+
 /// Writes the fresh table for so many threads: all free, the mutex 0, no
 /// target. Answers the number of bytes written, [`table_size`].
 ///
@@ -369,15 +430,9 @@ pub fn move_answer(table: &mut [u8], thread: u16, mov: Move) -> Result<MoveAnswe
     // SAFETY: pointer and length are those of one slice that is lent here.
     let answer =
         unsafe { raw::wospinzo_move(table.as_mut_ptr(), table.len(), thread, number, target) };
-    let outcome = match placeless(answer)? {
-        0 => Outcome::Quiet,
-        code => match Event::from_code(code as u8) {
-            Some(event) => Outcome::Shown(event),
-            None => panic!("the archive gave an unknown event"),
-        },
-    };
+    let code = placeless(answer)?;
     Ok(MoveAnswer {
-        outcome,
+        outcome: outcome(code as u8),
         retry: raw::retries(answer) != 0,
     })
 }

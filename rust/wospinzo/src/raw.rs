@@ -21,6 +21,10 @@ extern "C" {
         mov: u16,
         target: u16,
     ) -> u64;
+    /// See [`dispatch`](crate::dispatch). The value answered is 0 for waiting,
+    /// else 128 and the event's code, 0 for a quiet move, with 256 times the
+    /// thread, 65,536 times the move and 16,777,216 times the target.
+    pub fn wospinzo_dispatch(table: *mut u8, table_len: usize) -> u64;
     /// See [`nodes`](crate::nodes).
     pub fn wospinzo_nodes(table: *const u8, table_len: usize, out: *mut u8, out_len: usize) -> u64;
     /// See [`open_moves`](crate::open_moves).

@@ -4,8 +4,8 @@
 use std::collections::HashSet;
 
 use wospinzo::{
-    forbidden, fresh, make_move, nodes, open_moves, open_moves_room, phase, table_size, target,
-    Move, Phase, Refusal, MAX_THREADS, NO_TARGET,
+    dispatch, forbidden, fresh, make_move, nodes, open_moves, open_moves_room, phase, table_size,
+    target, Move, Phase, Refusal, MAX_THREADS, NO_TARGET,
 };
 
 /// Whether the table passes. One that does not is turned down by every function
@@ -21,6 +21,7 @@ fn passes(table: &[u8]) -> bool {
     assert_eq!(open_moves(table, 0, &mut out), Err(Refusal::Unsound));
     let mut same = table.to_vec();
     assert_eq!(make_move(&mut same, 0, Move::Go), Err(Refusal::Unsound));
+    assert_eq!(dispatch(&mut same), Err(Refusal::Unsound));
     assert_eq!(same, table);
     false
 }

@@ -16,6 +16,8 @@ extern "C" {
         out: *mut u8,
         out_len: usize,
     ) -> u64;
+    #[cfg(feature = "dispatch")]
+    fn wospinzo_dispatch(table: *mut u8, table_len: usize) -> u64;
     #[cfg(feature = "history")]
     fn wospinzo_check(threads: u16, history: *const u8, history_len: usize) -> u64;
     #[cfg(feature = "history")]
@@ -75,6 +77,10 @@ impl Part for Archive {
                 out.len(),
             )
         }
+    }
+    #[cfg(feature = "dispatch")]
+    fn dispatch(&self, table: &mut [u8]) -> u64 {
+        unsafe { wospinzo_dispatch(table.as_mut_ptr(), table.len()) }
     }
     #[cfg(feature = "history")]
     fn check(&self, threads: u16, history: &[u8]) -> u64 {

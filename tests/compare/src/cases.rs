@@ -83,6 +83,10 @@ fn make_move(r: &mut Random) -> Call {
     Call::make_move(table, thread, mov, target)
 }
 
+fn dispatch(r: &mut Random) -> Call {
+    Call::dispatch(tables::any(r))
+}
+
 fn nodes(r: &mut Random) -> Call {
     let table = tables::any(r);
     let needed = (table.len() / 3).max(1) - 1;
@@ -257,5 +261,6 @@ pub fn any(r: &mut Random, entry: Entry) -> Call {
         Entry::WatchInside => watch_inside(r),
         Entry::WriteScript => write_script(r),
         Entry::ReadScript => read_script(r),
+        Entry::Dispatch => dispatch(r),
     }
 }

@@ -2,6 +2,7 @@
 
 use std::cell::Cell;
 
+use crate::dispatch_faults;
 use crate::length_faults;
 use crate::model::{
     Record, EXCLUSIVE_TOTAL, GO, HOLD, MAX_THREADS, PLACES, READER_HOLDS, SET, SHARED_TOTAL,
@@ -287,9 +288,93 @@ pub enum Fault {
     RunCountOf11,
     /// A run that is refused tells of its retries.
     RunRefusedCounts,
+    /// The dispatcher makes a move that is the host's: a call, a leaving, or go or
+    /// hold in 4.
+    DispatchCallsShared,
+    DispatchCallsExclusive,
+    DispatchLeavesShared,
+    DispatchLeavesExclusive,
+    DispatchGoesIn4,
+    DispatchHolds,
+    /// It makes another retry: relents, reads busy 1, sets a flag that is set, sets
+    /// one in 15, clears one that is clear.
+    DispatchRelents,
+    DispatchReadsBusy1,
+    DispatchSetsAgain,
+    DispatchSetsIn15,
+    DispatchClearsAgain,
+    /// It goes in 9 while the mutex is taken, and is refused.
+    DispatchGoesIn9,
+    /// In 11 it looks at thread 0's busy and not at the target's.
+    DispatchBusyOf0,
+    /// It is always waiting.
+    DispatchWaits,
+    /// It is waiting although a thread in this phase has a move, or takes another.
+    DispatchSkips(u8),
+    /// It does not look at the last of several threads, at those from 128 on, or at
+    /// those behind one in 11 that waits.
+    DispatchWithoutLast,
+    DispatchOf128,
+    DispatchStopsAt11,
+    /// Of the threads that have a move it takes the highest, the second, or the one
+    /// that has the mutex.
+    DispatchHighest,
+    DispatchSecond,
+    DispatchHolderFirst,
+    /// It takes a thread in 9 after all others.
+    Dispatch9Last,
+    /// In 10 the target is the highest thread with forbidden 0, or the writer
+    /// itself first; in 15 the highest with forbidden 1.
+    DispatchHighestIn10,
+    DispatchOwnFirst,
+    DispatchHighestIn15,
+    /// The target is the lowest behind the writer, where there is one; or as many
+    /// threads as there are with the other flag stand before it.
+    DispatchBehindWriter,
+    DispatchTargetCounted,
+    /// A move is answered and the table stays, or two moves are made.
+    DispatchWritesNothing,
+    DispatchMovesTwice,
+    /// The table after a move is another: go in 11 leads to 10 with every flag set
+    /// too, the last clear stays in 15, go in 16 and 18 keeps the mutex.
+    DispatchBackTo10,
+    DispatchStaysIn15,
+    DispatchKeepsMutex,
+    /// The table is changed where it is waiting: the target, or a reader in 4.
+    DispatchWaitingWrites,
+    DispatchWaitingTriesAgain,
+    /// The answer has another thread: 0, the next one, or one cut to 7 bits.
+    DispatchThread0,
+    DispatchNextThread,
+    DispatchThreadOf7,
+    /// The answer's move is always go, or clear is given as set.
+    DispatchMove0,
+    DispatchClearAsSet,
+    /// The answer's target is always 0, or that of the table for go in 11 and 12.
+    DispatchTarget0,
+    DispatchOldTarget,
+    /// The answer has no event, or one for a quiet move, or that of entering for
+    /// one of leaving.
+    DispatchNoEvent,
+    DispatchEventOfQuiet,
+    DispatchEnterForLeave,
+    /// The answer lacks the 128, or waiting has it.
+    DispatchUnmarked,
+    DispatchWaitingMarked,
+    /// Waiting is refused by 6.
+    DispatchWaitingRefused,
+    /// A refused table is answered as waiting, with another number or with a place.
+    DispatchRefusedWaits,
+    DispatchUnsoundAs1,
+    DispatchSizeAs2,
+    DispatchRefusedPlace,
+    /// A refused table is changed.
+    DispatchRefusedWrites,
+    /// All threads may be in 3, 4 and 18 where the dispatcher is lent the table.
+    DispatchWithoutRule,
 }
 
-/// The faults but those of the rule below.
+/// The faults but those of the lists below.
 pub const OTHERS: [Fault; 106] = [
     Fault::ThreadsCut,
     Fault::ThreadCut,
@@ -454,9 +539,85 @@ pub const OF_COUNT: [Fault; 11] = [
     Fault::RunRefusedCounts,
 ];
 
-/// Entries that make no move, each with a retry in its answer.
+/// Faults of the dispatcher's turns.
+pub const OF_TURNS: [Fault; 59] = [
+    Fault::DispatchCallsShared,
+    Fault::DispatchCallsExclusive,
+    Fault::DispatchLeavesShared,
+    Fault::DispatchLeavesExclusive,
+    Fault::DispatchGoesIn4,
+    Fault::DispatchHolds,
+    Fault::DispatchRelents,
+    Fault::DispatchReadsBusy1,
+    Fault::DispatchSetsAgain,
+    Fault::DispatchSetsIn15,
+    Fault::DispatchClearsAgain,
+    Fault::DispatchGoesIn9,
+    Fault::DispatchBusyOf0,
+    Fault::DispatchWaits,
+    Fault::DispatchSkips(1),
+    Fault::DispatchSkips(2),
+    Fault::DispatchSkips(3),
+    Fault::DispatchSkips(5),
+    Fault::DispatchSkips(7),
+    Fault::DispatchSkips(8),
+    Fault::DispatchSkips(9),
+    Fault::DispatchSkips(10),
+    Fault::DispatchSkips(11),
+    Fault::DispatchSkips(12),
+    Fault::DispatchSkips(13),
+    Fault::DispatchSkips(15),
+    Fault::DispatchSkips(16),
+    Fault::DispatchSkips(17),
+    Fault::DispatchSkips(18),
+    Fault::DispatchWithoutLast,
+    Fault::DispatchStopsAt11,
+    Fault::DispatchHighest,
+    Fault::DispatchSecond,
+    Fault::DispatchHolderFirst,
+    Fault::Dispatch9Last,
+    Fault::DispatchHighestIn10,
+    Fault::DispatchOwnFirst,
+    Fault::DispatchHighestIn15,
+    Fault::DispatchBehindWriter,
+    Fault::DispatchTargetCounted,
+    Fault::DispatchWritesNothing,
+    Fault::DispatchMovesTwice,
+    Fault::DispatchBackTo10,
+    Fault::DispatchStaysIn15,
+    Fault::DispatchKeepsMutex,
+    Fault::DispatchWaitingWrites,
+    Fault::DispatchWaitingTriesAgain,
+    Fault::DispatchThread0,
+    Fault::DispatchNextThread,
+    Fault::DispatchMove0,
+    Fault::DispatchClearAsSet,
+    Fault::DispatchTarget0,
+    Fault::DispatchOldTarget,
+    Fault::DispatchNoEvent,
+    Fault::DispatchEventOfQuiet,
+    Fault::DispatchEnterForLeave,
+    Fault::DispatchUnmarked,
+    Fault::DispatchWaitingMarked,
+    Fault::DispatchWaitingRefused,
+];
+
+/// Faults of its turns that show from 128 threads on.
+pub const OF_MANY_TURNS: [Fault; 2] = [Fault::DispatchOf128, Fault::DispatchThreadOf7];
+
+/// Faults of the tables that it turns down.
+pub const OF_NO_TURN: [Fault; 6] = [
+    Fault::DispatchRefusedWaits,
+    Fault::DispatchUnsoundAs1,
+    Fault::DispatchSizeAs2,
+    Fault::DispatchRefusedPlace,
+    Fault::DispatchRefusedWrites,
+    Fault::DispatchWithoutRule,
+];
+
+/// Entries that make no retry, each with one in its answer.
 fn of_other_entries() -> impl Iterator<Item = Fault> {
-    let entries = ENTRIES.into_iter().filter(|entry| !entry.makes_moves());
+    let entries = ENTRIES.into_iter().filter(|entry| !entry.makes_retries());
     entries.map(Fault::OtherRetry)
 }
 
@@ -467,6 +628,9 @@ pub fn faults() -> impl Iterator<Item = Fault> {
         .chain(OF_RULE)
         .chain(OF_RETRY)
         .chain(OF_COUNT)
+        .chain(OF_TURNS)
+        .chain(OF_MANY_TURNS)
+        .chain(OF_NO_TURN)
         .chain(of_other_entries())
 }
 
@@ -610,6 +774,10 @@ impl Part for Faulty {
             _ => (),
         }
         answer
+    }
+
+    fn dispatch(&self, table: &mut [u8]) -> u64 {
+        dispatch_faults::turn(self.fault, table)
     }
 
     fn nodes(&self, table: &[u8], out: &mut [u8]) -> u64 {

@@ -15,9 +15,10 @@ use std::process::ExitCode;
 
 use compare::comparison::Comparison;
 use compare::faults::{faults, faulty, Fault, OF_COUNT, OF_RETRY, OF_RULE};
+use compare::faults::{OF_MANY_TURNS, OF_NO_TURN, OF_TURNS};
 use compare::part::{Entry, Model, Part, ENTRIES};
-use compare::{arrows, examples, lengths, progress, retries, sections, spoiled};
-use compare::{unreached, vectors, written};
+use compare::{arrows, dispatcher, examples, lengths, progress, retries, sections, spoiled};
+use compare::{turns, unreached, vectors, written};
 
 const SEED: u64 = 0x5eed_0f10_c4ed_2026;
 
@@ -36,6 +37,9 @@ fn archive_entries() -> Vec<Entry> {
     if !cfg!(feature = "writing") {
         entries.retain(|entry| !entry.is_of_writing());
     }
+    if !cfg!(feature = "dispatch") {
+        entries.retain(|&entry| entry != Entry::Dispatch);
+    }
     entries
 }
 
@@ -46,7 +50,7 @@ struct Section {
     run: fn(&mut Comparison, &[vectors::Vector]),
 }
 
-const SECTIONS: [Section; 35] = [
+const SECTIONS: [Section; 40] = [
     Section {
         name: "vectors",
         needs: None,
@@ -76,6 +80,11 @@ const SECTIONS: [Section; 35] = [
         name: "examples of retries",
         needs: Some(Entry::Run),
         run: |c, _| retries::examples(c),
+    },
+    Section {
+        name: "examples of the dispatcher",
+        needs: Some(Entry::Dispatch),
+        run: |c, _| dispatcher::examples(c),
     },
     Section {
         name: "examples of tables that no moves leave",
@@ -203,6 +212,26 @@ const SECTIONS: [Section; 35] = [
         run: |c, _| progress::limit(c),
     },
     Section {
+        name: "turns of the dispatcher from every sound table: the move that is due, or waiting",
+        needs: Some(Entry::Dispatch),
+        run: |c, _| turns::every_table(c),
+    },
+    Section {
+        name: "as many turns as there can be, for each number of threads",
+        needs: Some(Entry::Dispatch),
+        run: |c, _| turns::limit_reached(c),
+    },
+    Section {
+        name: "turns from random tables, for each number of threads",
+        needs: Some(Entry::Dispatch),
+        run: |c, _| turns::random_runs(c, SEED),
+    },
+    Section {
+        name: "hosts that call and leave, with the dispatcher for the rest",
+        needs: Some(Entry::Dispatch),
+        run: |c, _| turns::hosts(c, SEED),
+    },
+    Section {
         name: "arrows of Figure 1 from every sound table: taken where their condition holds",
         needs: None,
         run: |c, _| arrows::figure_1(c),
@@ -250,7 +279,7 @@ fn compare_all(c: &mut Comparison, vectors: &[vectors::Vector]) -> (u64, u64) {
 /// A section, and faults that it must find by itself, whatever others find.
 type Alone = (&'static str, fn(&mut Comparison), &'static [Fault]);
 
-const ALONE: [Alone; 10] = [
+const ALONE: [Alone; 21] = [
     (
         "the tables reached and the sound ones",
         sections::reached_by_part,
@@ -283,6 +312,7 @@ const ALONE: [Alone; 10] = [
             Fault::RuleUpTo127,
             Fault::RuleTestedLast,
             Fault::BarredCleared,
+            Fault::DispatchWithoutRule,
         ],
     ),
     (
@@ -303,6 +333,10 @@ const ALONE: [Alone; 10] = [
             Fault::FlagsCut,
             Fault::FlagsOfLastCut,
             Fault::BusyOf199Mended,
+            Fault::DispatchRefusedWaits,
+            Fault::DispatchUnsoundAs1,
+            Fault::DispatchRefusedPlace,
+            Fault::DispatchRefusedWrites,
         ],
     ),
     (
@@ -351,7 +385,45 @@ const ALONE: [Alone; 10] = [
             Fault::EventRetry,
         ],
     ),
+    ("examples of turns", dispatcher::examples, &OF_TURNS),
+    ("examples of turns", dispatcher::examples, &OF_MANY_TURNS),
+    ("examples of turns", dispatcher::examples, &OF_NO_TURN),
+    (
+        "turns from every sound table",
+        turns::every_table,
+        &OF_TURNS,
+    ),
+    (
+        "turns from random tables",
+        |c| turns::random_runs(c, SEED),
+        &OF_TURNS,
+    ),
+    (
+        "turns from random tables",
+        |c| turns::random_runs(c, SEED),
+        &OF_MANY_TURNS,
+    ),
+    ("hosts", |c| turns::hosts(c, SEED), &OF_TURNS),
+    (
+        "as many turns as there can be",
+        turns::limit_reached,
+        &[
+            Fault::DispatchWaits,
+            Fault::DispatchOf128,
+            Fault::DispatchHighest,
+            Fault::DispatchHighestIn15,
+            Fault::DispatchThreadOf7,
+        ],
+    ),
+    ("random turns", random_turns, &OF_TURNS),
+    ("random turns", random_turns, &OF_MANY_TURNS),
+    ("random turns", random_turns, &OF_NO_TURN),
 ];
+
+/// Random cases of the dispatcher.
+fn random_turns(c: &mut Comparison) {
+    sections::random_cases_of(c, Entry::Dispatch, SEED);
+}
 
 /// Whether a comparison finds a fault.
 fn finds(fault: Fault, compare: impl FnOnce(&mut Comparison)) -> bool {

@@ -1,6 +1,7 @@
 //! Every entry of the part in plain Rust over slices: the table and its moves,
-//! the nodes, the open moves, histories, plans and their lengths, scripts and
-//! the watcher. The entries that write and read a script stand in `spelling.rs`.
+//! the dispatcher, the nodes, the open moves, histories, plans and their lengths,
+//! scripts and the watcher. The entries that write and read a script stand in
+//! `spelling.rs`.
 //!
 //! It shares no code with the part. It makes the same tests in the same order,
 //! and judges a table or a watcher's record in one pass over its threads. Its
@@ -381,6 +382,83 @@ fn go(table: &mut [u8], threads: usize, forbidden: &mut usize, at: usize) -> Out
         _ => return Outcome::Refused(Refusal::NotInPhase),
     }
     Outcome::Quiet
+}
+
+// ------------------------------------------------------------ the dispatcher
+
+/// What the dispatcher answers: the thread, move and target of the move that it
+/// made, and the event that this shows, 0 for none.
+#[derive(Clone, Copy, PartialEq, Eq, Debug)]
+pub enum Turn {
+    Moved { request: [u16; 3], event: u8 },
+    Waiting,
+    Refused(Refusal),
+}
+
+/// A set of phases, a bit each.
+const fn set_of(phases: &[u8]) -> u32 {
+    let mut set = 0;
+    let mut i = 0;
+    while i < phases.len() {
+        set |= 1 << phases[i];
+        i += 1;
+    }
+    set
+}
+
+/// The phases in which a thread has a move that is no call, no retry and no
+/// leaving, wherever the others are.
+const ALWAYS_MOVES: u32 = set_of(&[1, 2, 3, 5, 7, 8, 10, 12, 13, 15, 16, 17, READER_HOLDS]);
+
+/// The phases in which a thread of this sound table has such a move: 9 while
+/// nobody has the mutex, 11 while the target isn't busy.
+fn moving(table: &[u8]) -> u32 {
+    let mut set = ALWAYS_MOVES;
+    if table[1] == 0 {
+        set |= set_of(&[9]);
+    }
+    if table[2] != NO_TARGET && table[place_of(usize::from(table[2])) + 1] == 0 {
+        set |= set_of(&[11]);
+    }
+    set
+}
+
+/// The lowest thread with this forbidden, where there is one.
+fn lowest_with(table: &[u8], forbidden: u8) -> usize {
+    let mut flags = table[5..].iter().step_by(3);
+    flags.position(|&flag| flag == forbidden).unwrap_or(0)
+}
+
+/// Makes one move that is no call, no retry and no leaving, for the lowest thread
+/// that has one.
+#[inline(never)]
+pub fn dispatch(table: &mut [u8]) -> Turn {
+    let Survey {
+        threads,
+        mut forbidden,
+    } = match survey(table) {
+        Ok(found) => found,
+        Err(refusal) => return Turn::Refused(refusal),
+    };
+    let moving = moving(table);
+    let mut phases = table[3..].iter().step_by(3);
+    let Some(thread) = phases.position(|&phase| moving >> phase & 1 == 1) else {
+        return Turn::Waiting;
+    };
+    let at = place_of(thread);
+    let (mov, target) = match table[at] {
+        10 => (SET, lowest_with(table, 0)),
+        15 => (CLEAR, lowest_with(table, 1)),
+        _ => (GO, 0),
+    };
+    let event = match step(table, threads, &mut forbidden, at, mov, target) {
+        Outcome::Shown(event) => event,
+        _ => 0,
+    };
+    Turn::Moved {
+        request: [thread as u16, mov, target as u16],
+        event,
+    }
 }
 
 // ---------------------------------------------------- nodes and open moves

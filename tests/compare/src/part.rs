@@ -5,11 +5,12 @@
 //! refusal is its place. Of an accepted call the next 32 bits are the number
 //! answered: a count, or for the move the event's code, 0 for quiet. The watcher
 //! answers 0, and its question 1 for yes and 0 for no. Reading a script answers N
-//! and 256 times the number of bytes. The bits from 40 upward count the retries:
-//! 1 for a move that was one, for a run those among its moves, and 0 for every
-//! other entry.
+//! and 256 times the number of bytes. The dispatcher answers 0 for waiting, else
+//! four bytes: 128 and the event's code, the thread, the move and the target. The
+//! bits from 40 upward count the retries: 1 for a move that was one, for a run
+//! those among its moves, and 0 for every other entry.
 
-use crate::model::{self, Answer, Outcome, Ran, Record, Refusal};
+use crate::model::{self, Answer, Outcome, Ran, Record, Refusal, Turn};
 use crate::spelling::{self, Reading};
 
 /// The entries of the part. Those that an archive lacks keep the default.
@@ -45,6 +46,9 @@ pub trait Part {
     fn read_script(&self, _script: &[u8], _out: &mut [u8]) -> u64 {
         panic!("the part reads no scripts")
     }
+    fn dispatch(&self, _table: &mut [u8]) -> u64 {
+        panic!("the part has no dispatcher")
+    }
 }
 
 pub fn done(value: u64) -> u64 {
@@ -58,6 +62,16 @@ pub fn refused(number: u64, place: u64) -> u64 {
 /// The answer to a script that was read.
 pub fn done_reading(threads: u64, bytes: u64) -> u64 {
     done(threads + 256 * bytes)
+}
+
+/// The dispatcher's answer where it is waiting.
+pub const WAITING: u64 = 0;
+
+/// The dispatcher's answer where it made a move of thread, move and target, which
+/// shows this event, 0 for none.
+pub fn turned(request: [u16; 3], event: u64) -> u64 {
+    let [thread, mov, target] = request.map(u64::from);
+    done(128 + event + (thread << 8) + (mov << 16) + (target << 24))
 }
 
 /// The refusal's number, 0 where accepted.
@@ -163,6 +177,13 @@ impl Part for Model {
             Err((refusal, place)) => refused(refusal as u64, place as u64),
         }
     }
+    fn dispatch(&self, table: &mut [u8]) -> u64 {
+        match model::dispatch(table) {
+            Turn::Moved { request, event } => turned(request, event.into()),
+            Turn::Waiting => WAITING,
+            Turn::Refused(refusal) => refused(refusal as u64, 0),
+        }
+    }
 }
 
 #[derive(Clone, Copy, PartialEq, Eq, PartialOrd, Ord, Debug)]
@@ -180,9 +201,10 @@ pub enum Entry {
     WatchInside,
     WriteScript,
     ReadScript,
+    Dispatch,
 }
 
-pub const ENTRIES: [Entry; 13] = [
+pub const ENTRIES: [Entry; 14] = [
     Entry::Fresh,
     Entry::Move,
     Entry::Nodes,
@@ -196,6 +218,7 @@ pub const ENTRIES: [Entry; 13] = [
     Entry::WatchInside,
     Entry::WriteScript,
     Entry::ReadScript,
+    Entry::Dispatch,
 ];
 
 impl Entry {
@@ -214,6 +237,7 @@ impl Entry {
             "watch_inside",
             "write_script",
             "read_script",
+            "dispatch",
         ][self as usize]
     }
 
@@ -232,8 +256,9 @@ impl Entry {
         matches!(self, Entry::WriteScript | Entry::ReadScript)
     }
 
-    /// Whether the entry makes moves, so that its answer tells of retries.
-    pub fn makes_moves(self) -> bool {
+    /// Whether the entry makes moves that may be retries, so that its answer tells
+    /// of them.
+    pub fn makes_retries(self) -> bool {
         matches!(self, Entry::Move | Entry::Run)
     }
 
@@ -252,14 +277,15 @@ impl Entry {
             Entry::WatchInside => &[1, 13],
             Entry::WriteScript => &[1, 3, 4, 5, 8, 12],
             Entry::ReadScript => &[1, 3, 5, 8, 12],
+            Entry::Dispatch => &[1, 2],
         }
     }
 }
 
 /// One call: the entry, its numbers (0 where it has fewer), what is read and
-/// what may be written. The move's table and the record of a watcher's start
-/// and event stand in `lent`; the check, a plan's length and the watcher's
-/// question lend nothing.
+/// what may be written. The table of the move and of the dispatcher and the record
+/// of a watcher's start and event stand in `lent`; the check, a plan's length and
+/// the watcher's question lend nothing.
 #[derive(Clone, PartialEq, Eq, Debug)]
 pub struct Call {
     pub entry: Entry,
@@ -374,6 +400,15 @@ impl Call {
         }
     }
 
+    pub fn dispatch(table: Vec<u8>) -> Call {
+        Call {
+            entry: Entry::Dispatch,
+            numbers: [0; 3],
+            read: vec![],
+            lent: table,
+        }
+    }
+
     /// The call in the words of the vectors' file, its bytes in hexadecimal.
     pub fn words(&self) -> String {
         let [first, second, third] = self.numbers;
@@ -388,6 +423,7 @@ impl Call {
             Entry::Plan | Entry::WriteScript => format!("{name} {first} {read} {lent}"),
             Entry::WatchEvent => format!("{name} {lent} {first} {second}"),
             Entry::WatchInside => format!("{name} {read}"),
+            Entry::Dispatch => format!("{name} {lent}"),
         }
     }
 }
@@ -472,6 +508,7 @@ impl<'a> Caller<'a> {
             Entry::WatchInside => self.part.watch_inside(record(read)),
             Entry::WriteScript => self.part.write_script(numbers[0], read, lent),
             Entry::ReadScript => self.part.read_script(read, lent),
+            Entry::Dispatch => self.part.dispatch(lent),
         }
     }
 

@@ -171,4 +171,7 @@ impl Part for Retrying {
     fn read_script(&self, script: &[u8], out: &mut [u8]) -> u64 {
         self.other(Entry::ReadScript, Model.read_script(script, out))
     }
+    fn dispatch(&self, table: &mut [u8]) -> u64 {
+        self.other(Entry::Dispatch, Model.dispatch(table))
+    }
 }

@@ -101,7 +101,7 @@ pub fn vectors(c: &mut Comparison, vectors: &[Vector]) {
 /// The answer of a vector with the retries of its move or run, on which model
 /// and part must agree.
 fn with_retries(c: &mut Comparison, vector: &Vector) -> u64 {
-    if !vector.call.entry.makes_moves() {
+    if !vector.call.entry.makes_retries() {
         return vector.answer;
     }
     let answer = c.compare(&vector.call);
@@ -280,7 +280,7 @@ fn requests(c: &mut Comparison, table: &[u8], thread: u16) {
 }
 
 /// Every table of one to three threads whose bytes are in range, or past it by
-/// `past`, sound or not: its nodes and one move.
+/// `past`, sound or not: its nodes, one move and one turn.
 pub fn small_tables(c: &mut Comparison) {
     let before = c.passed;
     for (threads, _) in REACHED {
@@ -297,52 +297,61 @@ fn table(c: &mut Comparison, table: &[u8]) {
     let thread = u16::from(table[3] ^ table[4] ^ table[5]) % u16::from(table[0]);
     c.compare(&Call::nodes(table.to_vec(), vec![0x5a; 3]));
     c.compare(&Call::make_move(table.to_vec(), thread, model::GO, 0));
+    c.compare(&Call::dispatch(table.to_vec()));
 }
 
 /// Random cases of each entry that the part has.
 pub fn random_cases(c: &mut Comparison, seed: u64) {
-    for entry in ENTRIES
-        .into_iter()
-        .filter(|&entry| c.has(entry))
-        .collect::<Vec<_>>()
-    {
-        let mut r = Random::new(seed ^ (entry as u64) << 32);
-        let mut printed = [false; 13];
-        let mut retries = 0;
-        c.reset_seen();
-        for _ in 0..CASES {
-            let call = cases::any(&mut r, entry);
-            let answer = c.compare(&call);
-            retries += retries_of(answer);
-            if entry == Entry::Run && number_of(answer) == 0 {
-                printed[refusal_printed(&c.lent()[..value_of(answer) as usize])] = true;
-            }
-            if c.stopped() {
-                return;
-            }
-        }
-        c.all_seen(entry);
-        let refusals = numbers(entry.refusals());
-        c.say(&format!(
-            "  {}: {CASES} cases, refusals {refusals}",
-            entry.name()
-        ));
-        if entry.makes_moves() {
-            c.claim(retries > 0, || format!("{} made no retry", entry.name()));
-            c.say(&format!("  {}: {retries} retries", entry.name()));
-        }
-        if entry == Entry::Run {
-            for number in PRINTED {
-                c.claim(printed[usize::from(number)], || {
-                    format!("no run printed {number}")
-                });
-            }
-            c.say(&format!(
-                "  run: printed refusals {}",
-                numbers(&PRINTED[1..])
-            ));
+    for entry in ENTRIES {
+        if c.has(entry) && !c.stopped() {
+            random_cases_of(c, entry, seed);
         }
     }
+}
+
+/// Random cases of one entry.
+pub fn random_cases_of(c: &mut Comparison, entry: Entry, seed: u64) {
+    let mut r = Random::new(seed ^ (entry as u64) << 32);
+    let mut printed = [false; 13];
+    let mut retries = 0;
+    c.reset_seen();
+    for _ in 0..CASES {
+        let call = cases::any(&mut r, entry);
+        let answer = c.compare(&call);
+        retries += retries_of(answer);
+        if entry == Entry::Run && number_of(answer) == 0 {
+            printed[refusal_printed(&c.lent()[..value_of(answer) as usize])] = true;
+        }
+        if c.stopped() {
+            return;
+        }
+    }
+    c.all_seen(entry);
+    let refusals = numbers(entry.refusals());
+    c.say(&format!(
+        "  {}: {CASES} cases, refusals {refusals}",
+        entry.name()
+    ));
+    if entry.makes_retries() {
+        c.claim(retries > 0, || format!("{} made no retry", entry.name()));
+        c.say(&format!("  {}: {retries} retries", entry.name()));
+    }
+    if entry == Entry::Run {
+        all_printed(c, &printed);
+    }
+}
+
+/// Claims that runs printed each refusal that they can print.
+fn all_printed(c: &mut Comparison, printed: &[bool]) {
+    for number in PRINTED {
+        c.claim(printed[usize::from(number)], || {
+            format!("no run printed {number}")
+        });
+    }
+    c.say(&format!(
+        "  run: printed refusals {}",
+        numbers(&PRINTED[1..])
+    ));
 }
 
 fn numbers(list: &[u8]) -> String {
@@ -517,7 +526,7 @@ fn request(r: &mut Random, table: &[u8], thread: u16) -> (u16, u16) {
 
 /// The check accepts a history with its number of events, as long as it takes
 /// histories of this length; its plan is measured.
-fn permitted(c: &mut Comparison, threads: usize, history: &[u8]) {
+pub(crate) fn permitted(c: &mut Comparison, threads: usize, history: &[u8]) {
     let history = &history[..history.len().min(model::MAX_HISTORY)];
     let answer = c.compare(&Call::check(threads as u16, history.to_vec()));
     c.claim(answer == done(history.len() as u64 / 2), || {

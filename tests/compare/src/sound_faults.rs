@@ -17,6 +17,7 @@ fn passes(fault: Fault, entry: Entry, table: &[u8]) -> bool {
         Fault::MoveWithoutRule => entry == Entry::Move,
         Fault::NodesWithoutRule => entry == Entry::Nodes,
         Fault::OpenMovesWithoutRule => entry == Entry::OpenMoves,
+        Fault::DispatchWithoutRule => entry == Entry::Dispatch,
         Fault::RuleWithout3 => some(table, |phase| phase == 3),
         Fault::RuleWithout4 => some(table, |phase| phase == 4),
         Fault::RuleWithout18 => some(table, |phase| phase == 18),

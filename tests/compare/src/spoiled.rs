@@ -32,6 +32,7 @@ fn turned_down(c: &mut Comparison, table: &[u8], thread: usize) {
         Call::nodes(table.to_vec(), vec![7; threads]),
         Call::open_moves(table.to_vec(), thread, vec![7; 4]),
         Call::make_move(table.to_vec(), thread, GO, 0),
+        Call::dispatch(table.to_vec()),
     ] {
         c.expect("one bad byte", &call, refused(2, 0), &call.lent);
     }

@@ -54,7 +54,7 @@ pub fn examples(c: &mut Comparison) {
 fn turned_down(c: &mut Comparison, table: &[u8]) {
     let threads = u16::from(table[0]);
     let table = || table.to_vec();
-    let mut calls = Vec::new();
+    let mut calls = vec![Call::dispatch(table())];
     for room in [0, usize::from(threads)] {
         calls.push(Call::nodes(table(), vec![7; room]));
     }

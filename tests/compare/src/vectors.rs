@@ -11,12 +11,12 @@ use crate::tables::{all_back_off, phases_mut};
 
 /// The entries that the vectors call. They were made before 02 §2: there are
 /// none of the watcher, none that write or read a script, and none of a plan's
-/// length.
+/// length or of the dispatcher.
 pub fn entries() -> impl Iterator<Item = Entry> {
     ENTRIES
         .into_iter()
         .filter(|entry| !entry.is_of_watcher() && !entry.is_of_writing())
-        .filter(|&entry| entry != Entry::PlanLength)
+        .filter(|entry| !matches!(entry, Entry::PlanLength | Entry::Dispatch))
 }
 
 /// A call with its answer and the lent bytes after it.

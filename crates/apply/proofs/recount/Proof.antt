@@ -1,25 +1,26 @@
 -- `recount` meets its contract: a Bool cast to a number is 1 or 0.
 use Prim.Native.Nat.{_≤_}
 use native.Mathlib.Omega.{arith}
-use mathlib.Core.Bool.{Bool, true, false, cond}
-use mathlib.Core.Path.{_≡_, refl}
+use mathlib.Core.Bool.{Bool, cond}
+use mathlib.Core.Path.{_≡_}
 use borrow.Author.Needs.{needs}
 use lib.Dec.{eqb}
 use mir.Val.{boolByte}
+use Rattle.theory.proofs.Casts.{cast-is, cast-most}
 use Rattle.apply.proofs.recount.Statement.{statement}
 use Rattle.apply.proofs.recount.Tie as tie
 
+-- a cast
 record Cast (b : Bool) : Type 0 where
   is : boolByte b ≡ cond b 1 0
   most : boolByte b ≤ 1
 
 cast : (b : Bool) → Cast b
-cast true = record { is = refl; most = omega arith }
-cast false = record { is = refl; most = omega arith }
+cast b = record { is = cast-is b; most = cast-most b }
 
--- the two casts
+-- the two
 casts : (c : tie.Start) → Cast (eqb (c .args .before) 1) × Cast (eqb (c .args .after) 1)
-casts c = (cast _, cast _)
+casts c = (cast (eqb (c .args .before) 1), cast (eqb (c .args .after) 1))
 
 returns : tie.Need-returns
 returns c = rw (c .if1 .taken)

@@ -1,9 +1,9 @@
 -- `aim_fits` meets its contract: the phases that read are 5 to 7.
 use Prim.Native.Nat.{ℕ, suc, _<_}
 use native.Mathlib.Omega.{arith}
-use mathlib.Core.Bool.{Bool, true, false, cond, _&&_}
+use mathlib.Core.Bool.{Bool, cond, _&&_}
 use mathlib.Core.Logic.{⊎-elim}
-use mathlib.Core.Path.{_≡_, refl, subst, ap, _∙_}
+use mathlib.Core.Path.{_≡_, subst, ap, _∙_}
 use borrow.Author.Needs.{needs}
 use lib.Dec.{T, leb, eqb, leb→le}
 use mir.Val.{boolByte}
@@ -14,14 +14,11 @@ use Rattle.soundness.specs.Pass.{aimFits}
 use Rattle.soundness.specs.declared.Aim.{Aim}
 use Rattle.soundness.specs.declared.Tally.{Tally}
 use Rattle.theory.proofs.Cases.{no-row}
+use Rattle.theory.proofs.Casts.{cast-is}
 use Rattle.theory.proofs.Quantifiers.{every-at}
 use Rattle.theory.proofs.Tests.{and-r, same-test, implies-e, below?}
 use Rattle.soundness.proofs.aim_fits.Statement.{statement}
 use Rattle.soundness.proofs.aim_fits.Tie as tie
-
-flag-of : (b : Bool) → boolByte b ≡ cond b 1 0
-flag-of true = refl
-flag-of false = refl
 
 -- by trying the phases; past the last phase there is no row
 reads : (p : ℕ) → between 5 7 p ≡ reading p
@@ -39,7 +36,7 @@ reads p = same-test (between 5 7 p) (reading p) to (λ t. ⊎-elim (from t) (λ 
 module _ (t : Tally) (aim : Aim) where
   same : (eqb (aim .forbidden) 1 && eqb (t .readers) (boolByte (between 5 7 (aim .phase)))) ≡ aimFits t aim
   unfolding aimFits
-  same = ap (λ (k : ℕ). eqb (aim .forbidden) 1 && eqb (t .readers) k) (flag-of (between 5 7 (aim .phase)) ∙ ap (λ (b : Bool). cond b 1 0) (reads (aim .phase)))
+  same = ap (λ (k : ℕ). eqb (aim .forbidden) 1 && eqb (t .readers) k) (cast-is (between 5 7 (aim .phase)) ∙ ap (λ (b : Bool). cond b 1 0) (reads (aim .phase)))
 
 cast-result : tie.Need-cast-result
 cast-result c = search needs

@@ -1,0 +1,4 @@
+pub mod ReadyBits
+pub mod PassLaws
+pub mod ChoiceLaws
+pub mod TurnLaws

@@ -1,0 +1,3 @@
+-- The definitions that this crate's contracts cite besides those of the crates below.
+pub mod Choosing
+pub mod Turned

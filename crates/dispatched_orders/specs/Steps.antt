@@ -1,0 +1,45 @@
+-- A host that makes requests of its own and lets the dispatcher take turns, in any order: what is shown, and what is left (02 §8).
+-- Each step gets the table that the one before left, and nothing else writes it.
+use Prim.Native.Nat.{ℕ}
+use mathlib.Core.List.{List, [], _∷_, _++_}
+use mathlib.Core.Path.{_≡_}
+use Rattle.definitions.specs.Answers.{Reply, accepted, refused}
+use Rattle.definitions.specs.Chains.{pairSeen, pairFor, history, tableAfter}
+use Rattle.definitions.specs.Dispatch.{Turn, made, waiting, dispatchReply, dispatchTable}
+use Rattle.definitions.specs.Moves.{moveReply, moveTable}
+use Rattle.definitions.specs.PlainLock.{Pair}
+use Rattle.definitions.specs.declared.Request.{Request}
+
+-- one step: a request to the move, or a turn of the dispatcher
+pub data Step : Type 0 where
+  asks : Request → Step
+  turn : Step
+
+-- a turn shows its thread and event where it made a move that shows one
+abbrev pub pairOfTurn : Reply Turn → List Pair
+pairOfTurn (accepted (made r answer)) = pairSeen (r .thread) (answer .seen)
+pairOfTurn (accepted waiting) = []
+pairOfTurn (refused number place) = []
+
+abbrev pub shownAt : List ℕ → Step → List Pair
+shownAt table (asks r) = pairFor (r .thread) (moveReply table r)
+shownAt table turn = pairOfTurn (dispatchReply table)
+
+abbrev pub leftAt : List ℕ → Step → List ℕ
+leftAt table (asks r) = moveTable table r
+leftAt table turn = dispatchTable table
+
+-- what a list of steps shows, and what it leaves
+unfoldable pub shownBy : List ℕ → List Step → List Pair
+shownBy table [] = []
+shownBy table (x ∷ xs) = shownAt table x ++ shownBy (leftAt table x) xs
+
+unfoldable pub leftBy : List ℕ → List Step → List ℕ
+leftBy table [] = table
+leftBy table (x ∷ xs) = leftBy (leftAt table x) xs
+
+-- requests that show and leave the same as some steps
+pub record AsRequests (table : List ℕ) (xs : List Step) : Type 0 where
+  pub requests : List Request
+  pub shows : history table requests ≡ shownBy table xs
+  pub leaves : tableAfter table requests ≡ leftBy table xs

@@ -1,0 +1,94 @@
+-- What the dispatcher answers and leaves, whatever stores the table: of a sound table that waits, waiting and the table as it was; of one that doesn't, the chosen request with its answer,
+-- and what that request leaves. And what a reply says of the table that it was given for.
+use mathlib.Core.Bool.{Bool, true, false, not}
+use mathlib.Core.List.{List, [], _∷_}
+use mathlib.Core.Logic.{_⊎_, inl, inr}
+use mathlib.Core.Path.{_≡_, sym, subst, ap, _∙_}
+use lib.Dec.{T}
+use Rattle.definitions.specs.Answers.{Reply, accepted, isAccepted, MoveAnswer, Test, test}
+use Rattle.definitions.specs.Dispatch.{chosen, isWaiting, Turn, made, waiting, turnOf, dispatchReplyIn, dispatchIn}
+use Rattle.definitions.specs.Moves.{moveAnswer, stepIn}
+use Rattle.definitions.specs.Sound.{sound}
+use Rattle.definitions.specs.Table.{Table, Storage}
+use Rattle.definitions.specs.declared.Request.{Request}
+use Rattle.theory.proofs.Replies.{peel, pass, no-test, all-passed, leaves-yes, leaves-no}
+use Rattle.theory.proofs.TestLists.{answered-e}
+use Rattle.theory.proofs.Tests.{decided, cond-yes, cond-no}
+
+-- ---- the turn
+
+pub turn-waits : (s : Table) → T (isWaiting s) → turnOf s ≡ waiting
+unfolding turnOf
+turn-waits s t = cond-yes (isWaiting s) waiting (made (chosen s) (moveAnswer s (chosen s))) t
+
+pub turn-moves : (s : Table) → T (not (isWaiting s)) → turnOf s ≡ made (chosen s) (moveAnswer s (chosen s))
+unfolding turnOf
+turn-moves s t = cond-no (isWaiting s) waiting (made (chosen s) (moveAnswer s (chosen s))) t
+
+-- the two are apart
+abbrev isMade : Turn → Bool
+isMade (made r a) = true
+isMade waiting = false
+
+pub waiting-e : (s : Table) → turnOf s ≡ waiting → T (isWaiting s)
+waiting-e s e = by (decided (isWaiting s))
+  where
+    by : T (isWaiting s) ⊎ T (not (isWaiting s)) → T (isWaiting s)
+    by (inl t) = t
+    by (inr t) = absurd (subst (λ (x : Turn). T (isMade x)) (sym (turn-moves s t) ∙ e) tt)
+
+-- the request and the answer of a turn, if it made one
+abbrev requestIn : Request → Turn → Request
+requestIn none (made r a) = r
+requestIn none waiting = none
+
+abbrev answerIn : MoveAnswer → Turn → MoveAnswer
+answerIn none (made r a) = a
+answerIn none waiting = none
+
+pub made-e : (s : Table) (r : Request) (a : MoveAnswer) → turnOf s ≡ made r a → T (not (isWaiting s)) × (chosen s ≡ r) × (moveAnswer s (chosen s) ≡ a)
+made-e s r a e = by (decided (isWaiting s))
+  where
+    by : T (isWaiting s) ⊎ T (not (isWaiting s)) → T (not (isWaiting s)) × (chosen s ≡ r) × (moveAnswer s (chosen s) ≡ a)
+    by (inl t) = absurd (subst (λ (x : Turn). T (isMade x)) (sym e ∙ turn-waits s t) tt)
+    by (inr t) = let same = sym (turn-moves s t) ∙ e in (t, ap (requestIn r) same, ap (answerIn a) same)
+
+-- ---- through a storage
+
+module _ {B : Type 0} (S : Storage B) (b : B) where
+  abbrev s : Table
+  s = S .table b
+
+  abbrev tests : List Test
+  tests = test 1 (S .fits b) ∷ test 2 (sound s) ∷ []
+
+  -- an accepted reply: the table fits and is sound, and the turn is its own
+  pub reply-e : (t : Turn) → dispatchReplyIn S b ≡ accepted t → T (S .fits b) × T (sound s) × (turnOf s ≡ t)
+  unfolding dispatchReplyIn
+  reply-e t e =
+      let (p, same) = answered-e tests (turnOf s) t e in
+      let (fits, q) = peel (test 1 (S .fits b)) (test 2 (sound s) ∷ []) p in
+      (fits, peel (test 2 (sound s)) [] q .0, same)
+
+  -- a refused one leaves what is stored
+  pub refused-keeps : T (not (isAccepted (dispatchReplyIn S b))) → dispatchIn S b ≡ b
+  unfolding dispatchIn
+  refused-keeps t = leaves-no _ b (dispatchReplyIn S b) t
+
+  module _ (fits : T (S .fits b)) (is-sound : T (sound s)) where
+    pub reply-is : dispatchReplyIn S b ≡ accepted (turnOf s)
+    unfolding dispatchReplyIn
+    reply-is = all-passed (turnOf s) tests (pass (test 1 (S .fits b)) (test 2 (sound s) ∷ []) fits (pass (test 2 (sound s)) [] is-sound no-test))
+
+    is-accepted : T (isAccepted (dispatchReplyIn S b))
+    is-accepted = subst (λ (x : Reply Turn). T (isAccepted x)) (sym reply-is) tt
+
+    -- it waits
+    pub waits : T (isWaiting s) → (dispatchReplyIn S b ≡ accepted waiting) × (dispatchIn S b ≡ b)
+    unfolding dispatchIn
+    waits t = (reply-is ∙ ap accepted (turn-waits s t), leaves-yes _ b (dispatchReplyIn S b) is-accepted ∙ cond-yes (isWaiting s) b (stepIn S b (chosen s)) t)
+
+    -- it moves
+    pub moves : T (not (isWaiting s)) → (dispatchReplyIn S b ≡ accepted (made (chosen s) (moveAnswer s (chosen s)))) × (dispatchIn S b ≡ stepIn S b (chosen s))
+    unfolding dispatchIn
+    moves t = (reply-is ∙ ap accepted (turn-moves s t), leaves-yes _ b (dispatchReplyIn S b) is-accepted ∙ cond-no (isWaiting s) b (stepIn S b (chosen s)) t)

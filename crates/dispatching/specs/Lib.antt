@@ -1,0 +1,3 @@
+-- What the laws and theorems of the dispatcher's choice speak of besides the definitions of the papers.
+pub mod Ready
+pub mod Turns

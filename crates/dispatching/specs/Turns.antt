@@ -1,0 +1,62 @@
+-- The words of the theorems on the dispatcher's turns: what a turn is that made a move, and what is known of a table that waits.
+use Prim.Native.Nat.{ℕ, _≤_, _<_}
+use mathlib.Core.Bool.{not}
+use mathlib.Core.List.{List, [], _∷_}
+use mathlib.Core.Logic.{_⊎_}
+use mathlib.Core.Path.{_≡_}
+use lib.Dec.{T}
+use Rattle.definitions.specs.Answers.{accepted, MoveAnswer}
+use Rattle.definitions.specs.Bounds.{mostThreads, lastMove}
+use Rattle.definitions.specs.Codes.{Shared, EE}
+use Rattle.definitions.specs.Dispatch.{isLeaving, mayDispatch, dispatchTable}
+use Rattle.definitions.specs.Moves.{ask, isCall, isRetry, moveReply, moveTable}
+use Rattle.definitions.specs.Phases.{nodeOf}
+use Rattle.definitions.specs.Table.{Table, tableOf}
+use Rattle.definitions.specs.Threads.{among}
+use Rattle.definitions.specs.declared.Request.{Request}
+
+-- the numbers of a request to n threads, of which there are at most 200
+pub record TurnNumbers (n : ℕ) (r : Request) : Type 0 where
+  pub few : n ≤ mostThreads
+  pub thread : r .thread < n
+  pub mv : r .mv ≤ lastMove
+  pub target : r .target < n
+
+-- a turn of a table that made request r, answered a
+pub record TurnMade (table : List ℕ) (r : Request) (a : MoveAnswer) : Type 0 where
+  -- "The move that it makes is an accepted request; its answer and table are the move's."
+  pub reply : moveReply table r ≡ accepted a
+  pub left : dispatchTable table ≡ moveTable table r
+  pub numbers : TurnNumbers (tableOf table .threads) r
+  -- "no call, no retry and no leaving"
+  pub no-call : T (not (isCall r))
+  pub no-retry : T (not (isRetry (tableOf table) r))
+  pub no-leaving : T (not (isLeaving (tableOf table) r))
+  -- "for the lowest-numbered thread that has one": no thread below has such a move, and its own have this one's number
+  pub lower-none : (q : Request) → q .thread < r .thread → T (mayDispatch (tableOf table) q) → ⊥
+  pub one-move : (q : Request) → q .thread ≡ r .thread → T (mayDispatch (tableOf table) q) → q .mv ≡ r .mv
+  -- "In 10 the target is the lowest thread with forbidden 0, in 15 the lowest with forbidden 1.": with no lower target has it such a move
+  pub lowest-target : (t : ℕ) → t < r .target → T (mayDispatch (tableOf table) (ask (r .thread) (r .mv) t)) → ⊥
+
+-- "(Only 1 and 2 can occur.)": a refusal of the dispatcher's, which changes nothing
+pub record TurnRefused (table : List ℕ) (number place : ℕ) : Type 0 where
+  pub one-or-two : (number ≡ 1) ⊎ (number ≡ 2)
+  pub no-place : place ≡ 0
+  pub stays : dispatchTable table ≡ table
+
+-- "If no thread has such a move": no request, with any numbers, may be made
+abbrev pub NoTurn : List ℕ → Type 0
+NoTurn table = (r : Request) → T (mayDispatch (tableOf table) r) → ⊥
+
+-- "In a table that is waiting, a writer in 11 has a target in Shared, and a thread in EE finds the mutex taken", of thread i
+pub record WaitsThere (s : Table) (i : ℕ) : Type 0 where
+  pub in-11 : s .phase i ≡ 11 → (s .target < s .threads) × (nodeOf (s .phase (s .target)) ≡ Shared)
+  pub in-EE : nodeOf (s .phase i) ≡ EE → s .mutex ≡ 1
+  pub phases : T (among (s .phase i) (0 ∷ 4 ∷ 6 ∷ 9 ∷ 11 ∷ 14 ∷ []))
+
+-- the phases in which the host alone has a move that is no call: a reader that backed off, and a thread that is in
+abbrev pub hostPhases : List ℕ
+hostPhases = 4 ∷ 6 ∷ 14 ∷ []
+
+abbrev pub HostMoves : Table → ℕ → Type 0
+HostMoves s i = T (among (s .phase i) hostPhases)

@@ -1,0 +1,1 @@
+// Laws and theorems of the dispatcher's choice, in proofs/: this crate has no code.

@@ -1,0 +1,12 @@
+-- TurnLimit and TurnLimitReached hold the theorems; the files before them hold what the proofs use.
+pub mod Stops
+pub mod TurnsLeft
+pub mod NextPhases
+pub mod StopsKept
+pub mod OneTurn
+pub mod Turns
+pub mod TurnLimit
+pub mod AllStopped
+pub mod InOrder
+pub mod LongestTable
+pub mod TurnLimitReached

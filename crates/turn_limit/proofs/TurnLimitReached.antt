@@ -1,0 +1,70 @@
+-- The limit on turns is reached (02 §8): for every N of 1 to 200 there is a table, sound and left by accepted moves from the fresh table, from which waiting comes after exactly 6N - 2 turns.
+-- In it the threads are served in order (InOrder), so that no turns are left (TurnsLeft) when it waits. For one thread it is that with the thread in 9, for more that of LongestTable.
+use Prim.Native.Nat.{ℕ, _≤_}
+use native.Mathlib.Omega.{arith}
+use mathlib.Core.List.{List}
+use mathlib.Core.Logic.{⊎-elim}
+use mathlib.Core.Path.{_≡_, refl, sym, subst, ap, _∙_}
+use lib.Dec.{T}
+use Rattle.definitions.specs.Bounds.{mostThreads, noTarget}
+use Rattle.definitions.specs.Phases.{rows}
+use Rattle.definitions.specs.Sound.{sound}
+use Rattle.definitions.specs.Table.{Table, tableOf, sized, byteTable}
+use Rattle.definitions.specs.Threads.{some, howMany}
+use Rattle.completeness.proofs.Completeness.{complete}
+use Rattle.dispatching.proofs.WaitingMeans.{waiting-means}
+use Rattle.progress.specs.Progress.{allCalled}
+use Rattle.progress.proofs.CalledTable.{calledTable, called-table, called-sized, called-sound}
+use Rattle.progress.proofs.Measure.{alone, part, total}
+use Rattle.progress.proofs.ThreadBytes.{bytes-table, bytes-sized}
+use Rattle.theory.specs.Tables.{SoundBytes}
+use Rattle.theory.proofs.Bytes.{byte-keeps}
+use Rattle.theory.proofs.Soundness.{sound-e}
+use Rattle.theory.proofs.Tests.{same?}
+use Rattle.turn_limit.specs.TurnLimit.{mostTurns, afterTurns, WaitsAfter, TurnsReached}
+use Rattle.turn_limit.proofs.AllStopped.{none-left}
+use Rattle.turn_limit.proofs.InOrder.{InOrder, none-shared, in-order-kept}
+use Rattle.turn_limit.proofs.LongestTable.{longestBytes, longestTable, longest-sound, longest-in-order, longest-left}
+use Rattle.turn_limit.proofs.OneTurn.{Passes, bytes-pass, turn-passes}
+use Rattle.turn_limit.proofs.Stops.{stop}
+use Rattle.turn_limit.proofs.TurnsLeft.{turnsLeft}
+use Rattle.turn_limit.proofs.Turns.{lasting, ends}
+
+-- served in order, a table waits after as many turns as it has left
+all-turns : (w : ℕ) (table : List ℕ) → SoundBytes table → InOrder w (tableOf table) → WaitsAfter table (turnsLeft (tableOf table))
+all-turns w table g o =
+    let (k, turns, fall) = ends byteTable byte-keeps table (bytes-pass table g) in
+    let P : List ℕ → Type 0 = λ b. Passes byteTable b × InOrder w (tableOf b) in
+    let (pass, in-order) = lasting byteTable P (λ b (h, p). (turn-passes byteTable byte-keeps b h, in-order-kept byteTable byte-keeps w b h p)) k table (bytes-pass table g, o) in
+    let s = tableOf (afterTurns k table) in
+    let z = sound-e s (pass .is-sound) in
+    let none = none-left s z (waiting-means (afterTurns k table) (turns .waits k (omega arith))) (none-shared w s z in-order) in
+    subst (WaitsAfter table) (omega arith) turns
+
+-- by the record that is read off a table
+by-record : (table : List ℕ) (s : Table) → tableOf table ≡ s → 1 ≤ s .threads → s .threads ≤ mostThreads → T (sized table) → T (sound s) → (w : ℕ) → InOrder w s → turnsLeft s ≡ mostTurns (s .threads)
+    → TurnsReached (s .threads)
+by-record table s same least most fits is-sound w in-order left =
+    let passes : SoundBytes table = record { is-sized = fits; is-sound = subst (λ (x : Table). T (sound x)) (sym same) is-sound } in
+    record {
+      table = table;
+      passes = passes;
+      reached = complete (s .threads) least most table .0 (fits, ap (λ (x : Table). x .threads) same, passes .is-sound);
+      turns = subst (WaitsAfter table) (ap turnsLeft same ∙ left) (all-turns w table passes (subst (InOrder w) (sym same) in-order));
+    }
+
+-- one thread, in 9
+one-reached : TurnsReached 1
+unfolding total part alone rows stop some howMany
+one-reached =
+    by-record (allCalled 1) (calledTable 1) (called-table 1) (omega arith) (omega arith) (called-sized 1 (omega arith) (omega arith)) (called-sound 1 (omega arith)) 0
+    record { fits = omega arith; below = λ j l. absurd (omega arith); here = tt; above = λ j k l. absurd (omega arith); begun = λ j k l early. absurd (omega arith) } refl
+
+-- more threads
+more-reached : (n : ℕ) → 2 ≤ n → n ≤ mostThreads → TurnsReached n
+more-reached n two most =
+    by-record (longestBytes n) (longestTable n) (bytes-table n 1 noTarget _ _ _) (omega arith) most (bytes-sized n 1 noTarget _ _ _ (omega arith) most) (longest-sound n two) 1
+    (longest-in-order n two) (longest-left n two)
+
+pub turn-limit-reached : (n : ℕ) → 1 ≤ n → n ≤ mostThreads → TurnsReached n
+turn-limit-reached n least most = ⊎-elim (λ e. subst TurnsReached (sym e) one-reached) (λ h. more-reached n (omega arith) most) (same? n 1)

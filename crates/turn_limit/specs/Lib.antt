@@ -1,0 +1,2 @@
+-- What the theorems on turns speak of besides the definitions of the papers.
+pub mod TurnLimit
