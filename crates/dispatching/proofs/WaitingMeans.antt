@@ -88,7 +88,7 @@ waiting-means table e i l =
     let z = sound-e s (g .is-sound) in
     waits-there s z (waiting-none s z t) i l
 
--- ---- so it is never stuck
+-- ---- where the mutex is, and where the host has a move
 
 -- by trying the phases: of these the holder is in 11 or 14; a thread that isn't Free is before the mutex, in 11, or where the host has a move; Shared is one of the latter
 holder-late : (p : ℕ) → p ≤ lastPhase → T (among p waitingPhases) → T (holds p) → T (among p (11 ∷ 14 ∷ []))

@@ -24,7 +24,7 @@ pub record TurnNumbers (n : ℕ) (r : Request) : Type 0 where
 
 -- a turn of a table that made request r, answered a
 pub record TurnMade (table : List ℕ) (r : Request) (a : MoveAnswer) : Type 0 where
-  -- "The move that it makes is an accepted request; its answer and table are the move's."
+  -- "with the move's own answer": the move accepts the request with this answer, and leaves this table
   pub reply : moveReply table r ≡ accepted a
   pub left : dispatchTable table ≡ moveTable table r
   pub numbers : TurnNumbers (tableOf table .threads) r

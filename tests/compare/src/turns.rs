@@ -286,7 +286,8 @@ pub fn random_runs(c: &mut Comparison, seed: u64) {
 /// and retries. What is shown is a permitted history.
 pub fn hosts(c: &mut Comparison, seed: u64) {
     let (mut moves, mut turns, mut shown) = (0, 0, 0);
-    for (round, threads) in HOSTS.repeat(2).into_iter().enumerate() {
+    let hosts = HOSTS.repeat(2);
+    for (round, &threads) in hosts.iter().enumerate() {
         let mut r = Random::new(seed ^ round as u64);
         let mut host = Host::new(c, threads);
         for _ in 0..LOOKS {
@@ -302,7 +303,8 @@ pub fn hosts(c: &mut Comparison, seed: u64) {
         sections::permitted(c, threads, &host.history);
     }
     c.say(&format!(
-        "  14 hosts, {moves} moves of theirs and {turns} turns, {shown} events shown, all permitted"
+        "  {} hosts, {moves} moves of theirs and {turns} turns, {shown} events shown, all permitted",
+        hosts.len()
     ));
     c.claim(turns > moves, || format!("{turns} turns"));
 }
