@@ -9,7 +9,7 @@ use mathlib.Core.Path.{_≡_, refl, sym, ap, ap₂}
 use lib.Dec.{lit≤}
 use Rattle.definitions.specs.Answers.{Reply, accepted, refused, shown, moved, codeOf, numberOf, outcomeReply, answerReply}
 use Rattle.definitions.specs.Bounds.{lastEvent}
-use Rattle.definitions.specs.Dispatch.{Turn, made, waiting, eventSeen, dispatchReply, dispatchedReply}
+use Rattle.definitions.specs.Dispatch.{DispatchAnswer, made, waiting, eventSeen, dispatchReply, dispatchedReply}
 use Rattle.definitions.specs.Moves.{ask}
 use Rattle.definitions.specs.declared.Answer.{Answer}
 use Rattle.definitions.specs.declared.Answer.the-variants as answer
@@ -250,7 +250,7 @@ turns-low (dispatched.Refused r) f = tt
 pub turn-bytes : (table : List ℕ) → TurnBytes (dispatchReply table)
 turn-bytes table = by (dispatchReply table) refl
   where
-    by : (x : Reply Turn) → dispatchReply table ≡ x → TurnBytes x
+    by : (x : Reply DispatchAnswer) → dispatchReply table ≡ x → TurnBytes x
     by (accepted (made r a)) e = let n = turn-is-move table r a e .numbers in (omega (arith, n), omega (arith, n), omega (arith, n))
     by (accepted waiting) e = tt
     by (refused number place) e = tt

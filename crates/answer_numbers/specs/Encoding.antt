@@ -4,7 +4,7 @@ use Prim.Native.Nat.{ℕ, _+_, _-_, _*_, _<_}
 use mathlib.Core.Bool.{Bool, cond}
 use lib.Dec.{leb}
 use Rattle.definitions.specs.Answers.{Reply, accepted, refused, Seen, shown, quiet, MoveAnswer}
-use Rattle.definitions.specs.Dispatch.{Turn, made, waiting}
+use Rattle.definitions.specs.Dispatch.{DispatchAnswer, made, waiting}
 use Rattle.definitions.specs.Run.{RunCounts}
 use Rattle.definitions.specs.Scripts.{Listed}
 
@@ -34,7 +34,7 @@ runValue c = c .bytes + retryUnit * c .retries
 abbrev pub madeMark : ℕ
 madeMark = 128
 
-abbrev pub turnValue : Turn → ℕ
+abbrev pub turnValue : DispatchAnswer → ℕ
 turnValue (made r a) = madeMark + moveValue a + 256 * r .thread + 65_536 * r .mv + 16_777_216 * r .target
 turnValue waiting = 0
 
@@ -57,7 +57,7 @@ listedValue l = l .threads + 256 * l .bytes
 abbrev pub moveNumber : Reply MoveAnswer → ℕ
 moveNumber = encoded moveValue
 
-abbrev pub turnNumber : Reply Turn → ℕ
+abbrev pub turnNumber : Reply DispatchAnswer → ℕ
 turnNumber = encoded turnValue
 
 abbrev pub runNumber : Reply RunCounts → ℕ
@@ -88,7 +88,7 @@ abbrev pub BytesBelow : Reply RunCounts → Type 0
 BytesBelow = Below retryUnit (λ c. c .bytes)
 
 -- the dispatcher answers a thread, a move and a target that fit a byte each
-abbrev pub TurnBytes : Reply Turn → Type 0
+abbrev pub TurnBytes : Reply DispatchAnswer → Type 0
 TurnBytes (accepted (made r a)) = (r .thread < 256) × (r .mv < 256) × (r .target < 256)
 TurnBytes (accepted waiting) = Unit {0}
 TurnBytes (refused number place) = Unit {0}

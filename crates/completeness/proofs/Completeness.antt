@@ -12,7 +12,7 @@ use lib.Dec.{T}
 use Rattle.definitions.specs.Answers.{Reply, accepted, refused, Test, test, answered, deliveryReply}
 use Rattle.definitions.specs.Bounds.{mostThreads}
 use Rattle.definitions.specs.Chains.{tableAfter, afterIn}
-use Rattle.definitions.specs.Dispatch.{turnOf, dispatchReplyIn, dispatchReply}
+use Rattle.definitions.specs.Dispatch.{dispatchAnswer, dispatchReplyIn, dispatchReply}
 use Rattle.definitions.specs.Moves.{requestTests, moveAnswer, replyIn, moveReply, moveTable}
 use Rattle.definitions.specs.Nodes.{nodesEntry}
 use Rattle.definitions.specs.OpenMoves.{openEntry}
@@ -129,4 +129,4 @@ module _ (bytes : List ℕ) where
 
   pub dispatch-refused : (dispatchReply bytes ≡ refused 2 0) ↔ (T (sized bytes) × (Reached (tableOf bytes .threads) bytes → ⊥))
   unfolding dispatchReplyIn
-  dispatch-refused = refused-2 (turnOf (tableOf bytes)) [] tt
+  dispatch-refused = refused-2 (dispatchAnswer (tableOf bytes)) [] tt

@@ -67,17 +67,17 @@ isWaiting s = not (some (s .threads) (hasTurn s))
 -- ---- what it answers and leaves
 
 -- "It answers thread, move and target with the move's own answer."
-pub data Turn : Type 0 where
-  made : Request → MoveAnswer → Turn
-  waiting : Turn
+pub data DispatchAnswer : Type 0 where
+  made : Request → MoveAnswer → DispatchAnswer
+  waiting : DispatchAnswer
 
-unfoldable pub turnOf : Table → Turn
-turnOf s = cond (isWaiting s) waiting (made (chosen s) (moveAnswer s (chosen s)))
+unfoldable pub dispatchAnswer : Table → DispatchAnswer
+dispatchAnswer s = cond (isWaiting s) waiting (made (chosen s) (moveAnswer s (chosen s)))
 
 -- through a storage, refusal 1 first; "(Only 1 and 2 can occur.)"
 module _ {B : Type 0} (storage : Storage B) where
-  unfoldable pub dispatchReplyIn : B → Reply Turn
-  dispatchReplyIn b = answered (test 1 (storage .fits b) ∷ test 2 (sound (storage .table b)) ∷ []) (turnOf (storage .table b))
+  unfoldable pub dispatchReplyIn : B → Reply DispatchAnswer
+  dispatchReplyIn b = answered (test 1 (storage .fits b) ∷ test 2 (sound (storage .table b)) ∷ []) (dispatchAnswer (storage .table b))
 
   -- what that request leaves; "it says waiting and changes nothing"
   unfoldable pub dispatchIn : B → B
@@ -85,7 +85,7 @@ module _ {B : Type 0} (storage : Storage B) where
       leaves (dispatchReplyIn b) (cond (isWaiting (storage .table b)) b (stepIn storage b (chosen (storage .table b)))) b
 
 -- on the byte table
-abbrev pub dispatchReply : List ℕ → Reply Turn
+abbrev pub dispatchReply : List ℕ → Reply DispatchAnswer
 dispatchReply = dispatchReplyIn byteTable
 
 abbrev pub dispatchTable : List ℕ → List ℕ
@@ -96,7 +96,7 @@ abbrev pub eventSeen : MoveEvent → Seen
 eventSeen (event.Shown e) = shown (codeOf e)
 eventSeen event.Quiet = quiet
 
-abbrev pub dispatchedReply : Dispatched → Reply Turn
+abbrev pub dispatchedReply : Dispatched → Reply DispatchAnswer
 dispatchedReply (dispatched.Moved thread mv target event) = accepted (made (ask thread mv target) (moved (eventSeen event) false))
 dispatchedReply dispatched.Waiting = accepted waiting
 dispatchedReply (dispatched.Refused r) = refused (numberOf r) 0

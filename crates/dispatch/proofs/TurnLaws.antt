@@ -6,7 +6,7 @@ use mathlib.Core.Logic.{_⊎_, inl, inr}
 use mathlib.Core.Path.{_≡_, sym, subst, ap, _∙_}
 use lib.Dec.{T}
 use Rattle.definitions.specs.Answers.{Reply, accepted, refused, numberOf, isAccepted, quiet, MoveAnswer, moved, outcomeReply}
-use Rattle.definitions.specs.Dispatch.{mayDispatch, moverIn, moveFor, targetFor, chosen, isWaiting, Turn, made, turnOf, eventSeen, dispatchReplyIn, dispatchReply}
+use Rattle.definitions.specs.Dispatch.{mayDispatch, moverIn, moveFor, targetFor, chosen, isWaiting, DispatchAnswer, made, dispatchAnswer, eventSeen, dispatchReplyIn, dispatchReply}
 use Rattle.definitions.specs.Moves.{ask, isRetry, moveAnswer, moveTable}
 use Rattle.definitions.specs.Table.{Table, tableOf, byteTable}
 use Rattle.definitions.specs.declared.Dispatched.the-variants as dispatched
@@ -19,6 +19,7 @@ use Rattle.apply.specs.MoveMade.{MoveMade, TestedTable}
 use Rattle.dispatching.proofs.Choice.{chosen-may}
 use Rattle.dispatching.proofs.TurnKinds.{May, may-e}
 use Rattle.dispatching.proofs.TurnReplies.{refused-keeps, waits, moves}
+use Rattle.lock.proofs.MoveReplies as tested
 use Rattle.table.specs.TableTests.{examinedOf}
 use Rattle.table.specs.declared.tests.Examined.the-variants as examined
 use Rattle.table.proofs.TableTests.{refusal-is, sound-is}
@@ -107,10 +108,10 @@ module _ (bytes : List ℕ) (k : ℕ) (h : TestedTable bytes k) where
 pub table-refused : (bytes : List ℕ) (x : Refusal) → examinedOf bytes ≡ examined.Refused x → Turned bytes bytes (dispatched.Refused x)
 unfolding dispatchReplyIn
 table-refused bytes x e =
-    let d : dispatchReply bytes ≡ refused (numberOf x) 0 = refusal-is (turnOf (tableOf bytes)) bytes x e in
-    record { reply = sym d; table = sym (refused-keeps byteTable bytes (subst (λ (y : Reply Turn). T (not (isAccepted y))) (sym d) tt)) }
+    let d : dispatchReply bytes ≡ refused (numberOf x) 0 = refusal-is (dispatchAnswer (tableOf bytes)) bytes x e in
+    record { reply = sym d; table = sym (refused-keeps byteTable bytes (subst (λ (y : Reply DispatchAnswer). T (not (isAccepted y))) (sym d) tt)) }
 
 pub found-sound : (bytes : List ℕ) (n k : ℕ) → examinedOf bytes ≡ examined.Sound n k → SoundFor bytes n × TestedTable bytes k
 found-sound bytes n k e =
     let f = sound-is bytes n k e in
-    (record { size = sized-e bytes (f .tested .is-sized); is-sound = f .tested .is-sound; count = f .threads }, record { tested = f .tested; count = f .count })
+    (record { size = sized-e bytes (f .tested .is-sized); is-sound = f .tested .is-sound; count = f .threads }, tested.found-sound bytes n k e)

@@ -1,10 +1,10 @@
 -- How the choice is made: the phases in which a thread is ready as bits, where the pass stops, and the request that is chosen as the code's own enum.
-use Prim.Native.Nat.{ℕ, _+_, _*_, _/_, _^_}
+use Prim.Native.Nat.{ℕ, suc}
 use mathlib.Core.Bool.{Bool, cond, not, _||_}
 use mathlib.Core.List.{List}
 use mathlib.Core.Path.{_≡_}
-use lib.Bits.{bitAnd}
 use lib.Dec.{T, eqb}
+use Rattle.definitions.specs.Bounds.{lastPhase}
 use Rattle.definitions.specs.Dispatch.{moverIn, moveFor, targetFor, isWaiting}
 use Rattle.definitions.specs.Sound.{sound}
 use Rattle.definitions.specs.Table.{Table, tableOf}
@@ -13,7 +13,8 @@ use Rattle.definitions.specs.declared.MoveEvent.{MoveEvent}
 use Rattle.definitions.specs.declared.MoveEvent.the-variants as event
 use Rattle.definitions.specs.declared.Outcome.{Outcome}
 use Rattle.definitions.specs.declared.Outcome.the-variants as outcome
-use Rattle.dispatching.specs.Ready.{ready}
+use Rattle.dispatching.specs.Ready.{readyBy, ready}
+use Rattle.requests.specs.RequestTests.{bitsBelow}
 use Rattle.theory.specs.Tables.{Sized}
 use Rattle.dispatch.specs.declared.choice.Choice.{Choice}
 use Rattle.dispatch.specs.declared.choice.Choice.the-variants.{Nobody, Makes}
@@ -25,13 +26,9 @@ pub record SoundFor (bytes : List ℕ) (n : ℕ) : Type 0 where
   pub is-sound : T (sound (tableOf bytes))
   pub count : n ≡ tableOf bytes .threads
 
--- a bit for each phase in which a thread is ready: 9 with the mutex free, 11 with the target not busy
+-- a number with a bit for each phase, 1 where a thread in it is ready
 abbrev pub readyBits : ℕ → ℕ → ℕ
-readyBits mutex busy = 505_262 + 512 * cond (eqb mutex 0) 1 0 + 2_048 * cond (eqb busy 0) 1 0
-
--- the bit of a phase
-abbrev pub hasBit : ℕ → ℕ → Bool
-hasBit phases phase = eqb (bitAnd (phases / 2 ^ phase) 1) 1
+readyBits mutex busy = bitsBelow (suc lastPhase) (readyBy mutex busy)
 
 -- thread t's forbidden isn't that of thread 0
 abbrev pub unlike : Table → ℕ → Bool

@@ -6,7 +6,8 @@ ghost use Prim.Native.Nat.{_≤_};
 ghost use mathlib.Core.Path.{_≡_};
 ghost use Rattle.definitions.specs.Bounds.{lastPhase};
 ghost use Rattle.dispatching.specs.Ready.{readyBy, moveBy};
-ghost use Rattle.dispatch.specs.Choosing.{readyBits, hasBit};
+ghost use Rattle.requests.specs.RequestTests.{hasBit};
+ghost use Rattle.dispatch.specs.Choosing.{readyBits};
 
 // The phases in which a thread is ready whatever the others do, a bit each: all but 0, where its moves are calls, 4, where they
 // are retries, 6 and 14, where they are leavings, and 9 and 11.

@@ -8,7 +8,7 @@ use lib.Dec.{T}
 use Rattle.definitions.specs.Answers.{Reply, accepted, refused}
 use Rattle.definitions.specs.Bounds.{mostThreads}
 use Rattle.definitions.specs.Chains.{pairFor, historyIn, history, afterIn, tableAfter}
-use Rattle.definitions.specs.Dispatch.{Turn, made, waiting, dispatchReply, dispatchTable}
+use Rattle.definitions.specs.Dispatch.{DispatchAnswer, made, waiting, dispatchReply, dispatchTable}
 use Rattle.definitions.specs.Moves.{moveReply, moveTable}
 use Rattle.definitions.specs.PlainLock.{Pair, permitted}
 use Rattle.definitions.specs.Table.{fresh}
@@ -45,7 +45,7 @@ as-requests table [] = record { requests = []; shows = refl; leaves = refl }
 as-requests table (asks r ∷ xs) = one table (asks r) xs (as-requests (moveTable table r) xs) r refl refl
 as-requests table (turn ∷ xs) = by (dispatchReply table) refl (as-requests (dispatchTable table) xs)
   where
-    by : (x : Reply Turn) → dispatchReply table ≡ x → AsRequests (dispatchTable table) xs → AsRequests table (turn ∷ xs)
+    by : (x : Reply DispatchAnswer) → dispatchReply table ≡ x → AsRequests (dispatchTable table) xs → AsRequests table (turn ∷ xs)
     by (accepted (made r a)) e rest = let m = turn-is-move table r a e in one table turn xs rest r (ap (pairFor (r .thread)) (m .reply) ∙ sym (ap pairOfTurn e)) (sym (m .left))
     by (accepted waiting) e rest = none table turn xs rest (ap pairOfTurn e) (waiting-stays table e)
     by (refused number place) e rest = none table turn xs rest (ap pairOfTurn e) (refused-so table number place e .stays)

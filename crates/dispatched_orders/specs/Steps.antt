@@ -5,7 +5,7 @@ use mathlib.Core.List.{List, [], _∷_, _++_}
 use mathlib.Core.Path.{_≡_}
 use Rattle.definitions.specs.Answers.{Reply, accepted, refused}
 use Rattle.definitions.specs.Chains.{pairSeen, pairFor, history, tableAfter}
-use Rattle.definitions.specs.Dispatch.{Turn, made, waiting, dispatchReply, dispatchTable}
+use Rattle.definitions.specs.Dispatch.{DispatchAnswer, made, waiting, dispatchReply, dispatchTable}
 use Rattle.definitions.specs.Moves.{moveReply, moveTable}
 use Rattle.definitions.specs.PlainLock.{Pair}
 use Rattle.definitions.specs.declared.Request.{Request}
@@ -16,7 +16,7 @@ pub data Step : Type 0 where
   turn : Step
 
 -- a turn shows its thread and event where it made a move that shows one
-abbrev pub pairOfTurn : Reply Turn → List Pair
+abbrev pub pairOfTurn : Reply DispatchAnswer → List Pair
 pairOfTurn (accepted (made r answer)) = pairSeen (r .thread) (answer .seen)
 pairOfTurn (accepted waiting) = []
 pairOfTurn (refused number place) = []

@@ -6,7 +6,7 @@ use mathlib.Core.Logic.{_⊎_, inl, inr}
 use mathlib.Core.Path.{_≡_, sym, subst, ap, _∙_}
 use lib.Dec.{T}
 use Rattle.definitions.specs.Answers.{Reply, accepted, isAccepted, MoveAnswer, Test, test}
-use Rattle.definitions.specs.Dispatch.{chosen, isWaiting, Turn, made, waiting, turnOf, dispatchReplyIn, dispatchIn}
+use Rattle.definitions.specs.Dispatch.{chosen, isWaiting, DispatchAnswer, made, waiting, dispatchAnswer, dispatchReplyIn, dispatchIn}
 use Rattle.definitions.specs.Moves.{moveAnswer, stepIn}
 use Rattle.definitions.specs.Sound.{sound}
 use Rattle.definitions.specs.Table.{Table, Storage}
@@ -17,40 +17,40 @@ use Rattle.theory.proofs.Tests.{decided, cond-yes, cond-no}
 
 -- ---- the turn
 
-pub turn-waits : (s : Table) → T (isWaiting s) → turnOf s ≡ waiting
-unfolding turnOf
+pub turn-waits : (s : Table) → T (isWaiting s) → dispatchAnswer s ≡ waiting
+unfolding dispatchAnswer
 turn-waits s t = cond-yes (isWaiting s) waiting (made (chosen s) (moveAnswer s (chosen s))) t
 
-pub turn-moves : (s : Table) → T (not (isWaiting s)) → turnOf s ≡ made (chosen s) (moveAnswer s (chosen s))
-unfolding turnOf
+pub turn-moves : (s : Table) → T (not (isWaiting s)) → dispatchAnswer s ≡ made (chosen s) (moveAnswer s (chosen s))
+unfolding dispatchAnswer
 turn-moves s t = cond-no (isWaiting s) waiting (made (chosen s) (moveAnswer s (chosen s))) t
 
 -- the two are apart
-abbrev isMade : Turn → Bool
+abbrev isMade : DispatchAnswer → Bool
 isMade (made r a) = true
 isMade waiting = false
 
-pub waiting-e : (s : Table) → turnOf s ≡ waiting → T (isWaiting s)
+pub waiting-e : (s : Table) → dispatchAnswer s ≡ waiting → T (isWaiting s)
 waiting-e s e = by (decided (isWaiting s))
   where
     by : T (isWaiting s) ⊎ T (not (isWaiting s)) → T (isWaiting s)
     by (inl t) = t
-    by (inr t) = absurd (subst (λ (x : Turn). T (isMade x)) (sym (turn-moves s t) ∙ e) tt)
+    by (inr t) = absurd (subst (λ (x : DispatchAnswer). T (isMade x)) (sym (turn-moves s t) ∙ e) tt)
 
 -- the request and the answer of a turn, if it made one
-abbrev requestIn : Request → Turn → Request
+abbrev requestIn : Request → DispatchAnswer → Request
 requestIn none (made r a) = r
 requestIn none waiting = none
 
-abbrev answerIn : MoveAnswer → Turn → MoveAnswer
+abbrev answerIn : MoveAnswer → DispatchAnswer → MoveAnswer
 answerIn none (made r a) = a
 answerIn none waiting = none
 
-pub made-e : (s : Table) (r : Request) (a : MoveAnswer) → turnOf s ≡ made r a → T (not (isWaiting s)) × (chosen s ≡ r) × (moveAnswer s (chosen s) ≡ a)
+pub made-e : (s : Table) (r : Request) (a : MoveAnswer) → dispatchAnswer s ≡ made r a → T (not (isWaiting s)) × (chosen s ≡ r) × (moveAnswer s (chosen s) ≡ a)
 made-e s r a e = by (decided (isWaiting s))
   where
     by : T (isWaiting s) ⊎ T (not (isWaiting s)) → T (not (isWaiting s)) × (chosen s ≡ r) × (moveAnswer s (chosen s) ≡ a)
-    by (inl t) = absurd (subst (λ (x : Turn). T (isMade x)) (sym e ∙ turn-waits s t) tt)
+    by (inl t) = absurd (subst (λ (x : DispatchAnswer). T (isMade x)) (sym e ∙ turn-waits s t) tt)
     by (inr t) = let same = sym (turn-moves s t) ∙ e in (t, ap (requestIn r) same, ap (answerIn a) same)
 
 -- ---- through a storage
@@ -63,10 +63,10 @@ module _ {B : Type 0} (S : Storage B) (b : B) where
   tests = test 1 (S .fits b) ∷ test 2 (sound s) ∷ []
 
   -- an accepted reply: the table fits and is sound, and the turn is its own
-  pub reply-e : (t : Turn) → dispatchReplyIn S b ≡ accepted t → T (S .fits b) × T (sound s) × (turnOf s ≡ t)
+  pub reply-e : (t : DispatchAnswer) → dispatchReplyIn S b ≡ accepted t → T (S .fits b) × T (sound s) × (dispatchAnswer s ≡ t)
   unfolding dispatchReplyIn
   reply-e t e =
-      let (p, same) = answered-e tests (turnOf s) t e in
+      let (p, same) = answered-e tests (dispatchAnswer s) t e in
       let (fits, q) = peel (test 1 (S .fits b)) (test 2 (sound s) ∷ []) p in
       (fits, peel (test 2 (sound s)) [] q .0, same)
 
@@ -76,12 +76,12 @@ module _ {B : Type 0} (S : Storage B) (b : B) where
   refused-keeps t = leaves-no _ b (dispatchReplyIn S b) t
 
   module _ (fits : T (S .fits b)) (is-sound : T (sound s)) where
-    pub reply-is : dispatchReplyIn S b ≡ accepted (turnOf s)
+    pub reply-is : dispatchReplyIn S b ≡ accepted (dispatchAnswer s)
     unfolding dispatchReplyIn
-    reply-is = all-passed (turnOf s) tests (pass (test 1 (S .fits b)) (test 2 (sound s) ∷ []) fits (pass (test 2 (sound s)) [] is-sound no-test))
+    reply-is = all-passed (dispatchAnswer s) tests (pass (test 1 (S .fits b)) (test 2 (sound s) ∷ []) fits (pass (test 2 (sound s)) [] is-sound no-test))
 
     is-accepted : T (isAccepted (dispatchReplyIn S b))
-    is-accepted = subst (λ (x : Reply Turn). T (isAccepted x)) (sym reply-is) tt
+    is-accepted = subst (λ (x : Reply DispatchAnswer). T (isAccepted x)) (sym reply-is) tt
 
     -- it waits
     pub waits : T (isWaiting s) → (dispatchReplyIn S b ≡ accepted waiting) × (dispatchIn S b ≡ b)

@@ -7,7 +7,7 @@ use mathlib.Core.Logic.{_⊎_, inl, inr, _↔_}
 use mathlib.Core.Path.{_≡_, sym, subst, _∙_}
 use lib.Dec.{T}
 use Rattle.definitions.specs.Answers.{Reply, accepted, refused, isAccepted, Test, test}
-use Rattle.definitions.specs.Dispatch.{chosen, isWaiting, Turn, waiting, turnOf, dispatchReplyIn, dispatchReply, dispatchTable}
+use Rattle.definitions.specs.Dispatch.{chosen, isWaiting, DispatchAnswer, waiting, dispatchAnswer, dispatchReplyIn, dispatchReply, dispatchTable}
 use Rattle.definitions.specs.Sound.{sound}
 use Rattle.definitions.specs.Table.{tableOf, sized, byteTable}
 use Rattle.theory.specs.Tables.{SoundBytes}
@@ -41,16 +41,16 @@ pub refused-so : (table : List ℕ) (number place : ℕ) → dispatchReply table
 unfolding dispatchReplyIn
 refused-so table number place e = by (decided (sized table)) (decided (sound (tableOf table)))
   where
-    turn : Turn
-    turn = turnOf (tableOf table)
+    turn : DispatchAnswer
+    turn = dispatchAnswer (tableOf table)
 
     second : List Test
     second = test 2 (sound (tableOf table)) ∷ []
 
     kept : dispatchTable table ≡ table
-    kept = refused-keeps byteTable table (subst (λ (x : Reply Turn). T (not (isAccepted x))) (sym e) tt)
+    kept = refused-keeps byteTable table (subst (λ (x : Reply DispatchAnswer). T (not (isAccepted x))) (sym e) tt)
 
     by : T (sized table) ⊎ T (not (sized table)) → T (sound (tableOf table)) ⊎ T (not (sound (tableOf table))) → TurnRefused table number place
     by (inr t) u = let d = failed (test 1 (sized table)) second turn t in record { one-or-two = inl cc; no-place = cc; stays = kept }
     by (inl t) (inr u) = let d = passed (test 1 (sized table)) second turn t ∙ failed (test 2 (sound (tableOf table))) [] turn u in record { one-or-two = inr cc; no-place = cc; stays = kept }
-    by (inl t) (inl u) = let d = reply-is byteTable table t u in absurd (subst (λ (x : Reply Turn). T (isAccepted x)) (sym d ∙ e) tt)
+    by (inl t) (inl u) = let d = reply-is byteTable table t u in absurd (subst (λ (x : Reply DispatchAnswer). T (isAccepted x)) (sym d ∙ e) tt)

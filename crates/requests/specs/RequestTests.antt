@@ -29,17 +29,18 @@ laterTests n phase mutex mv target =
     ∷ test 7 (not (mustWait phase mutex mv))
     ∷ []
 
--- a byte with a bit for each move below n, 1 where the phase has that move
-unfoldable pub bitsBelow : ℕ → ℕ → ℕ
-bitsBelow zero phase = 0
-bitsBelow (suc mv) phase = bitsBelow mv phase + cond (hasMove mv phase) (2 ^ mv) 0
+-- a number with a bit for each number below n, 1 where the test holds of it
+unfoldable pub bitsBelow : ℕ → (ℕ → Bool) → ℕ
+bitsBelow zero f = 0
+bitsBelow (suc k) f = bitsBelow k f + cond (f k) (2 ^ k) 0
 
+-- a byte with a bit for each move, 1 where the phase has that move
 abbrev pub moveBits : ℕ → ℕ
-moveBits phase = bitsBelow (suc lastMove) phase
+moveBits phase = bitsBelow (suc lastMove) (λ mv. hasMove mv phase)
 
--- the bit of a move in a byte
+-- the bit of a number in one
 abbrev pub hasBit : ℕ → ℕ → Bool
-hasBit moves mv = eqb (bitAnd (moves / 2 ^ mv) 1) 1
+hasBit bits k = eqb (bitAnd (bits / 2 ^ k) 1) 1
 
 -- how many targets, from 0 on, a move may name
 abbrev pub targetsOf : ℕ → ℕ → ℕ

@@ -9,8 +9,9 @@ use lib.ListN.{length, getD}
 use Rattle.definitions.specs.Bounds.{mostThreads}
 use Rattle.definitions.specs.Table.{Table, tableOf, size, phaseAt, forbiddenAt}
 use Rattle.dispatching.specs.Ready.{ready}
+use Rattle.requests.specs.RequestTests.{hasBit}
 use Rattle.theory.proofs.Tests.{or-l, or-r, true-T, false-T, ne-T}
-use Rattle.dispatch.specs.Choosing.{hasBit, unlike, met}
+use Rattle.dispatch.specs.Choosing.{unlike, met}
 use Rattle.dispatch.proofs.PassLaws.{NoneBelow, starts, found-here, one-further, found-none, unlike-read, alike, neither}
 use Rattle.dispatch.proofs.ReadyBits.{phase-fits, ready-read}
 use Rattle.dispatch.proofs.choice.find_first.Statement.{statement}

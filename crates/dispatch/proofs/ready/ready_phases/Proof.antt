@@ -5,6 +5,7 @@ use borrow.Author.Needs.{needs}
 use lib.Dec.{eqb}
 use mir.Val.{boolByte}
 use Rattle.theory.proofs.Casts.{cast-is, cast-most}
+use Rattle.dispatch.proofs.ReadyBits.{bits-are}
 use Rattle.dispatch.proofs.ready.ready_phases.Statement.{statement}
 use Rattle.dispatch.proofs.ready.ready_phases.Tie as tie
 
@@ -34,7 +35,7 @@ add-result-2 : tie.Need-add-result-2
 add-result-2 c = record { fits = omega (arith, free-most c, calm-most c) }
 
 returns : tie.Need-returns
-returns c = rw (cast-is (eqb (c .args .mutex) 0), cast-is (eqb (c .args .busy) 0))
+returns c = rw (cast-is (eqb (c .args .mutex) 0), cast-is (eqb (c .args .busy) 0)) (bits-are (c .args .mutex) (c .args .busy))
 
 pub ready-phases-spec : {M : Type 1} → statement M
 ready-phases-spec =
