@@ -1,9 +1,10 @@
--- Examples of 02 §7, was that move a retry, against the definitions: each kind of retry beside the same move that isn't one, and the retries of a run. Every line computes.
+-- Examples of 02 §7, was that move a retry, against the definitions: each kind of retry beside the same move that isn't one, retries that may repeat for ever, and the retries of a run. Every line computes.
 use Prim.Native.Nat.{ℕ}
 use mathlib.Core.Bool.{Bool, true, false}
 use mathlib.Core.List.{List, [], _∷_}
 use mathlib.Core.Path.{_≡_, refl}
 use Rattle.definitions.specs.Answers.{accepted, shown, quiet, moved, answered, passesAll}
+use Rattle.definitions.specs.Chains.{historyIn, history, afterIn, tableAfter, acceptsAllIn, acceptsAll}
 use Rattle.definitions.specs.Codes.{go, callShared, setMove, clearMove, relent, hold}
 use Rattle.definitions.specs.Forms.{actText, aimedForm, plainMoves, plainForm, actForm, noteFits, noteForm, occurrences, formOf}
 use Rattle.definitions.specs.Moves.{ask, goEffect, setEffect, clearEffect, effect, isRetry, stepReply, replyIn, stepIn, moveReply}
@@ -18,6 +19,13 @@ use Rattle.definitions.specs.declared.Request.{Request}
 -- two threads: mutex and target, then each thread's phase, busy and forbidden
 abbrev two : ℕ → ℕ → ℕ → ℕ → ℕ → ℕ → ℕ → ℕ → List ℕ
 two mutex target p b f q c g = 2 ∷ mutex ∷ target ∷ p ∷ b ∷ f ∷ q ∷ c ∷ g ∷ []
+
+-- a writer alone, in 10, and three moves by which it comes back there
+abbrev alone : List ℕ
+alone = 1 ∷ 1 ∷ 255 ∷ 10 ∷ 0 ∷ 0 ∷ []
+
+abbrev round : List Request
+round = ask 0 setMove 0 ∷ ask 0 relent 0 ∷ ask 0 go 0 ∷ []
 
 -- a move of the table, quiet, that is a retry or isn't
 abbrev Says : List ℕ → Request → Bool → Type 0
@@ -42,12 +50,14 @@ pub record RetryingExamples : Type 0 where
   pub clear-in-15 : Says (two 1 255 15 0 0 0 0 1) (ask 0 clearMove 0) true × Says (two 1 255 15 0 0 0 0 1) (ask 0 clearMove 1) false
   -- a move that shows an event isn't one
   pub shows : (moveReply (two 0 255 0 0 0 0 0 0) (ask 0 callShared 0) ≡ accepted (moved (shown 1) false)) × (moveReply (two 0 255 5 1 0 0 0 0) (ask 0 go 0) ≡ accepted (moved (shown 2) false))
+  -- set, relent and go are accepted, show nothing and leave the table as it was, so that they may repeat for ever
+  pub comes-back : (acceptsAll alone round ≡ true) × (history alone round ≡ []) × (tableAfter alone round ≡ alone)
   -- "the run as a count in its answer": a writer sets its own flag, relents, goes and sets it again, with a note between; then a bad line ends the run
   pub run-count : runRetries (linesOf (bytes "(threads 1)\n(0 (call exclusive))\n(0 (go))\n(0 (set 0))\n(0 (relent))\n(note )\n(0 (go))\n(0 (set 0))\n(0 (relent))\n(1 (go))\n(0 (go))\n")) ≡ 2
   pub run-none : (runRetries (linesOf []) ≡ 0) × (runRetries (linesOf (bytes "(threads 201)\n(0 (relent))\n")) ≡ 0) × (runRetries (linesOf (bytes "(threads 1)\n(0 (call shared))\n(0 (go))\n")) ≡ 0)
 
 pub retrying-examples : RetryingExamples
-unfolding fresh every some howMany among allOf gather passesAll answered sized stored rows sound phaseRule flagRule busyRule holderRule mutexRule targetRule openRule rule10 rule11 rule13 rule15 elsewhereRule goEffect setEffect clearEffect effect isRetry stepReply replyIn stepIn bytes same digitsOf valueFrom numberRead linesOf actText aimedForm plainMoves plainForm actForm noteFits noteForm occurrences formOf retriesFrom retriesFirst runRetries
+unfolding fresh every some howMany among allOf gather passesAll answered sized stored rows sound phaseRule flagRule busyRule holderRule mutexRule targetRule openRule rule10 rule11 rule13 rule15 elsewhereRule goEffect setEffect clearEffect effect isRetry stepReply replyIn stepIn historyIn afterIn acceptsAllIn bytes same digitsOf valueFrom numberRead linesOf actText aimedForm plainMoves plainForm actForm noteFits noteForm occurrences formOf retriesFrom retriesFirst runRetries
 retrying-examples =
     record {
       in-4 = (refl, refl);
@@ -60,6 +70,7 @@ retrying-examples =
       set-in-15 = (refl, refl);
       clear-in-15 = (refl, refl);
       shows = (refl, refl);
+      comes-back = (refl, refl, refl);
       run-count = refl;
       run-none = (refl, refl, refl);
     }
