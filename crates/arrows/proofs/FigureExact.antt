@@ -1,7 +1,8 @@
 -- Figure 1's conditions are exact.
 -- `figure-exact`: for every N of 1 to 200, every table that accepted moves leave from the fresh one, each of the twelve arrows and every thread,
--- the thread can take the arrow after moves that keep every thread in its node if and only if it stands where the arrow begins and nobody is where the arrow's guard wants nobody.
-use Prim.Native.Nat.{ℕ, _≤_, _<_}
+-- the thread can take the arrow after at most `movesBefore` moves that keep every thread in its node if and only if it is one of the table's,
+-- it stands where the arrow begins and nobody is where the arrow's guard wants nobody.
+use Prim.Native.Nat.{ℕ, _≤_}
 use mathlib.Core.List.{List, [], _∷_, List·Memᴰ}
 use mathlib.Core.Logic.{_↔_}
 use mathlib.Core.Path.{_≡_, refl, subst, _∙_}
@@ -24,8 +25,8 @@ kept-nodes table (r ∷ rs) keep = kept-nodes (moveTable table r) rs (keep .2) �
 -- so the arrow's condition held at the start, of any bytes
 was-enabled : (table : List ℕ) (a : Arrow) (i : ℕ) → CanTake table a i → Enabled (nodesOf (tableOf table)) a i
 was-enabled table a i can =
-    subst (λ (nodes : List ℕ). Enabled nodes a i) (kept-nodes table (can .before) (can .keep)) (record { begins = can .takes .begins; guard = can .takes .guard })
+    subst (λ (nodes : List ℕ). Enabled nodes a i) (kept-nodes table (can .before) (can .keep)) (record { there = can .takes .there; begins = can .takes .begins; guard = can .takes .guard })
 
-pub figure-exact : (n : ℕ) → 1 ≤ n → n ≤ mostThreads → (table : List ℕ) → Reached n table → (a : Arrow) → List·Memᴰ a arrows → (i : ℕ) → i < n
+pub figure-exact : (n : ℕ) → 1 ≤ n → n ≤ mostThreads → (table : List ℕ) → Reached n table → (a : Arrow) → List·Memᴰ a arrows → (i : ℕ)
     → Enabled (nodesOf (tableOf table)) a i ↔ CanTake table a i
-figure-exact n least most table reached a m i l = (every-arrow n least most table reached a m i l, was-enabled table a i)
+figure-exact n least most table reached a m i = (every-arrow n least most table reached a m i, was-enabled table a i)

@@ -1,6 +1,6 @@
 -- One request on the way to an arrow, and the table that it leaves. `makes` and `goes`: a request that passes its tests is accepted and has a given effect.
 -- `first`: where a request of any thread keeps all nodes, an arrow can be taken if it can be from the table that is left. `along`: where the thread's own request takes it along, it can.
--- `go-first` and `go-along` are these two for the move go. What the nodes say of the phases: `enabled-in`, `enabled-at`, `nobody-in`.
+-- `go-first` and `go-along` are these two for the move go. What the nodes say of the threads and their phases: `stands`, `enabled-in`, `enabled-at`, `nobody-in`.
 use Prim.Native.Nat.{ℕ, suc, _≤_, _<_}
 use native.Mathlib.Omega.{arith}
 use mathlib.Core.Bool.{Bool, not}
@@ -19,7 +19,7 @@ use Rattle.definitions.specs.Threads.{every, listOf, among, implies}
 use Rattle.definitions.specs.declared.Request.{Request}
 use Rattle.theory.proofs.Cases.{or-at, none-of}
 use Rattle.theory.proofs.Figure1.{nodes-set, stays}
-use Rattle.theory.proofs.Lists.{getD-listOf, nobody-listOf}
+use Rattle.theory.proofs.Lists.{length-listOf, getD-listOf, nobody-listOf}
 use Rattle.theory.proofs.Quantifiers.{every-at}
 use Rattle.theory.proofs.SoundSteps.{kept-sound}
 use Rattle.theory.proofs.Soundness.{All, sound-e}
@@ -65,20 +65,25 @@ makes-sound {s} {r} {e} m = subst (λ (x : Effect). T (sound (applied s (x .writ
 
 -- ---- what it does for the arrow
 
+-- a thread for which an arrow's condition holds is one of the table's
+pub stands : (s : Table) (a : Arrow) (i : ℕ) → Enabled (nodesOf s) a i → i < s .threads
+unfolding nodesOf
+stands s a i enabled = omega (arith, length-listOf (s .threads) (λ j. nodeOf (s .phase j)), enabled .there)
+
 module _ (s : Table) (a : Arrow) (i : ℕ) where
   -- the last request, which is the thread's own and takes it along
-  pub along : (mv t : ℕ) (e : Effect) → Enabled (nodesOf s) a i → Makes s (ask i mv t) e → e .shows ≡ a .shows → nodesOf (applied s (e .writes)) ≡ set (nodesOf s) i (a .to) → Can s a i
+  pub along : (mv t : ℕ) (e : Effect) → Enabled (nodesOf s) a i → Makes s (ask i mv t) e → e .shows ≡ a .shows → nodesOf (applied s (e .writes)) ≡ set (nodesOf s) i (a .to) → Can 1 s a i
   along mv t e enabled m shows ends =
       at-once s a i (ask i mv t) refl (m .is-accepted)
       (subst (λ (x : Effect). Taken a (nodesOf s) i (x .shows) (nodesOf (applied s (x .writes)))) (sym (m .has-effect))
-      record { begins = enabled .begins; guard = enabled .guard; ends = ends; shows = shows })
+      record { there = enabled .there; begins = enabled .begins; guard = enabled .guard; ends = ends; shows = shows })
 
   -- a request of any thread, which keeps all nodes, then what is done from the table that it leaves
-  pub first : (r : Request) (e : Effect) → Enabled (nodesOf s) a i → Makes s r e → nodesOf (applied s (e .writes)) ≡ nodesOf s
-      → (T (sound (applied s (e .writes))) → Enabled (nodesOf (applied s (e .writes))) a i → Can (applied s (e .writes)) a i) → Can s a i
-  first r e enabled m same rest =
+  pub first : {b : ℕ} (r : Request) (e : Effect) → Enabled (nodesOf s) a i → Makes s r e → nodesOf (applied s (e .writes)) ≡ nodesOf s
+      → (T (sound (applied s (e .writes))) → Enabled (nodesOf (applied s (e .writes))) a i → Can b (applied s (e .writes)) a i) → Can (suc b) s a i
+  first {b} r e enabled m same rest =
       after-one s a i r (m .is-accepted) (subst (λ (x : Effect). nodesOf (applied s (x .writes)) ≡ nodesOf s) (sym (m .has-effect)) same)
-      (subst (λ (x : Effect). Can (applied s (x .writes)) a i) (sym (m .has-effect))
+      (subst (λ (x : Effect). Can b (applied s (x .writes)) a i) (sym (m .has-effect))
       (rest (makes-sound m) (subst (λ (x : List ℕ). Enabled x a i) (sym same) enabled)))
 
 -- ---- nodes after a request, by what it does to the phases
@@ -106,15 +111,16 @@ module _ (s : Table) (ws : List Write) where
 
 module _ (s : Table) (g : T (sound s)) (a : Arrow) (i : ℕ) (enabled : Enabled (nodesOf s) a i) where
   -- thread h goes from phase p to v, which keeps its node
-  pub go-first : (h p v : ℕ) (ws : List Write) → h < s .threads → s .phase h ≡ p → T (hasMove go p) → T (not (mustWait p (s .mutex) go)) → goEffect s h ≡ quietly ws
-      → applied s ws .phase ≡ update (s .phase) h v → nodeOf p ≡ nodeOf v → (T (sound (applied s ws)) → Enabled (nodesOf (applied s ws)) a i → Can (applied s ws) a i) → Can s a i
+  pub go-first : {b : ℕ} (h p v : ℕ) (ws : List Write) → h < s .threads → s .phase h ≡ p → T (hasMove go p) → T (not (mustWait p (s .mutex) go)) → goEffect s h ≡ quietly ws
+      → applied s ws .phase ≡ update (s .phase) h v → nodeOf p ≡ nodeOf v → (T (sound (applied s ws)) → Enabled (nodesOf (applied s ws)) a i → Can b (applied s ws) a i) → Can (suc b) s a i
   go-first h p v ws l at has free effect-is to same =
       first s a i (ask h go 0) (quietly ws) enabled (goes s g h l p (quietly ws) at has free effect-is) (nodes-kept s ws g h l v to p at same)
 
   -- thread i itself goes from phase p to v, along the arrow
-  pub go-along : (p v : ℕ) (ws : List Write) → i < s .threads → s .phase i ≡ p → T (hasMove go p) → T (not (mustWait p (s .mutex) go)) → goEffect s i ≡ record { writes = ws; shows = a .shows }
-      → applied s ws .phase ≡ update (s .phase) i v → nodeOf v ≡ a .to → Can s a i
-  go-along p v ws l at has free effect-is to ends =
+  pub go-along : (p v : ℕ) (ws : List Write) → s .phase i ≡ p → T (hasMove go p) → T (not (mustWait p (s .mutex) go)) → goEffect s i ≡ record { writes = ws; shows = a .shows }
+      → applied s ws .phase ≡ update (s .phase) i v → nodeOf v ≡ a .to → Can 1 s a i
+  go-along p v ws at has free effect-is to ends =
+      let l = stands s a i enabled in
       let e : Effect = record { writes = ws; shows = a .shows } in
       along s a i go 0 e enabled (goes s g i l p e at has free effect-is) refl (nodes-changed s ws g i l v to ∙ ap (set (nodesOf s) i) ends)
 
@@ -130,16 +136,17 @@ BarredBy a f = T (every (suc lastPhase) (λ q. implies (f q) (among (nodeOf q) (
 
 module _ (s : Table) (g : T (sound s)) (a : Arrow) (i : ℕ) (enabled : Enabled (nodesOf s) a i) where
   -- the thread is in one of the phases of the node where the arrow begins
-  pub enabled-in : (phases : List ℕ) → BeginsIn a phases → i < s .threads → T (among (s .phase i) phases)
+  pub enabled-in : (phases : List ℕ) → BeginsIn a phases → T (among (s .phase i) phases)
   unfolding nodesOf
-  enabled-in phases t l =
+  enabled-in phases t =
+      let l = stands s a i enabled in
       implies-e (eqb (nodeOf (s .phase i)) (a .from)) (among (s .phase i) phases)
       (every-at (λ q. implies (eqb (nodeOf q) (a .from)) (among q phases)) (suc lastPhase) t (s .phase i) (let h = sound-e s g .phases i l in omega arith))
       (eq-T (nodeOf (s .phase i)) (a .from) (sym (getD-listOf (s .threads) (λ j. nodeOf (s .phase j)) i 0 l) ∙ enabled .begins))
 
   -- if they are one phase
-  pub enabled-at : (p : ℕ) → BeginsIn a (p ∷ []) → i < s .threads → s .phase i ≡ p
-  enabled-at p t l = or-at (s .phase i) p [] (λ e. e) (none-of (s .phase i)) (enabled-in (p ∷ []) t l)
+  pub enabled-at : (p : ℕ) → BeginsIn a (p ∷ []) → s .phase i ≡ p
+  enabled-at p t = or-at (s .phase i) p [] (λ e. e) (none-of (s .phase i)) (enabled-in (p ∷ []) t)
 
   -- nobody is in phases that the arrow's guard bars
   pub nobody-in : (f : ℕ → Bool) → BarredBy a f → All s (λ j. T (f (s .phase j)) → ⊥)

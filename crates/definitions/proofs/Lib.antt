@@ -1,5 +1,6 @@
--- The marked examples of the scope paper, and examples of 02 §1 to §8.
+-- The marked examples of the scope paper, examples of Figure 1, and examples of 02 §1 to §8.
 pub mod Marked
+pub mod Taking
 pub mod Waiting
 pub mod Retrying
 pub mod Dispatching

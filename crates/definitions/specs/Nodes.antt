@@ -1,11 +1,11 @@
 -- The nodes of all threads, the entry for them, and Figure 1 with its twelve arrows, their events and their guards.
-use Prim.Native.Nat.{ℕ}
+use Prim.Native.Nat.{ℕ, _<_}
 use mathlib.Core.Bool.{Bool, false, not, _||_}
 use mathlib.Core.List.{List, [], _∷_, List·Memᴰ}
 use mathlib.Core.Logic.{_⊎_}
 use mathlib.Core.Path.{_≡_}
 use lib.Dec.{T}
-use lib.ListN.{getD, set}
+use lib.ListN.{length, getD, set}
 use Rattle.definitions.specs.Answers.{Seen, shown, quiet, Delivery, counted}
 use Rattle.definitions.specs.Codes.{Free, ES, LOE, Shared, LS, EE, SAF, LOS, Exclusive, LE, OE}
 use Rattle.definitions.specs.Phases.{nodeOf}
@@ -55,8 +55,9 @@ unfoldable pub anyIn : List ℕ → List ℕ → Bool
 anyIn wanted [] = false
 anyIn wanted (node ∷ nodes) = among node wanted || anyIn wanted nodes
 
--- thread i takes an arrow: it stands where the arrow begins, the arrow's guard is met, exactly this thread's node changes, and the arrow's event is seen
+-- thread i takes an arrow: it is one of the threads, it stands where the arrow begins, the arrow's guard is met, exactly this thread's node changes, and the arrow's event is seen
 pub record Taken (a : Arrow) (before : List ℕ) (i : ℕ) (seen : Seen) (after : List ℕ) : Type 0 where
+  pub there : i < length before
   pub begins : getD before i 0 ≡ a .from
   pub guard : T (not (anyIn (a .nobodyIn) before))
   pub ends : after ≡ set before i (a .to)

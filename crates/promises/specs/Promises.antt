@@ -316,9 +316,10 @@ pub record Promises (M : Type 1) : Type 2 where
   -- No standstill: where some thread isn't Free, some request that is no call is accepted.
   pub no-standstill : (table : List ℕ) → SoundBytes table → (i : ℕ) → i < tableOf table .threads → NotFree table i → CanMove table
   -- Every arrow of Figure 1 can be taken: by each thread that stands where it begins, if its condition holds there, after moves that keep every thread in its node; and no others can.
-  pub every-arrow : (n : ℕ) → 1 ≤ n → n ≤ mostThreads → (table : List ℕ) → Reached n table → (a : Arrow) → List·Memᴰ a arrows → (i : ℕ) → i < n
+  -- At most so many such moves come before it (`movesBefore`): 8 from ES to LOE, 4N - 2 from SAF to LOS, N - 1 from LE to OE, 1 from LS and OE to Free and from EE to SAF, and none before the others.
+  pub every-arrow : (n : ℕ) → 1 ≤ n → n ≤ mostThreads → (table : List ℕ) → Reached n table → (a : Arrow) → List·Memᴰ a arrows → (i : ℕ)
       → Enabled (nodesOf (tableOf table)) a i → CanTake table a i
-  pub figure-exact : (n : ℕ) → 1 ≤ n → n ≤ mostThreads → (table : List ℕ) → Reached n table → (a : Arrow) → List·Memᴰ a arrows → (i : ℕ) → i < n
+  pub figure-exact : (n : ℕ) → 1 ≤ n → n ≤ mostThreads → (table : List ℕ) → Reached n table → (a : Arrow) → List·Memᴰ a arrows → (i : ℕ)
       → Enabled (nodesOf (tableOf table)) a i ↔ CanTake table a i
   -- ---- 8. The dispatcher
 

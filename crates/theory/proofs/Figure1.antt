@@ -21,7 +21,7 @@ use Rattle.definitions.specs.Threads.{every, listOf, among, between, implies}
 use Rattle.definitions.specs.declared.Request.{Request}
 use Rattle.theory.specs.Statements.{OutsideView}
 use Rattle.theory.proofs.Bytes.{byte-keeps}
-use Rattle.theory.proofs.Lists.{getD-listOf, listOf-same, listOf-set, anyIn-listOf}
+use Rattle.theory.proofs.Lists.{length-listOf, getD-listOf, listOf-same, listOf-set, anyIn-listOf}
 use Rattle.theory.proofs.Quantifiers.{every-at}
 use Rattle.theory.proofs.SoundSteps.{settled}
 use Rattle.theory.proofs.Soundness.{All, Sound, sound-e}
@@ -73,6 +73,7 @@ module _ (s : Table) (z : Sound s) (i : ℕ) (l : i < s .threads) where
         arrowAt k,
         member-at arrows k _ fits,
         record {
+          there = subst (λ (m : ℕ). i < m) (sym (length-listOf (s .threads) (λ j. nodeOf (s .phase j)))) l;
           begins = getD-listOf (s .threads) (λ j. nodeOf (s .phase j)) i 0 l ∙ (ap nodeOf e ∙ begins);
           guard = anyIn-listOf (arrowAt k .nobodyIn) (s .threads) (λ j. nodeOf (s .phase j)) guard;
           ends = nodes-set v ∙ ap (set (nodesOf s) i) ends;
