@@ -1,5 +1,5 @@
 -- The protocol's discipline, on bytes: who writes what, and that a reader's moves but for two use its own three bytes alone.
--- `discipline`: a byte that a request changes is one that the mover may write by its phase and move; `disciplined` says that for each kind of byte.
+-- `discipline`: a byte that a request changes is one that the mover may write by its phase and move, and a forbidden is its subject's; `disciplined` says that for each kind of byte.
 -- `mutex-turned`: an accepted move that may write the mutex does: it is 1 after it if it was 0 before, and 0 if it was 1. `at-mutex-turned`: so do a reader's hold in 4 and its go in 18.
 -- `reader-local`: on two sound tables of the same N that agree on a reader's three bytes, a request but hold in 4 and go in 18 gets the same reply and leaves the same three bytes.
 -- `reader-writes`: all other bytes stay.
@@ -21,7 +21,7 @@ use Rattle.definitions.specs.Sound.{sound, opened}
 use Rattle.definitions.specs.Table.{Table, Write, mutex≔, target≔, phase≔, busy≔, forbidden≔, appliedOne, applied, phaseAt, busyAt, forbiddenAt, tableOf, byteTable}
 use Rattle.definitions.specs.Threads.{listOf}
 use Rattle.definitions.specs.declared.Request.{Request}
-use Rattle.theory.specs.Statements.{writesMutex, writesFlag, writesTarget, MayMake, MayMakeAll, MayWrite, its-phase, its-busy, a-forbidden, the-mutex, the-target, Disciplined}
+use Rattle.theory.specs.Statements.{writesMutex, writesFlag, writesTarget, MayMake, MayMakeAll, subjectOf, MayWrite, its-phase, its-busy, the-subjects, the-mutex, the-target, Disciplined}
 use Rattle.theory.specs.Statements.{readerRound, readerPhase, readerMove, atMutex, localMove, Agree}
 use Rattle.theory.specs.Tables.{SoundBytes}
 use Rattle.theory.proofs.Bytes.{byte-keeps}
@@ -38,21 +38,21 @@ use Rattle.theory.proofs.Ways.{Accepted, accepted-e, finds-free, phases
 -- ---- who writes what
 
 -- what a request may write, by the bytes
-may-write : (s : Table) (r : Request) (w : Write) → MayMake s r w → MayWrite r (s .phase (r .thread)) (place w)
+may-write : (s : Table) (r : Request) (w : Write) → MayMake s r w → MayWrite s r (place w)
 may-write s r (mutex≔ v) m = the-mutex refl m
 may-write s r (target≔ v) m = the-target refl m
 may-write s r (phase≔ j v) m = its-phase (ap phaseAt m)
 may-write s r (busy≔ j v) m = its-busy (ap busyAt m)
-may-write s r (forbidden≔ j v) m = a-forbidden j refl (m .1)
+may-write s r (forbidden≔ j v) m = the-subjects (ap forbiddenAt (m .0)) (m .1)
 
 -- a byte that it may not write is none that it writes
-unwritten : (s : Table) (r : Request) (k : ℕ) → (MayWrite r (s .phase (r .thread)) k → ⊥) → (ws : List Write) → MayMakeAll s r ws → Unwritten k ws
+unwritten : (s : Table) (r : Request) (k : ℕ) → (MayWrite s r k → ⊥) → (ws : List Write) → MayMakeAll s r ws → Unwritten k ws
 unwritten s r k h [] m = tt
 unwritten s r k h (w ∷ ws) m =
-    ((λ e. h (subst (MayWrite r (s .phase (r .thread))) (sym e) (may-write s r w (m .0)))), unwritten s r k h ws (m .1))
+    ((λ e. h (subst (MayWrite s r) (sym e) (may-write s r w (m .0)))), unwritten s r k h ws (m .1))
 
 -- a byte that the mover may not write stays
-pub discipline : (bytes : List ℕ) (r : Request) (k : ℕ) → (MayWrite r (tableOf bytes .phase (r .thread)) k → ⊥) → getD (moveTable bytes r) k 0 ≡ getD bytes k 0
+pub discipline : (bytes : List ℕ) (r : Request) (k : ℕ) → (MayWrite (tableOf bytes) r k → ⊥) → getD (moveTable bytes r) k 0 ≡ getD bytes k 0
 discipline bytes r k h = by (decided (acceptsIn byteTable bytes r))
   where
     by : T (acceptsIn byteTable bytes r) ⊎ T (not (acceptsIn byteTable bytes r)) → getD (moveTable bytes r) k 0 ≡ getD bytes k 0
@@ -63,59 +63,60 @@ discipline bytes r k h = by (decided (acceptsIn byteTable bytes r))
     by (inr t) = ap (λ (b : List ℕ). getD b k 0) (refused-stays byteTable bytes r t)
 
 -- what each kind of byte would need
-module _ (r : Request) (p : ℕ) where
-  no-phase : (j : ℕ) → (j ≡ r .thread → ⊥) → MayWrite r p (phaseAt j) → ⊥
+module _ (s : Table) (r : Request) where
+  no-phase : (j : ℕ) → (j ≡ r .thread → ⊥) → MayWrite s r (phaseAt j) → ⊥
   no-phase j h (its-phase e) = h (omega arith)
   no-phase j h (its-busy e) = omega arith
-  no-phase j h (a-forbidden k e t) = omega arith
+  no-phase j h (the-subjects e t) = omega arith
   no-phase j h (the-mutex e t) = omega arith
   no-phase j h (the-target e t) = omega arith
 
-  no-busy : (j : ℕ) → (j ≡ r .thread → ⊥) → MayWrite r p (busyAt j) → ⊥
+  no-busy : (j : ℕ) → (j ≡ r .thread → ⊥) → MayWrite s r (busyAt j) → ⊥
   no-busy j h (its-phase e) = omega arith
   no-busy j h (its-busy e) = h (omega arith)
-  no-busy j h (a-forbidden k e t) = omega arith
+  no-busy j h (the-subjects e t) = omega arith
   no-busy j h (the-mutex e t) = omega arith
   no-busy j h (the-target e t) = omega arith
 
-  no-forbidden : (j : ℕ) → (T (writesFlag p) → ⊥) → MayWrite r p (forbiddenAt j) → ⊥
+  no-forbidden : (j : ℕ) → (j ≡ subjectOf s r → T (writesFlag (s .phase (r .thread))) → ⊥) → MayWrite s r (forbiddenAt j) → ⊥
   no-forbidden j h (its-phase e) = omega arith
   no-forbidden j h (its-busy e) = omega arith
-  no-forbidden j h (a-forbidden k e t) = h t
+  no-forbidden j h (the-subjects e t) = h (omega arith) t
   no-forbidden j h (the-mutex e t) = omega arith
   no-forbidden j h (the-target e t) = omega arith
 
-  no-mutex : (T (writesMutex p (r .mv)) → ⊥) → MayWrite r p 1 → ⊥
+  no-mutex : (T (writesMutex (s .phase (r .thread)) (r .mv)) → ⊥) → MayWrite s r 1 → ⊥
   no-mutex h (its-phase e) = omega arith
   no-mutex h (its-busy e) = omega arith
-  no-mutex h (a-forbidden k e t) = omega arith
+  no-mutex h (the-subjects e t) = omega arith
   no-mutex h (the-mutex e t) = h t
   no-mutex h (the-target e t) = omega arith
 
-  no-target : (T (writesTarget p) → ⊥) → MayWrite r p 2 → ⊥
+  no-target : (T (writesTarget (s .phase (r .thread))) → ⊥) → MayWrite s r 2 → ⊥
   no-target h (its-phase e) = omega arith
   no-target h (its-busy e) = omega arith
-  no-target h (a-forbidden k e t) = omega arith
+  no-target h (the-subjects e t) = omega arith
   no-target h (the-mutex e t) = omega arith
   no-target h (the-target e t) = h t
 
-  no-threads : MayWrite r p 0 → ⊥
+  no-threads : MayWrite s r 0 → ⊥
   no-threads (its-phase e) = omega arith
   no-threads (its-busy e) = omega arith
-  no-threads (a-forbidden k e t) = omega arith
+  no-threads (the-subjects e t) = omega arith
   no-threads (the-mutex e t) = omega arith
   no-threads (the-target e t) = omega arith
 
 pub disciplined : (bytes : List ℕ) (r : Request) → Disciplined (tableOf bytes) r (tableOf (moveTable bytes r))
 disciplined bytes r =
-    let p = tableOf bytes .phase (r .thread) in
+    let s = tableOf bytes in
     record {
-      threads-kept = discipline bytes r 0 (no-threads r p);
-      phase-own = λ j h. discipline bytes r (phaseAt j) (no-phase r p j h);
-      busy-own = λ j h. discipline bytes r (busyAt j) (no-busy r p j h);
-      forbidden-held = λ h j. discipline bytes r (forbiddenAt j) (no-forbidden r p j h);
-      mutex-in = λ h. discipline bytes r 1 (no-mutex r p h);
-      target-in = λ h. discipline bytes r 2 (no-target r p h);
+      threads-kept = discipline bytes r 0 (no-threads s r);
+      phase-own = λ j h. discipline bytes r (phaseAt j) (no-phase s r j h);
+      busy-own = λ j h. discipline bytes r (busyAt j) (no-busy s r j h);
+      forbidden-subjects = λ j h. discipline bytes r (forbiddenAt j) (no-forbidden s r j (λ e t. h e));
+      forbidden-held = λ h j. discipline bytes r (forbiddenAt j) (no-forbidden s r j (λ e t. h t));
+      mutex-in = λ h. discipline bytes r 1 (no-mutex s r h);
+      target-in = λ h. discipline bytes r 2 (no-target s r h);
     }
 
 -- ---- the moves that write the mutex
@@ -240,12 +241,13 @@ local-phase s r m a = by m
     by (goes e b) = between-e _ _ p b .1
     by (holds-elsewhere e n) = or-at p 4 [] (λ z. absurd (n z)) (none-of p) (has-phase 6 p (4 ∷ []) phases-6 (has 6 e))
 
-no-other : (r : Request) (p k : ℕ) → Local (r .mv) p → p ≤ 8 → (k ≡ phaseAt (r .thread) → ⊥) → (k ≡ busyAt (r .thread) → ⊥) → MayWrite r p k → ⊥
-no-other r p k m l h g (its-phase e) = h e
-no-other r p k m l h g (its-busy e) = g e
-no-other r p k m l h g (a-forbidden j e t) = let x = between-e _ _ p t in omega arith
-no-other r p k m l h g (the-mutex e t) = local-mutex (r .mv) p m l t
-no-other r p k m l h g (the-target e t) = let x = between-e _ _ p t in omega arith
+no-other : (s : Table) (r : Request) (k : ℕ) → Local (r .mv) (s .phase (r .thread)) → s .phase (r .thread) ≤ 8 → (k ≡ phaseAt (r .thread) → ⊥) → (k ≡ busyAt (r .thread) → ⊥)
+    → MayWrite s r k → ⊥
+no-other s r k m l h g (its-phase e) = h e
+no-other s r k m l h g (its-busy e) = g e
+no-other s r k m l h g (the-subjects e t) = let x = between-e _ _ (s .phase (r .thread)) t in omega arith
+no-other s r k m l h g (the-mutex e t) = local-mutex (r .mv) (s .phase (r .thread)) m l t
+no-other s r k m l h g (the-target e t) = let x = between-e _ _ (s .phase (r .thread)) t in omega arith
 
 -- it writes the reader's own phase and busy alone
 pub reader-writes : (bytes : List ℕ) (r : Request) → T (localMove (tableOf bytes) r) → (k : ℕ) → (k ≡ phaseAt (r .thread) → ⊥) → (k ≡ busyAt (r .thread) → ⊥)
@@ -256,7 +258,7 @@ reader-writes bytes r t k h g = by (decided (acceptsIn byteTable bytes r))
     by (inl u) =
         let s = tableOf bytes in
         let m = local-e s r t in
-        discipline bytes r k (no-other r (s .phase (r .thread)) k m (local-phase s r m (accepted-e s r (accepts-e byteTable bytes r u .1))) h g)
+        discipline bytes r k (no-other s r k m (local-phase s r m (accepted-e s r (accepts-e byteTable bytes r u .1))) h g)
     by (inr u) = ap (λ (b : List ℕ). getD b k 0) (refused-stays byteTable bytes r u)
 
 -- the table as the reader sees it: its own three bytes for every thread's

@@ -36,6 +36,7 @@ pub mod Chains
 pub mod SoundKept
 pub mod LineTurns
 pub mod Figure1
+pub mod NodesSeen
 pub mod Discipline
 pub mod OpenMovesExact
 pub mod SameCount

@@ -1,10 +1,10 @@
--- Laws of `listOf`, the list of one entry for each thread below n: its length, its entries, one entry written, and what `anyIn` says of it; a list from an index on; and zeros. For every n.
+-- Laws of `listOf`, the list of one entry for each thread below n: its length, its entries, one entry written, and what `anyIn` says of it; what holds of each of a list; a list from an index on; and zeros. For every n.
 use Prim.Native.Nat.{ℕ, zero, suc, _+_, _-_, _<_}
 use native.Mathlib.Nat.{not-suc-le-zero}
 use native.Mathlib.Numerals.{add-one}
 use native.Mathlib.Omega.{arith}
 use mathlib.Core.Bool.{not, _||_}
-use mathlib.Core.List.{List, [], _∷_, _++_}
+use mathlib.Core.List.{List, [], _∷_, _++_, List·Memᴰ, List·Memᴰ·not-nil, List·Memᴰ·cases-cons}
 use mathlib.Core.Logic.{_⊎_, inl, inr, ⊎-elim}
 use mathlib.Core.Path.{_≡_, refl, sym, subst, ap, _∙_}
 use lib.Dec.{T}
@@ -72,6 +72,21 @@ anyIn-at wanted (node ∷ nodes) t (suc j) l =
 pub nobody-listOf : (wanted : List ℕ) (n : ℕ) (f : ℕ → ℕ) → T (not (anyIn wanted (listOf n f))) → (j : ℕ) → j < n → T (not (among (f j) wanted))
 nobody-listOf wanted n f t j l =
     subst (λ (x : ℕ). T (not (among x wanted))) (getD-listOf n f j 0 l) (anyIn-at wanted (listOf n f) t j (subst (λ (m : ℕ). j < m) (sym (length-listOf n f)) l))
+
+-- what holds of each of a list
+module _ {ℓ} {A : Type ℓ} (P : A → Type 0) where
+  abbrev pub Each : List A → Type 0
+  Each [] = Unit {0}
+  Each (x ∷ xs) = P x × Each xs
+
+  pub each-member : (l : List A) → Each l → (a : A) → List·Memᴰ a l → P a
+  each-member [] h a m = absurd (List·Memᴰ·not-nil m)
+  each-member (x ∷ xs) h a m = ⊎-elim (λ e. subst P (sym e) (h .0)) (each-member xs (h .1) a) (List·Memᴰ·cases-cons m)
+
+  pub each-at : (l : List A) → Each l → (d : A) → P d → (k : ℕ) → P (getD l k d)
+  each-at [] h d e k = e
+  each-at (x ∷ xs) h d e zero = h .0
+  each-at (x ∷ xs) h d e (suc k) = each-at xs (h .1) d e k
 
 -- a list from n on, as it is lent
 pub from-on : (xs : List ℕ) (n : ℕ) → take (length xs - n) (drop n xs) ≡ drop n xs

@@ -54,19 +54,20 @@ abbrev pub MayMakeAll : Table → Request → List Write → Type 0
 MayMakeAll s r [] = Unit {0}
 MayMakeAll s r (w ∷ ws) = MayMake s r w × MayMakeAll s r ws
 
--- the same by the table's bytes: what byte k may be, if a request of a thread in phase p may write it
-pub data MayWrite (r : Request) (p k : ℕ) : Type 0 where
-  its-phase : k ≡ phaseAt (r .thread) → MayWrite r p k
-  its-busy : k ≡ busyAt (r .thread) → MayWrite r p k
-  a-forbidden : (j : ℕ) → k ≡ forbiddenAt j → T (writesFlag p) → MayWrite r p k
-  the-mutex : k ≡ 1 → T (writesMutex p (r .mv)) → MayWrite r p k
-  the-target : k ≡ 2 → T (writesTarget p) → MayWrite r p k
+-- the same by the table's bytes: what byte k may be, if a request to table s may write it
+pub data MayWrite (s : Table) (r : Request) (k : ℕ) : Type 0 where
+  its-phase : k ≡ phaseAt (r .thread) → MayWrite s r k
+  its-busy : k ≡ busyAt (r .thread) → MayWrite s r k
+  the-subjects : k ≡ forbiddenAt (subjectOf s r) → T (writesFlag (s .phase (r .thread))) → MayWrite s r k
+  the-mutex : k ≡ 1 → T (writesMutex (s .phase (r .thread)) (r .mv)) → MayWrite s r k
+  the-target : k ≡ 2 → T (writesTarget (s .phase (r .thread))) → MayWrite s r k
 
 -- and for each kind of byte: s before, s′ after a request
 pub record Disciplined (s : Table) (r : Request) (s′ : Table) : Type 0 where
   pub threads-kept : s′ .threads ≡ s .threads
   pub phase-own : (j : ℕ) → (j ≡ r .thread → ⊥) → s′ .phase j ≡ s .phase j
   pub busy-own : (j : ℕ) → (j ≡ r .thread → ⊥) → s′ .busy j ≡ s .busy j
+  pub forbidden-subjects : (j : ℕ) → (j ≡ subjectOf s r → ⊥) → s′ .forbidden j ≡ s .forbidden j
   pub forbidden-held : (T (writesFlag (s .phase (r .thread))) → ⊥) → (j : ℕ) → s′ .forbidden j ≡ s .forbidden j
   pub mutex-in : (T (writesMutex (s .phase (r .thread)) (r .mv)) → ⊥) → s′ .mutex ≡ s .mutex
   pub target-in : (T (writesTarget (s .phase (r .thread))) → ⊥) → s′ .target ≡ s .target
