@@ -1,6 +1,6 @@
 -- Demand 3 holds with the dispatcher (02 §8): whatever requests a host makes to a fresh table, with any numbers and refused ones among them, and wherever it lets the dispatcher take a turn,
--- what is shown is permitted (`steps-safe`). For some list of requests shows the same and leaves the same table (`as-requests`):
--- each turn that made a move is that request, and the others show and change nothing.
+-- what is shown is permitted (`steps-safe`). For the host's requests, with each turn's move in its place, show the same and leave the same table (`as-requests`):
+-- a turn that made a move is that request, and the others show and change nothing.
 use Prim.Native.Nat.{ℕ, _≤_}
 use mathlib.Core.List.{List, [], _∷_, _++_}
 use mathlib.Core.Path.{_≡_, refl, sym, subst, ap, ap₂, _∙_}
@@ -16,39 +16,45 @@ use Rattle.definitions.specs.declared.Request.{Request}
 use Rattle.dispatching.proofs.TurnIsMove.{turn-is-move}
 use Rattle.dispatching.proofs.WaitingExactly.{waiting-stays, refused-so}
 use Rattle.orders.proofs.EveryOrder.{safe}
-use Rattle.dispatched_orders.specs.Steps.{Step, asks, turn, pairOfTurn, shownAt, leftAt, shownBy, leftBy, AsRequests}
+use Rattle.dispatched_orders.specs.Steps.{Step, asks, turn, pairOfTurn, shownAt, leftAt, shownBy, leftBy, requestOfTurn, requestsAt, requestsBy, AsRequests}
 
 module _ (table : List ℕ) (x : Step) (xs : List Step) (rest : AsRequests (leftAt table x) xs) where
+  abbrev later : List Request
+  later = requestsBy (leftAt table x) xs
+
   -- the first step is a request
-  one : (r : Request) → pairFor (r .thread) (moveReply table r) ≡ shownAt table x → moveTable table r ≡ leftAt table x → AsRequests table (x ∷ xs)
-  unfolding historyIn afterIn shownBy leftBy
-  one r shows leaves =
+  one : (r : Request) → requestsAt table x ≡ r ∷ [] → pairFor (r .thread) (moveReply table r) ≡ shownAt table x → moveTable table r ≡ leftAt table x → AsRequests table (x ∷ xs)
+  unfolding historyIn afterIn shownBy leftBy requestsBy
+  one r is shows leaves =
       record {
-        requests = r ∷ rest .requests;
-        shows = ap₂ _++_ shows (ap (λ (b : List ℕ). history b (rest .requests)) leaves ∙ rest .shows);
-        leaves = ap (λ (b : List ℕ). tableAfter b (rest .requests)) leaves ∙ rest .leaves;
+        shows =
+            ap (λ (rs : List Request). history table (rs ++ later)) is
+            ∙ ap₂ _++_ shows (ap (λ (b : List ℕ). history b later) leaves ∙ rest .shows);
+        leaves = ap (λ (rs : List Request). tableAfter table (rs ++ later)) is ∙ (ap (λ (b : List ℕ). tableAfter b later) leaves ∙ rest .leaves);
       }
 
-  -- it shows and changes nothing
-  none : shownAt table x ≡ [] → leftAt table x ≡ table → AsRequests table (x ∷ xs)
-  unfolding shownBy leftBy
-  none shows leaves =
+  -- it is none, and shows and changes nothing
+  none : requestsAt table x ≡ [] → shownAt table x ≡ [] → leftAt table x ≡ table → AsRequests table (x ∷ xs)
+  unfolding shownBy leftBy requestsBy
+  none is shows leaves =
       record {
-        requests = rest .requests;
-        shows = ap (λ (b : List ℕ). history b (rest .requests)) (sym leaves) ∙ (rest .shows ∙ ap (λ (h : List Pair). h ++ shownBy (leftAt table x) xs) (sym shows));
-        leaves = ap (λ (b : List ℕ). tableAfter b (rest .requests)) (sym leaves) ∙ rest .leaves;
+        shows =
+            ap (λ (rs : List Request). history table (rs ++ later)) is
+            ∙ (ap (λ (b : List ℕ). history b later) (sym leaves) ∙ (rest .shows ∙ ap (λ (h : List Pair). h ++ shownBy (leftAt table x) xs) (sym shows)));
+        leaves = ap (λ (rs : List Request). tableAfter table (rs ++ later)) is ∙ (ap (λ (b : List ℕ). tableAfter b later) (sym leaves) ∙ rest .leaves);
       }
 
 pub as-requests : (table : List ℕ) (xs : List Step) → AsRequests table xs
-unfolding historyIn afterIn shownBy leftBy
-as-requests table [] = record { requests = []; shows = refl; leaves = refl }
-as-requests table (asks r ∷ xs) = one table (asks r) xs (as-requests (moveTable table r) xs) r refl refl
+unfolding historyIn afterIn shownBy leftBy requestsBy
+as-requests table [] = record { shows = refl; leaves = refl }
+as-requests table (asks r ∷ xs) = one table (asks r) xs (as-requests (moveTable table r) xs) r refl refl refl
 as-requests table (turn ∷ xs) = by (dispatchReply table) refl (as-requests (dispatchTable table) xs)
   where
     by : (x : Reply DispatchAnswer) → dispatchReply table ≡ x → AsRequests (dispatchTable table) xs → AsRequests table (turn ∷ xs)
-    by (accepted (made r a)) e rest = let m = turn-is-move table r a e in one table turn xs rest r (ap (pairFor (r .thread)) (m .reply) ∙ sym (ap pairOfTurn e)) (sym (m .left))
-    by (accepted waiting) e rest = none table turn xs rest (ap pairOfTurn e) (waiting-stays table e)
-    by (refused number place) e rest = none table turn xs rest (ap pairOfTurn e) (refused-so table number place e .stays)
+    by (accepted (made r a)) e rest =
+        let m = turn-is-move table r a e in one table turn xs rest r (ap requestOfTurn e) (ap (pairFor (r .thread)) (m .reply) ∙ sym (ap pairOfTurn e)) (sym (m .left))
+    by (accepted waiting) e rest = none table turn xs rest (ap requestOfTurn e) (ap pairOfTurn e) (waiting-stays table e)
+    by (refused number place) e rest = none table turn xs rest (ap requestOfTurn e) (ap pairOfTurn e) (refused-so table number place .0 e .stays)
 
 pub steps-safe : (n : ℕ) → 1 ≤ n → n ≤ mostThreads → (xs : List Step) → T (permitted n (shownBy (fresh n) xs))
-steps-safe n least most xs = let a = as-requests (fresh n) xs in subst (λ (h : List Pair). T (permitted n h)) (a .shows) (safe n least most (a .requests))
+steps-safe n least most xs = subst (λ (h : List Pair). T (permitted n h)) (as-requests (fresh n) xs .shows) (safe n least most (requestsBy (fresh n) xs))

@@ -38,8 +38,24 @@ unfoldable pub leftBy : List ℕ → List Step → List ℕ
 leftBy table [] = table
 leftBy table (x ∷ xs) = leftBy (leftAt table x) xs
 
--- requests that show and leave the same as some steps
+-- ---- the same by requests alone
+
+-- the request that a turn makes: none where it waits or is refused
+abbrev pub requestOfTurn : Reply DispatchAnswer → List Request
+requestOfTurn (accepted (made r answer)) = r ∷ []
+requestOfTurn (accepted waiting) = []
+requestOfTurn (refused number place) = []
+
+abbrev pub requestsAt : List ℕ → Step → List Request
+requestsAt table (asks r) = r ∷ []
+requestsAt table turn = requestOfTurn (dispatchReply table)
+
+-- the host's own requests in their order, each turn's move in its place
+unfoldable pub requestsBy : List ℕ → List Step → List Request
+requestsBy table [] = []
+requestsBy table (x ∷ xs) = requestsAt table x ++ requestsBy (leftAt table x) xs
+
+-- they show and leave the same as the steps
 pub record AsRequests (table : List ℕ) (xs : List Step) : Type 0 where
-  pub requests : List Request
-  pub shows : history table requests ≡ shownBy table xs
-  pub leaves : tableAfter table requests ≡ leftBy table xs
+  pub shows : history table (requestsBy table xs) ≡ shownBy table xs
+  pub leaves : tableAfter table (requestsBy table xs) ≡ leftBy table xs

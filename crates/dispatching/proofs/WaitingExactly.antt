@@ -1,10 +1,10 @@
 -- The dispatcher waits exactly if it may make no request (02 §8): it answers waiting exactly for the tables that pass the tests 1 and 2 and in which no request with any numbers is accepted
--- that is no call, no retry and no leaving; and then the table stays (`waiting-exactly`, `waiting-stays`). A refusal is 1 or 2, and keeps the table (`refused-so`).
+-- that is no call, no retry and no leaving; and then the table stays (`waiting-exactly`, `waiting-stays`). A refusal is 1 for a wrong size or 2 for a table that isn't sound, and keeps the table (`refused-so`).
 use Prim.Native.Nat.{ℕ}
 use mathlib.Core.Bool.{not}
 use mathlib.Core.List.{List, [], _∷_}
 use mathlib.Core.Logic.{_⊎_, inl, inr, _↔_}
-use mathlib.Core.Path.{_≡_, sym, subst, _∙_}
+use mathlib.Core.Path.{_≡_, sym, subst, ap₂, _∙_}
 use lib.Dec.{T}
 use Rattle.definitions.specs.Answers.{Reply, accepted, refused, isAccepted, Test, test}
 use Rattle.definitions.specs.Dispatch.{chosen, isWaiting, DispatchAnswer, waiting, dispatchAnswer, dispatchReplyIn, dispatchReply, dispatchTable}
@@ -14,7 +14,7 @@ use Rattle.theory.specs.Tables.{SoundBytes}
 use Rattle.theory.proofs.Replies.{passed, failed}
 use Rattle.theory.proofs.Soundness.{sound-e}
 use Rattle.theory.proofs.Tests.{decided}
-use Rattle.dispatching.specs.Turns.{TurnRefused, NoTurn}
+use Rattle.dispatching.specs.Turns.{RefusedBy, TurnRefused, NoTurn}
 use Rattle.dispatching.proofs.Choice.{chosen-may, none-may}
 use Rattle.dispatching.proofs.TurnReplies.{waiting-e, reply-e, refused-keeps, reply-is, waits}
 
@@ -36,21 +36,32 @@ waiting-exactly table = (
 pub waiting-stays : (table : List ℕ) → dispatchReply table ≡ accepted waiting → dispatchTable table ≡ table
 waiting-stays table e = let (g, t) = waiting-says table e in waits byteTable table (g .is-sized) (g .is-sound) t .1
 
--- "(Only 1 and 2 can occur.)"
-pub refused-so : (table : List ℕ) (number place : ℕ) → dispatchReply table ≡ refused number place → TurnRefused table number place
-unfolding dispatchReplyIn
-refused-so table number place e = by (decided (sized table)) (decided (sound (tableOf table)))
-  where
-    turn : DispatchAnswer
-    turn = dispatchAnswer (tableOf table)
+-- "(Only 1 and 2 can occur.)": what it answers to a table that fails the tests 1 and 2
+module _ (table : List ℕ) where
+  abbrev second : List Test
+  second = test 2 (sound (tableOf table)) ∷ []
 
-    second : List Test
-    second = test 2 (sound (tableOf table)) ∷ []
+  by-one : T (not (sized table)) → dispatchReply table ≡ refused 1 0
+  unfolding dispatchReplyIn
+  by-one t = failed (test 1 (sized table)) second (dispatchAnswer (tableOf table)) t
 
-    kept : dispatchTable table ≡ table
-    kept = refused-keeps byteTable table (subst (λ (x : Reply DispatchAnswer). T (not (isAccepted x))) (sym e) tt)
+  by-two : T (sized table) → T (not (sound (tableOf table))) → dispatchReply table ≡ refused 2 0
+  unfolding dispatchReplyIn
+  by-two t u =
+      let turn = dispatchAnswer (tableOf table) in
+      passed (test 1 (sized table)) second turn t ∙ failed (test 2 (sound (tableOf table))) [] turn u
 
-    by : T (sized table) ⊎ T (not (sized table)) → T (sound (tableOf table)) ⊎ T (not (sound (tableOf table))) → TurnRefused table number place
-    by (inr t) u = let d = failed (test 1 (sized table)) second turn t in record { one-or-two = inl cc; no-place = cc; stays = kept }
-    by (inl t) (inr u) = let d = passed (test 1 (sized table)) second turn t ∙ failed (test 2 (sound (tableOf table))) [] turn u in record { one-or-two = inr cc; no-place = cc; stays = kept }
-    by (inl t) (inl u) = let d = reply-is byteTable table t u in absurd (subst (λ (x : Reply DispatchAnswer). T (isAccepted x)) (sym d ∙ e) tt)
+  pub refused-so : (number place : ℕ) → (dispatchReply table ≡ refused number place) ↔ TurnRefused table number place
+  refused-so number place = (λ e. by e (decided (sized table)) (decided (sound (tableOf table))), λ f. back f (f .one-or-two))
+    where
+      kept : dispatchReply table ≡ refused number place → dispatchTable table ≡ table
+      kept e = refused-keeps byteTable table (subst (λ (x : Reply DispatchAnswer). T (not (isAccepted x))) (sym e) tt)
+
+      by : dispatchReply table ≡ refused number place → T (sized table) ⊎ T (not (sized table)) → T (sound (tableOf table)) ⊎ T (not (sound (tableOf table))) → TurnRefused table number place
+      by e (inr t) u = let d = by-one t in record { one-or-two = inl (cc, t); no-place = cc; stays = kept e }
+      by e (inl t) (inr u) = let d = by-two t u in record { one-or-two = inr (cc, t, u); no-place = cc; stays = kept e }
+      by e (inl t) (inl u) = let d = reply-is byteTable table t u in absurd (subst (λ (x : Reply DispatchAnswer). T (isAccepted x)) (sym d ∙ e) tt)
+
+      back : TurnRefused table number place → RefusedBy table number → dispatchReply table ≡ refused number place
+      back f (inl (e, t)) = by-one t ∙ sym (ap₂ refused e (f .no-place))
+      back f (inr (e, t, u)) = by-two t u ∙ sym (ap₂ refused e (f .no-place))

@@ -11,7 +11,8 @@ use Rattle.definitions.specs.Codes.{Shared, EE}
 use Rattle.definitions.specs.Dispatch.{isLeaving, mayDispatch, dispatchTable}
 use Rattle.definitions.specs.Moves.{ask, isCall, isRetry, moveReply, moveTable}
 use Rattle.definitions.specs.Phases.{nodeOf}
-use Rattle.definitions.specs.Table.{Table, tableOf}
+use Rattle.definitions.specs.Sound.{sound}
+use Rattle.definitions.specs.Table.{Table, tableOf, sized}
 use Rattle.definitions.specs.Threads.{among}
 use Rattle.definitions.specs.declared.Request.{Request}
 
@@ -38,9 +39,13 @@ pub record TurnMade (table : List ℕ) (r : Request) (a : MoveAnswer) : Type 0 w
   -- "In 10 the target is the lowest thread with forbidden 0, in 15 the lowest with forbidden 1.": with no lower target has it such a move
   pub lowest-target : (t : ℕ) → t < r .target → T (mayDispatch (tableOf table) (ask (r .thread) (r .mv) t)) → ⊥
 
--- "(Only 1 and 2 can occur.)": a refusal of the dispatcher's, which changes nothing
+-- "(Only 1 and 2 can occur.)": 1 for a table of a wrong size, 2 for one of the right size that isn't sound
+abbrev pub RefusedBy : List ℕ → ℕ → Type 0
+RefusedBy table number = ((number ≡ 1) × T (not (sized table))) ⊎ ((number ≡ 2) × T (sized table) × T (not (sound (tableOf table))))
+
+-- a refusal of the dispatcher's, which changes nothing
 pub record TurnRefused (table : List ℕ) (number place : ℕ) : Type 0 where
-  pub one-or-two : (number ≡ 1) ⊎ (number ≡ 2)
+  pub one-or-two : RefusedBy table number
   pub no-place : place ≡ 0
   pub stays : dispatchTable table ≡ table
 

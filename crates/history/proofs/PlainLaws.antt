@@ -14,6 +14,7 @@ use lib.Seq.{take-suc}
 use Rattle.definitions.specs.Answers.{passesAll}
 use Rattle.definitions.specs.PlainLock.{Pair, Places, atStart, placeAfter, advanced, placesAfter, isNext, pairTests, testsOf, permitted, howManyAt}
 use Rattle.definitions.specs.Threads.{every}
+use Rattle.history.specs.Permitted.{pairFits, permittedFrom}
 use Rattle.theory.proofs.Quantifiers.{howMany-change}
 use Rattle.theory.proofs.Tests.{or-e, or-l, same-test, no-both, eq-T, decided, cond-yes, cond-no, cond-either}
 use Rattle.theory.proofs.Writes.{update-same, update-other}
@@ -22,15 +23,6 @@ abbrev pub noPair : Pair
 noPair = record { thread = 0; event = 0 }
 
 -- ---- permitted
-
--- a pair passes its three tests, whatever its index is
-abbrev pub pairFits : ℕ → Places → Pair → Bool
-pairFits n p x = passesAll (pairTests n p 0 x)
-
--- each pair fits, after those before it
-unfoldable pub permittedFrom : ℕ → Places → List Pair → Bool
-permittedFrom n p [] = true
-permittedFrom n p (x ∷ xs) = pairFits n p x && permittedFrom n (advanced p x) xs
 
 every-front : (n : ℕ) (f : ℕ → Bool) → every (suc n) f ≡ f 0 && every n (λ k. f (suc k))
 unfolding every

@@ -1,4 +1,4 @@
--- Demand 3, for every N of 1 to 200 and lists of any length: what requests to the move show is permitted (`safe`), every permitted history is shown
+-- Demand 3, for every N of 1 to 200 and lists of any length: what requests to the move show is permitted (`safe`, `safe-from`), every permitted history is shown
 -- by requests that are all accepted (`exact`), and the plan is such a list (`planned`, `plan-entry`, `plan-run`);
 -- what the check answers (`checked`, `checked-count`, `checked-bad`, `from-list`); and what a run prints (`run-shown`).
 -- `fresh`, `history`, `acceptsAll`, `permitted`, `plan`, `checkReply` and `planEntry` are the definitions that the promises of the fresh table, the move, the check and the plan cite;
@@ -12,31 +12,35 @@ use lib.Dec.{T, leb, leb→le}
 use lib.ListN.{length, take, drop}
 use Rattle.definitions.specs.Answers.{accepted, refused, filled, deliveryReply, deliveryOutput}
 use Rattle.definitions.specs.Bounds.{mostThreads}
-use Rattle.definitions.specs.Chains.{historyIn, history, requestsOf}
+use Rattle.definitions.specs.Chains.{historyIn, history, tableAfter, requestsOf}
 use Rattle.definitions.specs.Forms.{Form, threads, request, note, bad, firstForm, threadsFirst}
 use Rattle.definitions.specs.Phases.{rows}
-use Rattle.definitions.specs.PlainLock.{Pair, pairsOf, atStart, permitted, checkReply}
+use Rattle.definitions.specs.PlainLock.{Pair, pairsOf, atStart, placesAfter, permitted, checkReply}
 use Rattle.definitions.specs.Plan.{plan, bytesOf, planEntry}
 use Rattle.definitions.specs.Run.{eventLines, runOutputOf}
-use Rattle.definitions.specs.Scripts.{threadsOfLines, threadsOf}
-use Rattle.definitions.specs.Table.{freshTable, countFits, fresh}
+use Rattle.definitions.specs.Scripts.{threadsOfLines, threadsOf, moveLines}
+use Rattle.definitions.specs.Table.{freshTable, countFits, tableOf, byteTable, fresh}
 use Rattle.definitions.specs.Texts.{Line, linesOf}
 use Rattle.definitions.specs.Threads.{every}
 use Rattle.definitions.specs.declared.Request.{Request}
 use Rattle.runs.specs.Requests.{Closes, movesFrom, movesFirst, movesOfLines, movesOf}
 use Rattle.orders.specs.Histories.{mostEvents, historyBytes, AllBytes, Passes, FirstBad, Makes}
-use Rattle.orders.specs.Rounds.{placeOf}
+use Rattle.orders.specs.Rounds.{placeOf, placesOf}
+use Rattle.history.specs.Permitted.{permittedFrom}
 use Rattle.history.proofs.PlainLaws.{permitted-is}
 use Rattle.runs.proofs.StepsAndEvents.{events-printed}
+use Rattle.theory.specs.Tables.{SoundBytes}
+use Rattle.theory.proofs.Bytes.{byte-keeps}
 use Rattle.theory.proofs.Lengths.{bytes-length}
 use Rattle.theory.proofs.Stages.{fresh-fits}
+use Rattle.theory.proofs.Storages.{history-same, after-same}
 use Rattle.theory.proofs.Tests.{and-l, and-r, cond-either}
 use Rattle.theory.proofs.Chains.{history-fresh, accepts-fresh, all-16}
 use Rattle.orders.proofs.CheckReply.{passes-e, passes-count, passes-i, check-accepted, check-refused}
 use Rattle.orders.proofs.EventPlans.{plan-fresh}
 use Rattle.orders.proofs.HistoryBytes.{pairs-read, bytes-long, all-bytes}
 use Rattle.orders.proofs.PlanEntry.{plan-reply, plan-output, plan-accepted, plan-read}
-use Rattle.orders.proofs.Safety.{shown-permitted}
+use Rattle.orders.proofs.Safety.{shown-permitted, shown-places}
 
 -- ---- 1. Safe
 
@@ -45,6 +49,14 @@ pub safe : (n : ℕ) → 1 ≤ n → n ≤ mostThreads → (rs : List Request) �
 unfolding placeOf rows
 safe n least most rs =
     rw (permitted-is n (history (fresh n) rs), history-fresh n least most rs) (shown-permitted (freshTable n) rs (fresh-fits n least))
+
+-- The same from any table that is sound, as one that a host restarts with: at the places that its nodes give, what requests show is permitted, and leads to those of the table that is left.
+pub safe-from : (table : List ℕ) → SoundBytes table → (rs : List Request)
+    → T (permittedFrom (tableOf table .threads) (placesOf (tableOf table)) (history table rs))
+    × (placesAfter (placesOf (tableOf table)) (history table rs) ≡ placesOf (tableOf (tableAfter table rs)))
+safe-from table g rs =
+    let s = tableOf table in
+    rw (history-same byteTable byte-keeps table rs (g .is-sized), after-same byteTable byte-keeps table rs (g .is-sized)) (shown-permitted s rs (g .is-sound), shown-places s rs (g .is-sound))
 
 -- ---- 2. Planned
 
@@ -143,8 +155,10 @@ first-shown bad ls = nothing-shown 0
 lines-shown : (ls : List Line) → T (permitted (threadsOfLines ls) (history (fresh (threadsOfLines ls)) (movesOfLines ls)))
 lines-shown ls = first-shown (firstForm ls) (drop 1 ls)
 
--- The events that the run of a script prints, whatever the script is, are a permitted history, and what is printed besides is one last line.
+-- The events that the run of a script prints, whatever the script is, are a permitted history; what is printed besides is one last line, which says how the run ended.
 pub run-shown : (script : List ℕ)
     → T (permitted (threadsOf script) (history (fresh (threadsOf script)) (movesOf script)))
-    × ((last : List ℕ) × (runOutputOf script ≡ eventLines (history (fresh (threadsOf script)) (movesOf script)) ++ last) × Closes (movesOf script) last)
+    × ((last : List ℕ)
+    × (runOutputOf script ≡ eventLines (history (fresh (threadsOf script)) (movesOf script)) ++ last)
+    × Closes (firstForm (linesOf script)) (moveLines script) (movesOf script) last)
 run-shown script = (lines-shown (linesOf script), events-printed script)
