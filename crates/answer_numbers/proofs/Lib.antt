@@ -1,3 +1,4 @@
 -- That answers are small, and told apart by their numbers.
 pub mod Apart
 pub mod Small
+pub mod Told

@@ -1,5 +1,5 @@
 -- An answer as one number, for C: the low byte is the refusal's number, 0 where the request is accepted; the rest is the value of what is answered, or the refusal's place.
--- Of the answers that one entry can give no two have the same number (proofs/Apart), but that writing's places above the largest that is held are answered as that one.
+-- The number tells the entry's reply (proofs/Told), but that writing's places above the largest that is held are answered as that one.
 use Prim.Native.Nat.{ℕ, _+_, _-_, _*_, _<_}
 use mathlib.Core.Bool.{Bool, cond}
 use lib.Dec.{leb}
@@ -79,19 +79,6 @@ countNumber = encoded countValue
 abbrev pub Below : {A : Type 0} → ℕ → (A → ℕ) → Reply A → Type 0
 Below unit value (accepted a) = value a < unit
 Below unit value (refused number place) = Unit {0}
-
--- reading answers an N that fits a byte, and a run a number of bytes that stands below the retries
-abbrev pub ByteCount : Reply Listed → Type 0
-ByteCount = Below 256 (λ l. l .threads)
-
-abbrev pub BytesBelow : Reply RunCounts → Type 0
-BytesBelow = Below retryUnit (λ c. c .bytes)
-
--- the dispatcher answers a thread, a move and a target that fit a byte each
-abbrev pub TurnBytes : Reply DispatchAnswer → Type 0
-TurnBytes (accepted (made r a)) = (r .thread < 256) × (r .mv < 256) × (r .target < 256)
-TurnBytes (accepted waiting) = Unit {0}
-TurnBytes (refused number place) = Unit {0}
 
 -- an answer's value: that of what is answered, or the place
 abbrev pub valueOf : {A : Type 0} → (A → ℕ) → Reply A → ℕ

@@ -1,2 +1,3 @@
 -- What the promises of this crate cite besides the definitions of the scope paper.
 pub mod Encoding
+pub mod Calls

@@ -83,11 +83,6 @@ module _ {ℓ} {A : Type ℓ} (P : A → Type 0) where
   each-member [] h a m = absurd (List·Memᴰ·not-nil m)
   each-member (x ∷ xs) h a m = ⊎-elim (λ e. subst P (sym e) (h .0)) (each-member xs (h .1) a) (List·Memᴰ·cases-cons m)
 
-  pub each-at : (l : List A) → Each l → (d : A) → P d → (k : ℕ) → P (getD l k d)
-  each-at [] h d e k = e
-  each-at (x ∷ xs) h d e zero = h .0
-  each-at (x ∷ xs) h d e (suc k) = each-at xs (h .1) d e k
-
 -- a list from n on, as it is lent
 pub from-on : (xs : List ℕ) (n : ℕ) → take (length xs - n) (drop n xs) ≡ drop n xs
 from-on xs n = take-all (length xs - n) (drop n xs) (omega (arith, length-drop n xs))
