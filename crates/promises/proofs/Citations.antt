@@ -1,5 +1,5 @@
 -- Every line of specs/Promises, by citing the function's proof or the theorem.
-use mathlib.Core.Path.{refl, sym}
+use mathlib.Core.Path.{sym}
 use Rattle.definitions.specs.Table.{tableOf, byteTable}
 use Rattle.promises.specs.Promises.{Promises}
 use Rattle.arrows.proofs.EveryArrow.{every-arrow}
@@ -33,6 +33,7 @@ use Rattle.soundness.proofs.OnePass.{one-pass}
 use Rattle.theory.proofs.Bytes.{byte-keeps}
 use Rattle.theory.proofs.Discipline as discipline
 use Rattle.theory.proofs.Figure1 as figure
+use Rattle.theory.proofs.NodesSeen as seen
 use Rattle.theory.proofs.OpenMovesExact as exact
 use Rattle.theory.proofs.SameCount as count
 use Rattle.theory.proofs.SoundKept as kept
@@ -40,8 +41,8 @@ use Rattle.theory.proofs.Storages as storages
 use Rattle.turn_limit.proofs.TurnLimit.{turns-sound, turn-limit, waits-then}
 use Rattle.turn_limit.proofs.TurnLimitReached.{turn-limit-reached}
 use Rattle.watching.proofs.EveryEvent as watching
-use Rattle.answer_numbers.proofs.Apart as apart
-use Rattle.answer_numbers.proofs.Small as small
+use Rattle.answer_numbers.proofs.Small.{write-held}
+use Rattle.answer_numbers.proofs.Told as told
 use Rattle.wospinzo.proofs.wospinzo_check.Met as check
 use Rattle.wospinzo.proofs.wospinzo_dispatch.Met as dispatch
 use Rattle.wospinzo.proofs.wospinzo_fresh.Met as fresh
@@ -77,27 +78,19 @@ proved =
       wospinzo-watch-start = watch-start.met;
       wospinzo-watch-event = watch-event.met;
       wospinzo-watch-inside = watch-inside.met;
-      move-told = apart.outcomes-apart;
-      turn-told = apart.turns-apart;
-      turn-bytes = apart.turn-bytes;
-      count-told = apart.answers-apart;
-      watch-told = apart.watched-apart;
-      inside-told = apart.inside-apart;
-      read-told = apart.readings-apart;
-      read-byte = small.read-byte;
-      run-told = apart.runs-apart;
-      run-below = λ script out. small.run-small script out _ refl .1;
-      move-low = apart.outcomes-low;
-      turn-low = apart.turns-low;
-      fresh-low = λ n out. small.fresh-small n out _ refl .1;
-      nodes-low = λ table out. small.nodes-small table out _ refl .1;
-      open-low = λ table thread out. small.open-small table thread out _ refl .1;
-      check-low = λ n bytes. small.check-small n bytes _ refl .1;
-      length-low = λ n bytes. small.length-small n bytes _ refl .1;
-      plan-low = λ n bytes out. small.plan-small n bytes out _ refl .1;
-      write-low = λ n triples out. small.write-small n triples out _ refl .1;
-      read-low = λ script out. small.read-small script out _ refl .1;
-      write-held = small.write-held;
+      move-told = told.move-told;
+      turn-told = told.turn-told;
+      count-told = told.count-told;
+      watch-told = told.watch-told;
+      inside-told = told.inside-told;
+      read-told = told.read-told;
+      run-told = told.run-told;
+      move-low = told.move-low;
+      turn-low = told.turn-low;
+      count-low = told.count-low;
+      read-low = told.read-low;
+      run-low = told.run-low;
+      write-held = write-held;
       refused-keeps = kept.refused-keeps;
       fresh-room = rooms.fresh-exactly;
       nodes-room = rooms.nodes-exactly;
@@ -119,14 +112,17 @@ proved =
       storage-step = λ S. storages.table-step S;
       storage-history = λ S. storages.history-same S;
       fresh-sound = kept.fresh-table-sound;
+      fresh-free = seen.fresh-free;
       sound-kept = kept.sound-kept;
       accepted-sound = kept.accepted-sound;
+      exclusive-alone = seen.exclusive-alone;
       complete = completeness.complete;
       move-refused = completeness.move-refused;
       nodes-refused = completeness.nodes-refused;
       open-refused = completeness.open-refused;
       dispatch-refused = completeness.dispatch-refused;
       figure-1 = figure.figure-1;
+      kept-quiet = seen.kept-quiet;
       one-pass = one-pass;
       discipline = discipline.discipline;
       disciplined = discipline.disciplined;
@@ -139,6 +135,7 @@ proved =
       safe = orders.safe;
       exact = orders.exact;
       planned = orders.planned;
+      safe-from = orders.safe-from;
       checked = orders.checked;
       checked-count = orders.checked-count;
       checked-bad = orders.checked-bad;

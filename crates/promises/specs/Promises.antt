@@ -9,37 +9,32 @@ use mathlib.Core.Logic.{_↔_}
 use mathlib.Core.Path.{_≡_}
 use lib.Dec.{T, eqb}
 use lib.ListN.{length, getD, take, drop, replicate}
-use Rattle.definitions.specs.Answers.{accepted, refused, quiet, MoveAnswer, moved, isAccepted, answerReply, outcomeReply, filled, deliveryReply, deliveryOutput}
+use Rattle.definitions.specs.Answers.{accepted, refused, quiet, MoveAnswer, moved, isAccepted, filled, deliveryReply, deliveryOutput}
 use Rattle.definitions.specs.Bounds.{mostThreads, mostScript, enoughOutput}
 use Rattle.definitions.specs.Chains.{historyIn, history, retries, tableAfter, acceptsAll, requestsOf}
-use Rattle.definitions.specs.Dispatch.{made, waiting, dispatchReply, dispatchTable, dispatchedReply}
-use Rattle.definitions.specs.Forms.{threads, request, note, noteFits, formOf, threadsLine, spelled}
+use Rattle.definitions.specs.Codes.{Free, LOE, Shared, LOS, Exclusive}
+use Rattle.definitions.specs.Dispatch.{made, waiting, dispatchReply, dispatchTable}
+use Rattle.definitions.specs.Forms.{threads, request, note, noteFits, formOf, firstForm, threadsLine, spelled}
 use Rattle.definitions.specs.Moves.{ask, effect, isRetry, stepReply, step, accepts, replyIn, stepIn, acceptsIn, moveReply, moveTable}
 use Rattle.definitions.specs.Nodes.{nodesOf, nodesEntry, Arrow, arrows}
 use Rattle.definitions.specs.OpenMoves.{openMoves, openEntry}
 use Rattle.definitions.specs.PlainLock.{Pair, pairsOf, placesIn, atStart, placesAfter, permitted, checkReply}
 use Rattle.definitions.specs.Plan.{plan, bytesOf, planEntry, planLengthReply}
-use Rattle.definitions.specs.Run.{eventLines, stepsLine, refusedLine, runOutputOf, runRetries, runningReply, runEntry, programOutput}
-use Rattle.definitions.specs.Scripts.{scriptOf, writeEntry, Listed, requestsIn, threadsOf, moveLines, readingReply, readEntry}
+use Rattle.definitions.specs.Run.{eventLines, stepsLine, refusedLine, runOutputOf, runRetries, runEntry, programOutput}
+use Rattle.definitions.specs.Scripts.{scriptOf, writeEntry, Listed, requestsIn, threadsOf, moveLines, readEntry}
 use Rattle.definitions.specs.Sound.{sound}
 use Rattle.definitions.specs.Table.{Table, Storage, itself, byteTable, tableOf, size, sized, fresh, freshEntry, phaseAt, busyAt}
 use Rattle.definitions.specs.Texts.{bytes, linesOf}
 use Rattle.definitions.specs.Threads.{howMany, among}
-use Rattle.definitions.specs.Watch.{recordOf, started, consistent, watchedReply, insideReply, questionReply, watchReplies, watchRecord}
-use Rattle.definitions.specs.declared.Answer.{Answer}
-use Rattle.definitions.specs.declared.Dispatched.{Dispatched}
-use Rattle.definitions.specs.declared.Inside.{Inside}
-use Rattle.definitions.specs.declared.Outcome.{Outcome}
-use Rattle.definitions.specs.declared.Reading.{Reading}
+use Rattle.definitions.specs.Watch.{recordOf, started, consistent, questionReply, watchReplies, watchRecord}
 use Rattle.definitions.specs.declared.Request.{Request}
-use Rattle.definitions.specs.declared.Running.{Running}
-use Rattle.definitions.specs.declared.Watched.{Watched}
 use Rattle.definitions.specs.declared.Watcher.{Watcher}
 use Rattle.arrows.specs.Arrows.{Enabled, CanTake}
 use Rattle.completeness.specs.Reached.{Reached}
 use Rattle.dispatched_orders.specs.Steps.{Step, shownBy, AsRequests}
 use Rattle.dispatching.specs.Turns.{TurnMade, TurnRefused, NoTurn, WaitsThere, HostMoves}
 use Rattle.forms.specs.Grammar.{numberBound, Spellable, Spells}
+use Rattle.history.specs.Permitted.{permittedFrom}
 use Rattle.orders.specs.Histories.{mostEvents, pairOf, historyBytes, AllBytes, Passes, FirstBad, Makes}
 use Rattle.orders.specs.Rounds.{placesOf}
 use Rattle.plan_lengths.specs.Rounds.{sharedRound, exclusiveRound, byRounds, longest, mostMoves, mostPlanBytes}
@@ -52,7 +47,8 @@ use Rattle.theory.specs.Statements.{OutsideView, writesMutex, MayWrite, Discipl
 use Rattle.theory.specs.Tables.{SoundBytes, Keeps}
 use Rattle.turn_limit.specs.TurnLimit.{mostTurns, afterTurns, WaitsAfter, TurnsReached}
 use Rattle.watching.specs.Verdicts.{verdictOn, verdictsOn, acceptedOf, someInside}
-use Rattle.answer_numbers.specs.Encoding.{retryUnit, seenValue, turnValue, countValue, listedValue, Below, ByteCount, BytesBelow, TurnBytes, valueBound, held}
+use Rattle.answer_numbers.specs.Calls.{CountCall, countReply, WatchCall, watchReply}
+use Rattle.answer_numbers.specs.Encoding.{retryUnit, seenValue, turnValue, countValue, listedValue, Below, valueBound, held}
 use Rattle.answer_numbers.specs.Encoding.{moveNumber, turnNumber, runNumber, countNumber, watchNumber, insideNumber, readNumber}
 use Rattle.printout.proofs.print_input.Statement as printing
 use Rattle.wospinzo.proofs.wospinzo_check.Statement as check
@@ -100,29 +96,23 @@ pub record Promises (M : Type 1) : Type 2 where
   pub wospinzo-watch-start : watch-start.statement M
   pub wospinzo-watch-event : watch-event.statement M
   pub wospinzo-watch-inside : watch-inside.statement M
-  -- The number that an entry answers tells its reply.
-  pub move-told : (a b : Outcome) → moveNumber (outcomeReply a) ≡ moveNumber (outcomeReply b) → outcomeReply a ≡ outcomeReply b
-  pub turn-told : (a b : Dispatched) → TurnBytes (dispatchedReply a) → TurnBytes (dispatchedReply b) → turnNumber (dispatchedReply a) ≡ turnNumber (dispatchedReply b)
-      → dispatchedReply a ≡ dispatchedReply b
-  pub turn-bytes : (table : List ℕ) → TurnBytes (dispatchReply table)
-  pub count-told : (a b : Answer) → countNumber (answerReply a) ≡ countNumber (answerReply b) → answerReply a ≡ answerReply b
-  pub watch-told : (a b : Watched) → watchNumber (watchedReply a) ≡ watchNumber (watchedReply b) → watchedReply a ≡ watchedReply b
-  pub inside-told : (a b : Inside) → insideNumber (insideReply a) ≡ insideNumber (insideReply b) → insideReply a ≡ insideReply b
-  pub read-told : (a b : Reading) → ByteCount (readingReply a) → ByteCount (readingReply b) → readNumber (readingReply a) ≡ readNumber (readingReply b) → readingReply a ≡ readingReply b
-  pub read-byte : (script out : List ℕ) → ByteCount (deliveryReply (readEntry script) out)
-  pub run-told : (a b : Running) → BytesBelow (runningReply a) → BytesBelow (runningReply b) → runNumber (runningReply a) ≡ runNumber (runningReply b) → runningReply a ≡ runningReply b
-  pub run-below : (script out : List ℕ) → BytesBelow (deliveryReply (runEntry script) out)
+  -- The number that an entry answers tells its reply, whatever it was lent and asked. `CountCall` lists the calls of the entries that answer a count, writing's among them, and `WatchCall` those of
+  -- a watcher's start and events: of two calls of one list the same number is the same reply.
+  pub move-told : (a b : List ℕ) (r q : Request) → moveNumber (moveReply a r) ≡ moveNumber (moveReply b q) → moveReply a r ≡ moveReply b q
+  pub turn-told : (a b : List ℕ) → turnNumber (dispatchReply a) ≡ turnNumber (dispatchReply b) → dispatchReply a ≡ dispatchReply b
+  pub count-told : (a b : CountCall) → countNumber (countReply a) ≡ countNumber (countReply b) → countReply a ≡ countReply b
+  pub watch-told : (a b : WatchCall) → watchNumber (watchReply a) ≡ watchNumber (watchReply b) → watchReply a ≡ watchReply b
+  pub inside-told : (v w : Watcher) → insideNumber (questionReply v) ≡ insideNumber (questionReply w) → questionReply v ≡ questionReply w
+  pub read-told : (a b out back : List ℕ) → readNumber (deliveryReply (readEntry a) out) ≡ readNumber (deliveryReply (readEntry b) back)
+      → deliveryReply (readEntry a) out ≡ deliveryReply (readEntry b) back
+  pub run-told : (a b out back : List ℕ) → runNumber (deliveryReply (runEntry a) out) ≡ runNumber (deliveryReply (runEntry b) back)
+      → deliveryReply (runEntry a) out ≡ deliveryReply (runEntry b) back
   -- Where an entry accepts, its value has 32 bits, but for the retries, which stand above them.
-  pub move-low : (a : Outcome) → Below retryUnit (λ x. seenValue (x .seen)) (outcomeReply a)
-  pub turn-low : (a : Dispatched) → TurnBytes (dispatchedReply a) → Below retryUnit turnValue (dispatchedReply a)
-  pub fresh-low : (n : ℕ) (out : List ℕ) → Below retryUnit countValue (deliveryReply (freshEntry n) out)
-  pub nodes-low : (table out : List ℕ) → Below retryUnit countValue (deliveryReply (nodesEntry table) out)
-  pub open-low : (table : List ℕ) (thread : ℕ) (out : List ℕ) → Below retryUnit countValue (deliveryReply (openEntry table thread) out)
-  pub check-low : (n : ℕ) (bytes : List ℕ) → Below retryUnit countValue (checkReply n bytes)
-  pub length-low : (n : ℕ) (bytes : List ℕ) → Below retryUnit countValue (planLengthReply n bytes)
-  pub plan-low : (n : ℕ) (bytes out : List ℕ) → Below retryUnit countValue (deliveryReply (planEntry n bytes) out)
-  pub write-low : (n : ℕ) (triples out : List ℕ) → Below retryUnit countValue (held (deliveryReply (writeEntry n triples) out))
+  pub move-low : (table : List ℕ) (r : Request) → Below retryUnit (λ a. seenValue (a .seen)) (moveReply table r)
+  pub turn-low : (table : List ℕ) → Below retryUnit turnValue (dispatchReply table)
+  pub count-low : (a : CountCall) → Below retryUnit countValue (countReply a)
   pub read-low : (script out : List ℕ) → Below retryUnit listedValue (deliveryReply (readEntry script) out)
+  pub run-low : (script out : List ℕ) → Below retryUnit (λ c. c .bytes) (deliveryReply (runEntry script) out)
   -- Of a list of triples whose indices stand beside a refusal's number, which all are that a memory of 64-bit addresses holds, writing's answer is the reply itself.
   pub write-held : (n : ℕ) (triples out : List ℕ) → length triples ≤ 3 * valueBound → held (deliveryReply (writeEntry n triples) out) ≡ deliveryReply (writeEntry n triples) out
   -- A refused move leaves every byte of the table.
@@ -158,10 +148,14 @@ pub record Promises (M : Type 1) : Type 2 where
   pub storage-step : {B : Type 0} (S : Storage B) → Keeps S → (b : B) (r : Request) → T (S .fits b) → S .table (stepIn S b r) ≡ step (S .table b) r
   pub storage-history : {B : Type 0} (S : Storage B) → Keeps S → (b : B) (rs : List Request) → T (S .fits b)
       → historyIn S b rs ≡ historyIn itself (S .table b) rs
-  -- A fresh table is sound, a sound table stays so, and an accepted request is to a sound table.
+  -- A fresh table is sound, and every thread of it is Free; a sound table stays sound, and an accepted request is to a sound table.
   pub fresh-sound : (n : ℕ) → 1 ≤ n → n ≤ mostThreads → SoundBytes (fresh n)
+  pub fresh-free : (n : ℕ) → nodesOf (tableOf (fresh n)) ≡ replicate n Free
   pub sound-kept : (table : List ℕ) (r : Request) → SoundBytes table → SoundBytes (moveTable table r)
   pub accepted-sound : (table : List ℕ) (r : Request) → T (acceptsIn byteTable table r) → SoundBytes table × SoundBytes (moveTable table r)
+  -- In a sound table a thread in Exclusive keeps every other one out of Exclusive, LOS, LOE and Shared.
+  pub exclusive-alone : (table : List ℕ) → SoundBytes table → (i j : ℕ) → i < tableOf table .threads → j < tableOf table .threads → (i ≡ j → ⊥)
+      → getD (nodesOf (tableOf table)) i 0 ≡ Exclusive → T (not (among (getD (nodesOf (tableOf table)) j 0) (Exclusive ∷ LOS ∷ LOE ∷ Shared ∷ [])))
   -- The sound tables are exactly those that requests leave: bytes have the size for N and are sound if and only if requests of 16 bits, all accepted, leave them from the fresh table for N.
   pub complete : (n : ℕ) → 1 ≤ n → n ≤ mostThreads → (table : List ℕ)
       → (T (sized table) × (tableOf table .threads ≡ n) × T (sound (tableOf table))) ↔ Reached n table
@@ -173,10 +167,13 @@ pub record Promises (M : Type 1) : Type 2 where
   pub dispatch-refused : (table : List ℕ) → (dispatchReply table ≡ refused 2 0) ↔ (T (sized table) × (Reached (tableOf table .threads) table → ⊥))
   -- From outside: an accepted request keeps every task in its node or takes one along one arrow of Figure 1, its condition met.
   pub figure-1 : (table : List ℕ) (r : Request) → T (acceptsIn byteTable table r) → OutsideView table r
+  -- Each arrow leads to another node, so one that keeps every task in its node is quiet.
+  pub kept-quiet : (table : List ℕ) (r : Request) → T (acceptsIn byteTable table r) → nodesOf (tableOf (moveTable table r)) ≡ nodesOf (tableOf table)
+      → moveReply table r ≡ accepted (moved quiet (isRetry (tableOf table) r))
   -- The soundness test makes one pass over the threads: what it decides is `sound`.
   pub one-pass : (s : Table) → passes s (foundOf s (s .threads)) ≡ sound s
-  -- Who writes what, by the table's bytes and by their kinds.
-  pub discipline : (table : List ℕ) (r : Request) (k : ℕ) → (MayWrite r (tableOf table .phase (r .thread)) k → ⊥)
+  -- Who writes what, by the table's bytes and by their kinds; a forbidden that a request writes is that of its one subject.
+  pub discipline : (table : List ℕ) (r : Request) (k : ℕ) → (MayWrite (tableOf table) r k → ⊥)
       → getD (moveTable table r) k 0 ≡ getD table k 0
   pub disciplined : (table : List ℕ) (r : Request) → Disciplined (tableOf table) r (tableOf (moveTable table r))
   -- An accepted move that may write the mutex does: it is 1 after it if it was 0 before, and 0 if it was 1.
@@ -201,6 +198,10 @@ pub record Promises (M : Type 1) : Type 2 where
   pub safe : (n : ℕ) → 1 ≤ n → n ≤ mostThreads → (rs : List Request) → T (permitted n (history (fresh n) rs))
   pub exact : (n : ℕ) → 1 ≤ n → n ≤ mostThreads → (h : List Pair) → T (permitted n h) ↔ ((rs : List Request) × Makes n rs h)
   pub planned : (n : ℕ) → 1 ≤ n → n ≤ mostThreads → (h : List Pair) → T (permitted n h) → Makes n (plan n h) h
+  -- From any sound table, as one that a host restarts with: what requests show is permitted at the places that its nodes give, and leads to the places of the table left.
+  pub safe-from : (table : List ℕ) → SoundBytes table → (rs : List Request)
+      → T (permittedFrom (tableOf table .threads) (placesOf (tableOf table)) (history table rs))
+      × (placesAfter (placesOf (tableOf table)) (history table rs) ≡ placesOf (tableOf (tableAfter table rs)))
   -- The check answers the number of events of what is permitted, and else the first bad pair with the first test that it fails.
   pub checked : (n : ℕ) (bytes : List ℕ) (events : ℕ) → (checkReply n bytes ≡ accepted events) ↔ Passes n bytes events
   pub checked-count : (n : ℕ) (bytes : List ℕ) (events : ℕ) → Passes n bytes events → (length (pairsOf bytes) ≡ events) × (events ≤ mostEvents)
@@ -220,11 +221,13 @@ pub record Promises (M : Type 1) : Type 2 where
       → (out : List ℕ) → length (bytesOf (plan n h)) ≤ length out
       → Delivered (planEntry n (historyBytes h)) out (filled out (bytesOf (plan n h))) (accepted (length (plan n h)))
   -- The events that a run prints are a permitted history, that of the moves that it made, all of them accepted.
-  -- One last line follows them; `(steps K)` counts the moves, and they are all that the script states.
+  -- One last line follows them. Where no line is turned down it is `(steps K)`, K being the moves, and they are all that the script states; else it is `(refused R L)`,
+  -- L the first line that is turned down and R why, on the table that the moves of the lines before it left.
   pub run-accepted : (script : List ℕ) → T (acceptsAll (fresh (threadsOf script)) (movesOf script))
   pub run-permitted : (script : List ℕ) → T (permitted (threadsOf script) (history (fresh (threadsOf script)) (movesOf script)))
   pub run-prints : (script : List ℕ) → (last : List ℕ)
-      × (runOutputOf script ≡ eventLines (history (fresh (threadsOf script)) (movesOf script)) ++ last) × Closes (movesOf script) last
+      × (runOutputOf script ≡ eventLines (history (fresh (threadsOf script)) (movesOf script)) ++ last)
+      × Closes (firstForm (linesOf script)) (moveLines script) (movesOf script) last
   pub run-steps : (script before : List ℕ) (k : ℕ) → runOutputOf script ≡ before ++ stepsLine k
       → (k ≡ length (movesOf script)) × (movesOf script ≡ requestsIn (moveLines script))
   -- The retries that it answers are those among these moves, by what each of them answers; a move takes nine bytes of the script.
@@ -325,10 +328,10 @@ pub record Promises (M : Type 1) : Type 2 where
 
   -- A turn that makes a move makes an accepted request, with the move's own answer and table: no call, no retry, no leaving, of the lowest thread that has one, with its lowest target.
   pub turn-is-move : (table : List ℕ) (r : Request) (a : MoveAnswer) → dispatchReply table ≡ accepted (made r a) → TurnMade table r a
-  -- It says waiting exactly if no such request is there, and then the table stays; a refusal is 1 or 2, and keeps the table too.
+  -- It says waiting exactly if no such request is there, and then the table stays; it refuses by 1 exactly if the size is wrong, by 2 if that is right and the table isn't sound, and keeps it.
   pub waiting-exactly : (table : List ℕ) → (dispatchReply table ≡ accepted waiting) ↔ (SoundBytes table × NoTurn table)
   pub waiting-stays : (table : List ℕ) → dispatchReply table ≡ accepted waiting → dispatchTable table ≡ table
-  pub turn-refused : (table : List ℕ) (number place : ℕ) → dispatchReply table ≡ refused number place → TurnRefused table number place
+  pub turn-refused : (table : List ℕ) (number place : ℕ) → (dispatchReply table ≡ refused number place) ↔ TurnRefused table number place
   -- What waiting means: a writer in 11 has a target in Shared, a thread in EE finds the mutex taken, and every thread is in 0, 4, 6, 9, 11 or 14.
   pub waiting-means : (table : List ℕ) → dispatchReply table ≡ accepted waiting → (i : ℕ) → i < tableOf table .threads → WaitsThere (tableOf table) i
   -- So the mutex, if it is taken, is held by a writer in 11 or 14; and where some thread isn't Free some thread is in 4, 6 or 14, where the host has a move that is no call.
@@ -341,6 +344,7 @@ pub record Promises (M : Type 1) : Type 2 where
   pub waits-then : (table : List ℕ) → SoundBytes table → (j : ℕ) → mostTurns (tableOf table .threads) ≤ j → dispatchReply (afterTurns j table) ≡ accepted waiting
   pub turns-sound : (table : List ℕ) → SoundBytes table → (k : ℕ) → SoundBytes (afterTurns k table)
   pub turn-limit-reached : (n : ℕ) → 1 ≤ n → n ≤ mostThreads → TurnsReached n
-  -- Demand 3 with the dispatcher: requests of the host and turns, in any order, show and leave what some list of requests does; so what they show from a fresh table is permitted.
+  -- Demand 3 with the dispatcher: requests of the host and turns, in any order, show and leave what `requestsBy` does, the host's requests with each turn's move in its place.
+  -- So what they show from a fresh table is permitted.
   pub as-requests : (table : List ℕ) (xs : List Step) → AsRequests table xs
   pub steps-safe : (n : ℕ) → 1 ≤ n → n ≤ mostThreads → (xs : List Step) → T (permitted n (shownBy (fresh n) xs))
