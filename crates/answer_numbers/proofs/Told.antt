@@ -5,7 +5,7 @@ use mathlib.Core.List.{List, List·Memᴰ}
 use mathlib.Core.Logic.{inl, inr}
 use mathlib.Core.Path.{_≡_, refl, sym, subst, ap, _∙_}
 use lib.Dec.{T}
-use Rattle.definitions.specs.Answers.{Reply, accepted, refused, isAccepted, Seen, MoveAnswer, deliveryReply}
+use Rattle.definitions.specs.Answers.{Reply, accepted, isAccepted, Seen, MoveAnswer, deliveryReply}
 use Rattle.definitions.specs.Chains.{retryFor}
 use Rattle.definitions.specs.Dispatch.{DispatchAnswer, made, waiting, dispatchAnswer, dispatchReplyIn, dispatchReply}
 use Rattle.definitions.specs.Moves.{isRetry, moveAnswer, replyIn, moveReply}
@@ -133,6 +133,10 @@ module _ (a b out back : List ℕ) where
 
 pub read-low : (script out : List ℕ) → Below retryUnit listedValue (deliveryReply (readEntry script) out)
 read-low script out = low ListedFits listedValue retryUnit (λ l f. f .few) (deliveryReply (readEntry script) out) (read-small script out _ refl .1)
+
+-- its N has a byte
+pub read-byte : (script out : List ℕ) → Below 256 (λ l. l .threads) (deliveryReply (readEntry script) out)
+read-byte script out = low ListedFits (λ l. l .threads) 256 (λ l f. f .byte) (deliveryReply (readEntry script) out) (read-small script out _ refl .1)
 
 pub run-low : (script out : List ℕ) → Below retryUnit (λ c. c .bytes) (deliveryReply (runEntry script) out)
 run-low script out = low (λ c. c .bytes < retryUnit) (λ c. c .bytes) retryUnit (λ c f. f) (deliveryReply (runEntry script) out) (run-small script out _ refl .1)

@@ -1,5 +1,6 @@
 -- The dispatcher waits exactly if it may make no request (02 §8): it answers waiting exactly for the tables that pass the tests 1 and 2 and in which no request with any numbers is accepted
--- that is no call, no retry and no leaving; and then the table stays (`waiting-exactly`, `waiting-stays`). A refusal is 1 for a wrong size or 2 for a table that isn't sound, and keeps the table (`refused-so`).
+-- that is no call, no retry and no leaving; and then the table stays (`waiting-exactly`, `waiting-stays`).
+-- It refuses by 1 exactly if the size is wrong, by 2 exactly if that is right and the table isn't sound, and keeps the table (`refused-so`).
 use Prim.Native.Nat.{ℕ}
 use mathlib.Core.Bool.{not}
 use mathlib.Core.List.{List, [], _∷_}

@@ -3,7 +3,7 @@
 use Prim.Native.Nat.{ℕ, zero, suc, _+_, _≤_, _<_}
 use native.Mathlib.Numerals.{add-one}
 use native.Mathlib.Omega.{arith}
-use mathlib.Core.Bool.{Bool, true, cond, not, _&&_, _||_, and-true, and-assoc}
+use mathlib.Core.Bool.{Bool, cond, not, _&&_, _||_, and-true, and-assoc}
 use mathlib.Core.List.{List, [], _∷_, _++_}
 use mathlib.Core.Logic.{_⊎_, inl, inr}
 use mathlib.Core.Path.{_≡_, refl, sym, subst, ap, _∙_}
@@ -12,7 +12,7 @@ use lib.Dec.{T, eqb, eqb→eq}
 use lib.ListN.{length, getD, take}
 use lib.Seq.{take-suc}
 use Rattle.definitions.specs.Answers.{passesAll}
-use Rattle.definitions.specs.PlainLock.{Pair, Places, atStart, placeAfter, advanced, placesAfter, isNext, pairTests, testsOf, permitted, howManyAt}
+use Rattle.definitions.specs.PlainLock.{Pair, Places, atStart, placeAfter, advanced, placesAfter, isNext, testsOf, permitted, howManyAt}
 use Rattle.definitions.specs.Threads.{every}
 use Rattle.history.specs.Permitted.{pairFits, permittedFrom}
 use Rattle.theory.proofs.Quantifiers.{howMany-change}

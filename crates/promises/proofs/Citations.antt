@@ -89,6 +89,7 @@ proved =
       turn-low = told.turn-low;
       count-low = told.count-low;
       read-low = told.read-low;
+      read-byte = told.read-byte;
       run-low = told.run-low;
       write-held = write-held;
       refused-keeps = kept.refused-keeps;

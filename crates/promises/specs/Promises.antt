@@ -107,11 +107,12 @@ pub record Promises (M : Type 1) : Type 2 where
       → deliveryReply (readEntry a) out ≡ deliveryReply (readEntry b) back
   pub run-told : (a b out back : List ℕ) → runNumber (deliveryReply (runEntry a) out) ≡ runNumber (deliveryReply (runEntry b) back)
       → deliveryReply (runEntry a) out ≡ deliveryReply (runEntry b) back
-  -- Where an entry accepts, its value has 32 bits, but for the retries, which stand above them.
+  -- Where an entry accepts, its value has 32 bits, but for the retries, which stand above them. The N that reading answers has a byte.
   pub move-low : (table : List ℕ) (r : Request) → Below retryUnit (λ a. seenValue (a .seen)) (moveReply table r)
   pub turn-low : (table : List ℕ) → Below retryUnit turnValue (dispatchReply table)
   pub count-low : (a : CountCall) → Below retryUnit countValue (countReply a)
   pub read-low : (script out : List ℕ) → Below retryUnit listedValue (deliveryReply (readEntry script) out)
+  pub read-byte : (script out : List ℕ) → Below 256 (λ l. l .threads) (deliveryReply (readEntry script) out)
   pub run-low : (script out : List ℕ) → Below retryUnit (λ c. c .bytes) (deliveryReply (runEntry script) out)
   -- Of a list of triples whose indices stand beside a refusal's number, which all are that a memory of 64-bit addresses holds, writing's answer is the reply itself.
   pub write-held : (n : ℕ) (triples out : List ℕ) → length triples ≤ 3 * valueBound → held (deliveryReply (writeEntry n triples) out) ≡ deliveryReply (writeEntry n triples) out

@@ -1,4 +1,5 @@
--- Laws of `listOf`, the list of one entry for each thread below n: its length, its entries, one entry written, and what `anyIn` says of it; what holds of each of a list; a list from an index on; and zeros. For every n.
+-- Laws of `listOf`, the list of one entry for each thread below n: its length, its entries, one entry written, and what `anyIn` says of it. For every n.
+-- Then what holds of each of a list, a list from an index on, and zeros.
 use Prim.Native.Nat.{ℕ, zero, suc, _+_, _-_, _<_}
 use native.Mathlib.Nat.{not-suc-le-zero}
 use native.Mathlib.Numerals.{add-one}

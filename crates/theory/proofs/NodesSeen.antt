@@ -4,9 +4,9 @@ use Prim.Native.Nat.{ℕ, suc, _<_}
 use native.Mathlib.Omega.{arith}
 use mathlib.Core.Bool.{Bool, not, _||_}
 use mathlib.Core.List.{List, [], _∷_, List·Memᴰ}
-use mathlib.Core.Logic.{_⊎_, inl, inr, ⊎-elim}
-use mathlib.Core.Path.{_≡_, refl, sym, subst, ap, _∙_}
-use lib.Dec.{T, eqb, eqb→eq}
+use mathlib.Core.Logic.{inl, inr, ⊎-elim}
+use mathlib.Core.Path.{_≡_, sym, subst, ap, _∙_}
+use lib.Dec.{T, eqb}
 use lib.ListN.{length, getD, replicate, getD-replicate, length-replicate}
 use lib.Seq.{ext-getD, getD-set-same}
 use Rattle.definitions.specs.Answers.{accepted, Seen, quiet, moved}
@@ -58,7 +58,8 @@ unfolding nodesOf
 kept-quiet bytes r t e =
     let s = tableOf bytes in
     let view = figure-1 bytes r t in
-    let below : r .thread < length (nodesOf s) = subst (λ (m : ℕ). r .thread < m) (sym (length-listOf (s .threads) (λ j. nodeOf (s .phase j)))) (accepted-e s r (accepts-e byteTable bytes r t .1) .thread-fits) in
+    let long = length-listOf (s .threads) (λ j. nodeOf (s .phase j)) in
+    let below : r .thread < length (nodesOf s) = subst (λ (m : ℕ). r .thread < m) (sym long) (accepted-e s r (accepts-e byteTable bytes r t .1) .thread-fits) in
     view .reply ∙ ap (λ (x : Seen). accepted (moved x (isRetry s r))) (stays-quiet (nodesOf s) (r .thread) (view .seen) _ below (view .moves) e)
 
 -- ---- a thread in Exclusive
