@@ -62,6 +62,20 @@ pub struct Request {
     pub target: u16,
 }
 
+// "Byte 0 is N, byte 1 the mutex (0 or 1), byte 2 the target"
+pub struct Head {
+    pub threads: u8,
+    pub mutex: u8,
+    pub target: u8,
+}
+
+// "Then for each thread: phase, busy, forbidden."
+pub struct Task {
+    pub phase: u8,
+    pub busy: u8,
+    pub forbidden: u8,
+}
+
 // The eight events, in the order of their codes 1 to 8.
 pub enum Event {
     EnterSharedCall,

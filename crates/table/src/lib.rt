@@ -2,6 +2,7 @@
 // The soundness test is one pass over the threads, whose rules by value stand in the crate soundness.
 mod fresh_table;
 mod layout;
+mod storage;
 mod tests;
 
 pub use fresh_table::fresh;
@@ -12,5 +13,9 @@ pub use layout::THREADS_AT;
 pub use layout::busy_at;
 pub use layout::forbidden_at;
 pub use layout::phase_at;
+pub use storage::read_head;
+pub use storage::read_task;
+pub use storage::write_head;
+pub use storage::write_task;
 pub use tests::Examined;
 pub use tests::examine;

@@ -30,6 +30,7 @@ pub mod Stages
 pub mod SoundChanges
 pub mod SoundSteps
 pub mod MoveWrites
+pub mod Placed
 pub mod Storages
 pub mod Chains
 -- the theorems
