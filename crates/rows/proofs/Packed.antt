@@ -14,8 +14,8 @@ use Rattle.definitions.specs.Bounds.{lastPhase, mostThreads}
 use Rattle.definitions.specs.Phases.{busyIn, holds}
 use Rattle.definitions.specs.Sound.{backedOff}
 use Rattle.definitions.specs.Table.{Table}
-use Rattle.definitions.specs.Threads.{every, howMany}
-use Rattle.soundness.specs.Pass.{threadFits, forbiddenReader, holderPhase, total, tallyBelow, fitBelow, foundOf}
+use Rattle.definitions.specs.Threads.{every, howMany, sumOf}
+use Rattle.soundness.specs.Pass.{threadFits, forbiddenReader, holderPhase, tallyBelow, fitBelow, foundOf}
 use Rattle.soundness.specs.declared.Found.the-variants.{Good, Bad}
 use Rattle.soundness.specs.declared.Tally.{Tally}
 use Rattle.theory.proofs.Cases.{holder-phase}
@@ -58,28 +58,27 @@ module _ (s : Table) where
   row-bad i t = cond-no (fits i) _ oneBad t
 
   -- the total holds the four counts
-  total-good : (n : ℕ) → T (fitBelow s n) → total n (threadRow s) ≡ packedOf (tallyBelow s n)
-  unfolding every howMany total
+  total-good : (n : ℕ) → T (fitBelow s n) → sumOf n (threadRow s) ≡ packedOf (tallyBelow s n)
+  unfolding every howMany
   total-good zero t = refl
   total-good (suc n) t =
       let before = total-good n (and-l (fitBelow s n) (fits n) t) in
       omega (arith, row-good n (and-r (fitBelow s n) (fits n) t))
 
   -- the sum of the holders' phases has room in its field
-  holder-le : (n : ℕ) → total n (λ i. holderPhase (s .phase i)) ≤ lastPhase * n
-  unfolding total
+  holder-le : (n : ℕ) → sumOf n (λ i. holderPhase (s .phase i)) ≤ lastPhase * n
   holder-le zero = omega arith
   holder-le (suc n) =
       let p = s .phase n in
       omega (arith, holder-le n, cond-either (λ (k : ℕ). k ≤ lastPhase) (holds p) p 0 (holder-phase p) (λ _. omega arith))
 
   -- a thread that doesn't fit shows in the total
-  total-bad : (n : ℕ) → T (not (fitBelow s n)) → oneBad ≤ total n (threadRow s)
-  unfolding every total
+  total-bad : (n : ℕ) → T (not (fitBelow s n)) → oneBad ≤ sumOf n (threadRow s)
+  unfolding every
   total-bad zero t = absurd t
   total-bad (suc n) t = by (decided (fitBelow s n)) (total-bad n)
     where
-      by : T (fitBelow s n) ⊎ T (not (fitBelow s n)) → (T (not (fitBelow s n)) → oneBad ≤ total n (threadRow s)) → oneBad ≤ total n (threadRow s) + threadRow s n
+      by : T (fitBelow s n) ⊎ T (not (fitBelow s n)) → (T (not (fitBelow s n)) → oneBad ≤ sumOf n (threadRow s)) → oneBad ≤ sumOf n (threadRow s) + threadRow s n
       by (inl u) rec = omega (arith, row-bad n (subst (λ (b : Bool). T (not (b && fits n))) (T-true (fitBelow s n) u) t))
       by (inr u) rec = omega (arith, rec u)
 
@@ -125,7 +124,7 @@ told-bad x seen h = by (eqb (bitAnd seen high) 0) h
 pub packed : (s : Table) (n total′ seen : ℕ)
     → n ≤ mostThreads
     → eqb (bitAnd seen high) 0 ≡ every n (fewAt s)
-    → (T (every n (fewAt s)) → total′ ≡ total n (threadRow s))
+    → (T (every n (fewAt s)) → total′ ≡ sumOf n (threadRow s))
     → foundBy total′ seen ≡ foundOf s n
 unfolding foundOf
 packed s n total′ seen l bits sums = by (decided (fitBelow s n))

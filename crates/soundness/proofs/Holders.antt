@@ -9,8 +9,8 @@ use borrow.Author.Tests.{ne-eqb}
 use lib.Dec.{T, ltb, eqb, ltb→lt}
 use Rattle.definitions.specs.Bounds.{lastPhase}
 use Rattle.definitions.specs.Phases.{rows, holds}
-use Rattle.definitions.specs.Threads.{every, some, howMany, implies}
-use Rattle.soundness.specs.Pass.{holderPhase, total}
+use Rattle.definitions.specs.Threads.{every, some, howMany, implies, sumOf}
+use Rattle.soundness.specs.Pass.{holderPhase}
 use Rattle.theory.proofs.Cases.{holder-phase}
 use Rattle.theory.proofs.Quantifiers.{every-at}
 use Rattle.theory.proofs.Tests.{implies-e, not-i, T-false, T-true, true-T}
@@ -44,10 +44,10 @@ module _ (phase : ℕ → ℕ) where
   count n = howMany n (λ i. holds (phase i))
 
   abbrev sum : ℕ → ℕ
-  sum n = total n (λ i. holderPhase (phase i))
+  sum n = sumOf n (λ i. holderPhase (phase i))
 
   pub holders : (n : ℕ) → Holders (count n) (sum n)
-  unfolding howMany total
+  unfolding howMany
   holders zero = none refl refl
   holders (suc n) = next (holds (phase n)) (phase n) (count n) (sum n) refl (holders n)
 
@@ -77,7 +77,7 @@ module _ (phase : ℕ → ℕ) where
         ap (λ (b : Bool). before || b) (others p e) ∙ or-false before ∙ rec (omega arith) ∙ ap f (sym (add-zero s))
 
     pub holder-is : (n : ℕ) → count n ≤ 1 → some n (λ i. f (phase i)) ≡ f (sum n)
-    unfolding some howMany total
+    unfolding some howMany
     holder-is zero l = sym nobody
     holder-is (suc n) l =
         step (holds (phase n)) (phase n) (count n) (sum n) (some n (λ i. f (phase i))) refl (sum-none n) (holder-is n) l

@@ -12,12 +12,12 @@ use Rattle.definitions.specs.Phases.{holds, reading}
 use Rattle.definitions.specs.Sound.{phaseRule, flagRule, busyRule, holderRule, targetRule, openRule, rule10, rule11, rule13, rule15, elsewhereRule, mutexRule, opened, sound}
 use Rattle.definitions.specs.Table.{Table}
 use Rattle.definitions.specs.Threads.{howMany, among, between, allOf, implies}
-use Rattle.soundness.specs.Pass.{tallyBelow, fitBelow, foundOf, mutexAgrees, someElsewhere, aimFits, restFits, soundBy, aimOf, passes}
-use Rattle.soundness.specs.declared.Aim.{Aim}
+use Rattle.soundness.specs.Pass.{tallyBelow, fitBelow, foundOf, mutexAgrees, someElsewhere, aimFits, restFits, soundBy, aimedAt, passes}
 use Rattle.soundness.specs.declared.Found.the-variants.{Good, Bad}
 use Rattle.soundness.specs.declared.Tally.{Tally}
 use Rattle.theory.proofs.Cases.{or-at, none-of, is-holder}
 use Rattle.theory.proofs.Tests.{and-cong, and-l, and-r}
+use Rattle.theory.specs.Tables.{headOf, taskOf}
 use Rattle.soundness.proofs.Holders.{Holders, none, one, many, holders}
 use Rattle.soundness.proofs.Rules.{each-fits, flags-of, mutex-is, target-is, open-is, is-10, is-11, is-13, is-15, elsewhere-is}
 
@@ -70,7 +70,7 @@ module _ (s : Table) where
 
   -- the decision
   abbrev by-sum : ℕ → Bool
-  by-sum h = soundBy (tally h) (s .threads) (s .mutex) (s .target) (record { phase = s .phase (s .target); forbidden = s .forbidden (s .target) })
+  by-sum h = soundBy (tally h) (headOf s) (taskOf s (s .target))
 
   abbrev Same : ℕ → Type 0
   Same h = by-rules h ≡ by-sum h
@@ -133,8 +133,8 @@ module _ (s : Table) where
         by (many a b) = ap (λ (x : Bool). x && together) (lt-leb count 1 (omega arith)) ∙ sym (same-many holder b)
 
   -- the target's bytes are asked for where it is a thread
-  aim-same : soundBy (tallyBelow s (s .threads)) (s .threads) (s .mutex) (s .target) (aimOf s) ≡ by-sum holder
-  unfolding soundBy aimOf
+  aim-same : soundBy (tallyBelow s (s .threads)) (headOf s) (taskOf s (aimedAt (headOf s))) ≡ by-sum holder
+  unfolding soundBy
   aim-same = ap (λ (x : Bool). before && cond (between 11 12 holder) x unaimed) (by (ltb (s .target) (s .threads)))
     where
       before : Bool
@@ -143,10 +143,7 @@ module _ (s : Table) where
       unaimed : Bool
       unaimed = eqb (s .target) noTarget && restFits (tally holder) (s .threads)
 
-      at : ℕ → Aim
-      at i = record { phase = s .phase i; forbidden = s .forbidden i }
-
-      by : (b : Bool) → (b && aimFits (tally holder) (at (cond b (s .target) 0))) ≡ (b && aimFits (tally holder) (at (s .target)))
+      by : (b : Bool) → (b && aimFits (tally holder) (taskOf s (cond b (s .target) 0))) ≡ (b && aimFits (tally holder) (taskOf s (s .target)))
       by true = refl
       by false = refl
 
@@ -156,7 +153,7 @@ regroup : (p f b r : Bool) → (p && (f && (b && r))) ≡ (p && (f && b) && r)
 regroup p f b r = simp and-assoc
 
 -- threads that fail by themselves are refused
-either : (s : Table) (x : Bool) (t : Tally) → passes s (cond x (Good t) Bad) ≡ (x && soundBy t (s .threads) (s .mutex) (s .target) (aimOf s))
+either : (s : Table) (x : Bool) (t : Tally) → passes s (cond x (Good t) Bad) ≡ (x && soundBy t (headOf s) (taskOf s (aimedAt (headOf s))))
 unfolding passes
 either s true t = refl
 either s false t = refl

@@ -1,19 +1,21 @@
 -- The soundness test by one pass: what is found of the threads, and what is decided from it.
 -- First the pass: `foundOf s i` is what is found of the threads below i, each field a word on those threads.
--- Then `soundBy`, the decision from what was found of all threads, N, the mutex, the target and the target's bytes.
+-- Then `soundBy`, the decision from what was found of all threads, the head and the task that the target names.
 -- That it is the decision of `sound` stands in proofs/OnePass.
-use Prim.Native.Nat.{ℕ, zero, suc, _+_}
+use Prim.Native.Nat.{ℕ}
 use mathlib.Core.Bool.{Bool, false, cond, not, _&&_, _||_}
 use lib.Dec.{leb, ltb, eqb}
 use Rattle.definitions.specs.Bounds.{lastPhase, noTarget}
 use Rattle.definitions.specs.Phases.{busyIn, holds, reading}
 use Rattle.definitions.specs.Sound.{opened, backedOff}
 use Rattle.definitions.specs.Table.{Table}
-use Rattle.definitions.specs.Threads.{every, howMany, between}
-use Rattle.soundness.specs.declared.Aim.{Aim}
+use Rattle.definitions.specs.Threads.{every, howMany, sumOf, between}
+use Rattle.definitions.specs.declared.Head.{Head}
+use Rattle.definitions.specs.declared.Task.{Task}
 use Rattle.soundness.specs.declared.Found.{Found}
 use Rattle.soundness.specs.declared.Found.the-variants.{Good, Bad}
 use Rattle.soundness.specs.declared.Tally.{Tally}
+use Rattle.theory.specs.Tables.{headOf, taskOf}
 
 -- ---- one thread
 
@@ -31,16 +33,11 @@ holderPhase phase = cond (holds phase) phase 0
 
 -- ---- the pass
 
--- the sum of f 0, f 1, .. up to n - 1
-unfoldable pub total : ℕ → (ℕ → ℕ) → ℕ
-total zero f = 0
-total (suc n) f = total n f + f n
-
 -- what is found of the threads below i, each of which passes the rules by itself
 abbrev pub tallyBelow : Table → ℕ → Tally
 tallyBelow s i =
     record {
-      holder = total i (λ j. holderPhase (s .phase j));
+      holder = sumOf i (λ j. holderPhase (s .phase j));
       forbidden = howMany i (λ j. eqb (s .forbidden j) 1);
       readers = howMany i (λ j. forbiddenReader (s .phase j) (s .forbidden j));
       «backed_off» = howMany i (λ j. backedOff (s .phase j));
@@ -65,7 +62,7 @@ abbrev pub someElsewhere : Tally → ℕ → Bool
 someElsewhere t n = ltb (t .«backed_off») n
 
 -- a holder in 11 or 12: the target's forbidden is 1, and "no thread with forbidden 1, the target excepted, is in 5 to 7."
-unfoldable pub aimFits : Tally → Aim → Bool
+unfoldable pub aimFits : Tally → Task → Bool
 aimFits t aim = eqb (aim .forbidden) 1 && eqb (t .readers) (cond (reading (aim .phase)) 1 0)
 
 -- the rules for no holder, or one in another phase
@@ -84,21 +81,17 @@ restFits t n =
     (eqb (t .holder) 15 && ltb 0 (t .forbidden))))
 
 -- the decision on threads that pass by themselves: the target is a thread where the holder is in 11 or 12, else 255
-unfoldable pub soundBy : Tally → ℕ → ℕ → ℕ → Aim → Bool
-soundBy t n mutex target aim =
-    mutexAgrees t mutex
-    && someElsewhere t n
-    && cond (between 11 12 (t .holder)) (ltb target n && aimFits t aim) (eqb target noTarget && restFits t n)
+unfoldable pub soundBy : Tally → Head → Task → Bool
+soundBy t head aim =
+    mutexAgrees t (head .mutex)
+    && someElsewhere t (head .threads)
+    && cond (between 11 12 (t .holder)) (ltb (head .target) (head .threads) && aimFits t aim) (eqb (head .target) noTarget && restFits t (head .threads))
 
 -- the thread that the target names, and thread 0 where it names none
-abbrev pub aimed : Table → ℕ
-aimed s = cond (ltb (s .target) (s .threads)) (s .target) 0
-
--- its bytes
-unfoldable pub aimOf : Table → Aim
-aimOf s = record { phase = s .phase (aimed s); forbidden = s .forbidden (aimed s) }
+abbrev pub aimedAt : Head → ℕ
+aimedAt head = cond (ltb (head .target) (head .threads)) (head .target) 0
 
 -- the whole decision
 unfoldable pub passes : Table → Found → Bool
-passes s (Good t) = soundBy t (s .threads) (s .mutex) (s .target) (aimOf s)
+passes s (Good t) = soundBy t (headOf s) (taskOf s (aimedAt (headOf s)))
 passes s Bad = false

@@ -1,9 +1,11 @@
 // The soundness test by value: what one pass finds of the threads, and the decision from it. How the pass finds it stands in the
 // crate rows.
 // It knows of no storage. proofs/OnePass.antt shows that it decides the rules of the definitions.
+use definitions::Head;
 use definitions::NO_TARGET;
+use definitions::Task;
 ghost use mathlib.Core.Path.{_≡_};
-ghost use Rattle.soundness.specs.Pass.{mutexAgrees, someElsewhere, aimFits, restFits, soundBy};
+ghost use Rattle.soundness.specs.Pass.{mutexAgrees, someElsewhere, aimFits, restFits, soundBy, aimedAt};
 
 // What one pass finds of threads that pass the rules on one thread by itself.
 pub struct Tally {
@@ -39,14 +41,19 @@ fn some_elsewhere(t: Tally, threads: usize) -> bool
     t.backed_off < threads
 }
 
-// The target's phase and forbidden; where the target is no thread, those of thread 0.
-pub struct Aim {
-    pub phase: u8,
-    pub forbidden: u8,
+// The thread that the target names, and thread 0 where it names none, whose task is there too.
+pub fn aimed_at(head: Head) -> usize
+    ensures { λ r. ⌜ r ≡ aimedAt head ⌝ }
+{
+    let target = head.target as usize;
+    if target < head.threads as usize {
+        return target;
+    }
+    0
 }
 
-// The rules for a holder in 11 or 12.
-fn aim_fits(t: Tally, aim: Aim) -> bool
+// The rules for a holder in 11 or 12, from the target's task.
+fn aim_fits(t: Tally, aim: Task) -> bool
     ensures { λ r. ⌜ r ≡ aimFits t aim ⌝ }
 {
     let reading = (5 <= aim.phase) & (aim.phase <= 7);
@@ -72,16 +79,17 @@ fn rest_fits(t: Tally, threads: usize) -> bool
     }
 }
 
-// The decision from a tally of all threads, their number, the mutex and the target.
-pub fn is_sound(t: Tally, threads: usize, mutex: u8, target: u8, aim: Aim) -> bool
-    ensures { λ r. ⌜ r ≡ soundBy t threads mutex target aim ⌝ }
+// The decision from a tally of all threads, the head, and the task that the target names.
+pub fn is_sound(t: Tally, head: Head, aim: Task) -> bool
+    ensures { λ r. ⌜ r ≡ soundBy t head aim ⌝ }
 {
-    if !(mutex_agrees(t, mutex) & some_elsewhere(t, threads)) {
+    let threads = head.threads as usize;
+    if !(mutex_agrees(t, head.mutex) & some_elsewhere(t, threads)) {
         return false;
     }
     if (11 <= t.holder) & (t.holder <= 12) {
-        let at = target as usize;
+        let at = head.target as usize;
         return (at < threads) & aim_fits(t, aim);
     }
-    (target == NO_TARGET) & rest_fits(t, threads)
+    (head.target == NO_TARGET) & rest_fits(t, threads)
 }

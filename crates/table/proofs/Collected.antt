@@ -12,9 +12,9 @@ use lib.Dec.{T, eqb}
 use Rattle.definitions.specs.Bounds.{mostThreads}
 use Rattle.definitions.specs.Phases.{rows}
 use Rattle.definitions.specs.Table.{Table}
-use Rattle.definitions.specs.Threads.{every}
+use Rattle.definitions.specs.Threads.{every, sumOf}
 use Rattle.rows.specs.Rows.{oneBad, rowFor, rowAt, stateIn, high, fewAt, threadRow, foundBy}
-use Rattle.soundness.specs.Pass.{total, foundOf}
+use Rattle.soundness.specs.Pass.{foundOf}
 use Rattle.table.specs.Words.{threadWord, oddWord}
 use Rattle.rows.proofs.Packed.{packed}
 use Rattle.rows.proofs.RowBounds.{row-most}
@@ -81,7 +81,7 @@ module _ (s : Table) (last : ℕ) where
     pub second-fits : second < 2 ^ 32
     pub most : sum ≤ oneBad * k
     pub few : eqb (bitAnd (bitOr seen (bitOr first second)) high) 0 ≡ fewIn k
-    pub added : T (fewIn k) → sum + (rowAt (stateIn first) + rowAt (stateIn second)) ≡ total k (threadRow s) + restRows
+    pub added : T (fewIn k) → sum + (rowAt (stateIn first) + rowAt (stateIn second)) ≡ sumOf k (threadRow s) + restRows
 
   module _ (here : Bytes s last) (before : Bytes s (last - 1)) where
     odd-fits : oddWord s last < 2 ^ 32
@@ -109,7 +109,7 @@ module _ (s : Table) (last : ℕ) where
         by false t = word-row s (last - 1) 0 before t
 
     pub begun : Collected 0 0 0 (threadWord s last 0) (oddWord s last)
-    unfolding every total
+    unfolding every
     begun =
         record {
           first-fits = word-fits s last 0 here (omega arith);
@@ -129,7 +129,7 @@ module _ (s : Table) (last : ℕ) where
 
     pub gone-on : (above above′ : ℕ) → Bytes s k → Bytes s (suc k) → above < 256 → above′ < 256
         → Collected (suc (suc k)) sum′ seen′ (threadWord s k above) (threadWord s (suc k) above′)
-    unfolding every total
+    unfolding every
     gone-on above above′ one two l l′ =
         let w = threadWord s k above in
         let w′ = threadWord s (suc k) above′ in
@@ -145,7 +145,7 @@ module _ (s : Table) (last : ℕ) where
         }
       where
         more : T (every k (fewAt s) && fewAt s k && fewAt s (suc k)) → T restFew
-            → sum′ + (rowAt (stateIn (threadWord s k above)) + rowAt (stateIn (threadWord s (suc k) above′))) ≡ total k (threadRow s) + threadRow s k + threadRow s (suc k) + restRows
+            → sum′ + (rowAt (stateIn (threadWord s k above)) + rowAt (stateIn (threadWord s (suc k) above′))) ≡ sumOf k (threadRow s) + threadRow s k + threadRow s (suc k) + restRows
         more t r =
             let both = and-l (every k (fewAt s) && fewAt s k) (fewAt s (suc k)) t in
             let before = c .added (and-i (every k (fewAt s)) restFew (and-l (every k (fewAt s)) (fewAt s k) both) r) in
@@ -158,10 +158,10 @@ module _ (s : Table) (last : ℕ) where
 
     -- all threads were at hand
     pub ended : (n : ℕ) → k ≡ 2 * (last / 2) → n ≡ suc last → n ≤ mostThreads → foundBy sum′ seen′ ≡ foundOf s n
-    unfolding every total
+    unfolding every
     ended n even is most = ⊎-elim by-itself with-one (either alone)
       where
-        all : every n (fewAt s) ≡ fewIn k → total n (threadRow s) ≡ total k (threadRow s) + restRows → foundBy sum′ seen′ ≡ foundOf s n
+        all : every n (fewAt s) ≡ fewIn k → sumOf n (threadRow s) ≡ sumOf k (threadRow s) + restRows → foundBy sum′ seen′ ≡ foundOf s n
         all e f = packed s n sum′ seen′ most (c .few ∙ sym e) (λ t. c .added (subst T e t) ∙ sym f)
 
         by-itself : alone ≡ true → foundBy sum′ seen′ ≡ foundOf s n

@@ -1,7 +1,7 @@
 // A fresh table: "A fresh table has mutex 0, target 255, all else 0."
-use crate::layout::TARGET_AT;
-use crate::layout::THREADS_AT;
-use crate::layout::size_of;
+use layout::TARGET_AT;
+use layout::THREADS_AT;
+use layout::size_of;
 use definitions::Answer;
 use definitions::NO_TARGET;
 use definitions::Refusal;

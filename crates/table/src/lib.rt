@@ -1,8 +1,6 @@
-// The byte table: its layout, the tests of the refusals 1 and 2, and a fresh table.
+// The byte table: the tests of the refusals 1 and 2, and a fresh table.
 // The soundness test is one pass over the threads, whose rules by value stand in the crate soundness.
 mod fresh_table;
-mod layout;
-mod storage;
 mod tests;
 
 pub use fresh_table::fresh;
@@ -13,9 +11,5 @@ pub use layout::THREADS_AT;
 pub use layout::busy_at;
 pub use layout::forbidden_at;
 pub use layout::phase_at;
-pub use storage::read_head;
-pub use storage::read_task;
-pub use storage::write_head;
-pub use storage::write_task;
 pub use tests::Examined;
 pub use tests::examine;

@@ -1,22 +1,19 @@
 // The tests of the refusals 1 and 2.
-use crate::layout::MUTEX_AT;
-use crate::layout::TARGET_AT;
-use crate::layout::THREADS_AT;
-use crate::layout::forbidden_at;
-use crate::layout::phase_at;
-use crate::layout::size_of;
 use definitions::Refusal;
 use definitions::count_fits;
-use soundness::Aim;
+use layout::THREADS_AT;
+use layout::phase_at;
+use layout::read_head;
+use layout::read_task;
+use layout::size_of;
 use soundness::Found;
 use soundness::Tally;
+use soundness::aimed_at;
 ghost use Prim.Native.Nat.{_+_, _<_};
-ghost use mathlib.Core.Bool.{cond};
 ghost use mathlib.Core.Path.{_≡_};
-ghost use lib.Dec.{ltb};
 ghost use lib.ListN.{length};
 ghost use Rattle.definitions.specs.Table.{tableOf, sized};
-ghost use Rattle.soundness.specs.Pass.{foundOf, aimOf, passes};
+ghost use Rattle.soundness.specs.Pass.{foundOf, passes};
 ghost use Rattle.soundness.specs.declared.Found.the-variants.{Good};
 ghost use Rattle.theory.specs.Tables.{Sized};
 ghost use Rattle.table.specs.TableTests.{examinedOf};
@@ -109,37 +106,14 @@ fn found(table: &[u8], threads: usize) -> Found
     }
 }
 
-// The thread that the target names, and thread 0 where it names none, whose bytes are there too.
-fn aimed_at(threads: usize, target: usize) -> usize
-    ensures { λ r. ⌜ r ≡ cond (ltb target threads) target 0 ⌝ }
-{
-    if target < threads {
-        return target;
-    }
-    0
-}
-
-// Its phase and forbidden.
-fn aim_of(table: &[u8], threads: usize) -> Aim
-    requires { ⌜ Sized (now table) × (threads ≡ tableOf (now table) .threads) ⌝ }
-    ensures { λ r. ⌜ r ≡ aimOf (tableOf (now (table .entry))) ⌝ }
-{
-    let target = table[TARGET_AT] as usize;
-    let at = aimed_at(threads, target);
-    let phase = table[phase_at(at)];
-    let forbidden = table[forbidden_at(at)];
-    Aim { phase, forbidden }
-}
-
 // The decision on a table from what one pass found of its threads.
-fn decided(table: &[u8], threads: usize, t: Tally) -> bool
-    requires { ⌜ Sized (now table) × (threads ≡ tableOf (now table) .threads) ⌝ }
+fn decided(table: &[u8], t: Tally) -> bool
+    requires { ⌜ Sized (now table) ⌝ }
     ensures { λ r. ⌜ r ≡ passes (tableOf (now (table .entry))) (Good t) ⌝ }
 {
-    let aim = aim_of(table, threads);
-    let mutex = table[MUTEX_AT];
-    let target = table[TARGET_AT];
-    soundness::is_sound(t, threads, mutex, target, aim)
+    let head = read_head(table);
+    let aim = read_task(table, aimed_at(head));
+    soundness::is_sound(t, head, aim)
 }
 
 pub fn examine(table: &[u8]) -> Examined
@@ -153,7 +127,7 @@ pub fn examine(table: &[u8]) -> Examined
     let Found::Good(t) = found else {
         return Examined::Refused(Refusal::Unsound);
     };
-    if decided(table, threads, t) {
+    if decided(table, t) {
         Examined::Sound(threads, t.forbidden)
     } else {
         Examined::Refused(Refusal::Unsound)

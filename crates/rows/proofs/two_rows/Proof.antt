@@ -3,8 +3,8 @@ use Prim.Native.Nat.{ℕ, zero, suc, _+_, _*_, _-_, _^_, _≤_, _<_}
 use native.Mathlib.Numerals.{add-one}
 use native.Mathlib.Omega.{arith}
 use mathlib.Core.Path.{_≡_, refl, sym, subst, ap, _∙_}
+use Rattle.definitions.specs.Threads.{sumOf}
 use Rattle.rows.specs.Rows.{oneBad, rowAt, stateIn}
-use Rattle.soundness.specs.Pass.{total}
 use Rattle.rows.proofs.RowBounds.{row-most}
 use Rattle.rows.proofs.two_rows.Statement.{statement}
 use Rattle.rows.proofs.two_rows.Tie as tie
@@ -14,7 +14,7 @@ wordAt first second zero = first
 wordAt first second (suc turn) = second
 
 abbrev rowsTo : ℕ → ℕ → ℕ → ℕ
-rowsTo first second turns = total turns (λ turn. rowAt (stateIn (wordAt first second turn)))
+rowsTo first second turns = sumOf turns (λ turn. rowAt (stateIn (wordAt first second turn)))
 
 record Passed (first second sum word turns : ℕ) : Type 0 where
   within : turns ≤ 2
@@ -29,7 +29,6 @@ module _ (first second sum word turns row : ℕ) (p : Passed first second sum wo
   row-few = subst (λ (x : ℕ). x ≤ oneBad) (sym r) (row-most (stateIn word))
 
   turned : turns ≤ 1 → second < 2 ^ 32 → Passed first second (sum + row) second (suc turns)
-  unfolding total
   turned h s =
       record {
         within = omega arith;
@@ -46,7 +45,6 @@ abbrev μ-loop : tie.MeasureT-loop
 μ-loop first second sum₀ word₀ counter₀ sum word counter = 2 - counter
 
 loop-holds : tie.Need-loop-holds Inv-loop μ-loop
-unfolding total
 loop-holds c = record { within = omega arith; short = c .pre .0; word-is = refl; so-far = refl; few = omega arith }
 
 row-in-requires : tie.Need-row-in-requires Inv-loop μ-loop
@@ -69,7 +67,6 @@ loop-again c =
     rw add-one (turned _ _ _ _ _ (c .row-in .result) (at .loop .inv) (c .row-in .ensures) (omega arith) (at .before .pre .1))
 
 returns : tie.Need-returns Inv-loop μ-loop
-unfolding total
 returns c =
     let at = c .before in
     let a = at .before .args in

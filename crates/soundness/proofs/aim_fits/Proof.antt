@@ -10,8 +10,8 @@ use mir.Val.{boolByte}
 use Rattle.definitions.specs.Bounds.{lastPhase}
 use Rattle.definitions.specs.Phases.{Row, rows, reading}
 use Rattle.definitions.specs.Threads.{every, between, implies}
+use Rattle.definitions.specs.declared.Task.{Task}
 use Rattle.soundness.specs.Pass.{aimFits}
-use Rattle.soundness.specs.declared.Aim.{Aim}
 use Rattle.soundness.specs.declared.Tally.{Tally}
 use Rattle.theory.proofs.Cases.{no-row}
 use Rattle.theory.proofs.Casts.{cast-is}
@@ -33,7 +33,7 @@ reads p = same-test (between 5 7 p) (reading p) to (λ t. ⊎-elim (from t) (λ 
     from : T (reading p) → p < suc lastPhase → T (between 5 7 p)
     from t l = implies-e (reading p) (between 5 7 p) (every-at (λ q. implies (reading q) (between 5 7 q)) (suc lastPhase) tt p l) t
 
-module _ (t : Tally) (aim : Aim) where
+module _ (t : Tally) (aim : Task) where
   same : (eqb (aim .forbidden) 1 && eqb (t .readers) (boolByte (between 5 7 (aim .phase)))) ≡ aimFits t aim
   unfolding aimFits
   same = ap (λ (k : ℕ). eqb (aim .forbidden) 1 && eqb (t .readers) k) (cast-is (between 5 7 (aim .phase)) ∙ ap (λ (b : Bool). cond b 1 0) (reads (aim .phase)))

@@ -4,22 +4,15 @@ use mathlib.Core.Path.{_≡_, _∙_}
 use borrow.Author.Needs.{needs}
 use borrow.Author.Tests.{not-true, not-false}
 use Rattle.soundness.specs.Pass.{mutexAgrees, someElsewhere, soundBy}
-use Rattle.soundness.specs.declared.Tally.{Tally}
 use Rattle.soundness.proofs.is_sound.Statement.{statement}
 use Rattle.soundness.proofs.is_sound.Tie as tie
 
-mutex-agrees-requires : tie.Need-mutex-agrees-requires
-mutex-agrees-requires c κs = search needs
-
-some-elsewhere-requires : tie.Need-some-elsewhere-requires
-some-elsewhere-requires c κs = search needs
-
 -- the first test by what its two parts answer
 module _ (c : tie.After-some-elsewhere) where
-  abbrev t : Tally
-  t = c .before .before .args .t
+  abbrev start : tie.Start
+  start = c .before .before .before
 
-  first : (mutexAgrees t (c .before .before .args .mutex) && someElsewhere t (c .before .before .args .threads))
+  first : (mutexAgrees (start .args .t) (start .args .head .mutex) && someElsewhere (start .args .t) (start .args .head .threads))
       ≡ (c .before .mutex-agrees .result && c .some-elsewhere .result)
   first = cc (c .before .mutex-agrees .ensures, c .some-elsewhere .ensures)
 
@@ -27,23 +20,17 @@ returns : tie.Need-returns
 unfolding soundBy
 returns c = simp (first (c .before) ∙ not-true _ (c .if1 .taken))
 
-aim-fits-requires : tie.Need-aim-fits-requires
-aim-fits-requires c κs = search needs
-
 returns-2 : tie.Need-returns-2
 unfolding soundBy
 returns-2 c =
-    let at = c .before in
+    let at = c .before .before in
     let left = at .before .before .before in
     simp (first (left .before) ∙ not-false _ (left .if1 .left), at .if2 .taken, c .aim-fits .ensures)
-
-rest-fits-requires : tie.Need-rest-fits-requires
-rest-fits-requires c κs = search needs
 
 returns-3 : tie.Need-returns-3
 unfolding soundBy
 returns-3 c =
-    let at = c .before in
+    let at = c .before .before in
     let left = at .before .before .before in
     simp (first (left .before) ∙ not-false _ (left .if1 .left), at .if2 .left, c .rest-fits .ensures)
 
@@ -51,10 +38,12 @@ pub is-sound-spec : {M : Type 1} → statement M
 is-sound-spec =
     tie.close
     (tie.spec
-    mutex-agrees-requires
-    some-elsewhere-requires
+    (λ c. search needs)
+    (λ c κs. search needs)
+    (λ c κs. search needs)
     returns
-    aim-fits-requires
+    (λ c. search needs)
+    (λ c κs. search needs)
     returns-2
-    rest-fits-requires
+    (λ c κs. search needs)
     returns-3)

@@ -91,7 +91,7 @@ returns-2 c =
     bad (left .before .before .before .args .table .now) (at .found .result) (right left) (at .found .ensures) (c .enum-told .given .1)
 
 decided-requires : tie.Need-decided-requires
-decided-requires c κs = (as-numbers (c .before .before .before .before .before), refl)
+decided-requires c κs = as-numbers (c .before .before .before .before .before)
 
 returns-3 : tie.Need-returns-3
 returns-3 c =
