@@ -1,4 +1,4 @@
--- What the tests of a request answer, and the tests 4 to 7 of a thread's request from the numbers that they speak of.
+-- What the tests of a request answer, and the tests 4 to 7 of a thread's request from the head and the mover.
 use Prim.Native.Nat.{ℕ, zero, suc, _+_, _/_, _^_}
 use mathlib.Core.Bool.{Bool, cond, not}
 use mathlib.Core.List.{List, [], _∷_}
@@ -8,6 +8,9 @@ use Rattle.definitions.specs.Answers.{Reply, accepted, refused, numberOf, Test,
 use Rattle.definitions.specs.Bounds.{lastMove}
 use Rattle.definitions.specs.Moves.{namesThread, targetFits, mustWait}
 use Rattle.definitions.specs.Phases.{hasMove}
+use Rattle.definitions.specs.declared.Head.{Head}
+use Rattle.definitions.specs.declared.Request.{Request}
+use Rattle.definitions.specs.declared.Task.{Task}
 use Rattle.requests.specs.declared.Tested.{Tested}
 use Rattle.requests.specs.declared.Tested.the-variants.{Passed, Refused}
 
@@ -20,13 +23,13 @@ testedAt place (Refused x) = refused (numberOf x) place
 abbrev pub testedReply : Tested → Reply (Unit {0})
 testedReply = testedAt 0
 
--- what `requestTests` asks behind the thread's number, of N, the thread's phase and the mutex
-abbrev pub laterTests : ℕ → ℕ → ℕ → ℕ → ℕ → List Test
-laterTests n phase mutex mv target =
-    test 4 (leb mv lastMove)
-    ∷ test 5 (targetFits n mv target)
-    ∷ test 6 (hasMove mv phase)
-    ∷ test 7 (not (mustWait phase mutex mv))
+-- what `requestTests` asks behind the thread's number, of the head and the mover
+abbrev pub laterTests : Head → Task → Request → List Test
+laterTests head mover r =
+    test 4 (leb (r .mv) lastMove)
+    ∷ test 5 (targetFits (head .threads) (r .mv) (r .target))
+    ∷ test 6 (hasMove (r .mv) (mover .phase))
+    ∷ test 7 (not (mustWait (mover .phase) (head .mutex) (r .mv)))
     ∷ []
 
 -- a number with a bit for each number below n, 1 where the test holds of it

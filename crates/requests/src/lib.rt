@@ -1,11 +1,14 @@
-// Which moves a phase has, the tests 3 to 5 of a request's numbers, and the tests 4 to 7 of a request by a thread, by value and apart from any storage.
+// Which moves a phase has, the tests 3 to 5 of a request's numbers, and the tests 4 to 7 of a request by a thread, by value and
+// apart from any storage.
 use definitions::CLEAR;
 use definitions::HOLD;
+use definitions::Head;
 use definitions::LAST_MOVE;
 use definitions::PHASE_COUNT;
 use definitions::Refusal;
 use definitions::Request;
 use definitions::SET;
+use definitions::Task;
 ghost use Prim.Native.Nat.{ℕ, _≤_};
 ghost use mathlib.Core.Path.{_≡_};
 ghost use lib.Dec.{T};
@@ -120,24 +123,24 @@ pub fn must_wait(phase: u8, mutex: u8, mv: u8) -> bool
     ((phase == 9) | (mv == HOLD)) & (mutex == 1)
 }
 
-// The tests 4 to 7 of a request by a thread in a phase, in their order.
-pub fn test_move(threads: usize, phase: u8, mutex: u8, mv: u16, target: u16) -> Tested
-    requires { ⌜ phase ≤ lastPhase ⌝ }
-    ensures { λ r. ⌜ testedReply r ≡ answered (laterTests threads phase mutex mv target) tt ⌝ }
+// The tests 4 to 7 of a request by a thread, in their order.
+pub fn test_move(head: Head, mover: Task, request: Request) -> Tested
+    requires { ⌜ mover .phase ≤ lastPhase ⌝ }
+    ensures { λ r. ⌜ testedReply r ≡ answered (laterTests head mover request) tt ⌝ }
 {
-    if (LAST_MOVE as u16) < mv {
+    if (LAST_MOVE as u16) < request.mv {
         return Tested::Refused(Refusal::NoMove);
     }
-    let small = mv as u8;
-    let fits = target_fits(threads, small, target as usize);
-    let exists = has_move(phase, small);
+    let small = request.mv as u8;
+    let fits = target_fits(head.threads as usize, small, request.target as usize);
+    let exists = has_move(mover.phase, small);
     if !fits {
         return Tested::Refused(Refusal::BadTarget);
     }
     if !exists {
         return Tested::Refused(Refusal::NotInPhase);
     }
-    if must_wait(phase, mutex, small) {
+    if must_wait(mover.phase, head.mutex, small) {
         return Tested::Refused(Refusal::MutexHeld);
     }
     Tested::Passed

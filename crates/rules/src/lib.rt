@@ -1,153 +1,34 @@
+// The rules of the moves, by value and apart from any storage: which step (crate arms) a move that passed its tests makes, by
+// the move's number and the mover's phase.
+use arms::Decided;
+use arms::View;
+use arms::clear_flag;
+use arms::look;
+use arms::pass;
+use arms::probe;
+use arms::set_busy;
+use arms::set_flag;
+use arms::set_mutex;
+use arms::show;
+use arms::take_back;
 use definitions::CALL_EXCLUSIVE;
 use definitions::CALL_SHARED;
 use definitions::CLEAR;
 use definitions::Event;
 use definitions::GO;
 use definitions::HOLD;
-use definitions::Head;
-use definitions::NO_TARGET;
-use definitions::Outcome;
 use definitions::RELENT;
-use definitions::Request;
 use definitions::SET;
-use definitions::Task;
+ghost use Rattle.definitions.specs.Codes.{go};
+ghost use Rattle.arms.specs.View.{Decides};
 
-pub fn subject_of(head: Head, mover: Task, request: Request) -> usize
-{
-    let mv = request.mv as u8;
-    if requests::names_thread(mv) {
-        return request.target as usize;
-    }
-    if (11 <= mover.phase) & (mover.phase <= 12) {
-        return head.target as usize;
-    }
-    request.thread as usize
-}
-
-pub struct Others {
-    pub set: bool,
-    pub clear: bool,
-}
-
-pub fn others_of(threads: usize, count: usize, forbidden: u8) -> Others
-{
-    let one = forbidden as usize;
-    let rest = threads - 1;
-    let all = rest + one;
-    Others {
-        set: count == all,
-        clear: count == one,
-    }
-}
-
-// What a move may read: the head, the mover, the subject with its number, and what the other flags are.
-pub struct View {
-    pub head: Head,
-    pub mover: Task,
-    pub number: u8,
-    pub subject: Task,
-    pub others: Others,
-}
-
-// What it leaves: the head, the mover's phase and busy, the subject's forbidden; and its answer.
-pub struct Decided {
-    pub head: Head,
-    pub mover: Task,
-    pub forbidden: u8,
-    pub outcome: Outcome,
-}
-
-fn in_phase(task: Task, phase: u8) -> Task
-{
-    Task { phase, busy: task.busy, forbidden: task.forbidden }
-}
-
-fn unseen(retry: bool) -> Outcome
-{
-    if retry {
-        return Outcome::Retry;
-    }
-    Outcome::Quiet
-}
-
-fn pass(v: View, phase: u8, retry: bool) -> Decided
-{
-    let head = v.head;
-    let mover = in_phase(v.mover, phase);
-    let subject = v.subject;
-    let outcome = unseen(retry);
-    Decided { head, mover, forbidden: subject.forbidden, outcome }
-}
-
-fn show(v: View, phase: u8, event: Event) -> Decided
-{
-    let head = v.head;
-    let mover = in_phase(v.mover, phase);
-    let subject = v.subject;
-    Decided {
-        head, mover, forbidden: subject.forbidden,
-        outcome: Outcome::Shown(event),
-    }
-}
-
-fn set_busy(v: View, phase: u8, busy: u8) -> Decided
-{
-    let head = v.head;
-    let was = v.mover;
-    let mover = Task { phase, busy, forbidden: was.forbidden };
-    let subject = v.subject;
-    Decided { head, mover, forbidden: subject.forbidden, outcome: Outcome::Quiet }
-}
-
-fn set_mutex(v: View, phase: u8, mutex: u8, retry: bool) -> Decided
-{
-    let was = v.head;
-    let head = Head { threads: was.threads, mutex, target: was.target };
-    let mover = in_phase(v.mover, phase);
-    let subject = v.subject;
-    let outcome = unseen(retry);
-    Decided { head, mover, forbidden: subject.forbidden, outcome }
-}
-
-// with another target and forbidden
-fn aim(v: View, phase: u8, target: u8, forbidden: u8, retry: bool) -> Decided
-{
-    let was = v.head;
-    let head = Head { threads: was.threads, mutex: was.mutex, target };
-    let mover = in_phase(v.mover, phase);
-    let outcome = unseen(retry);
-    Decided { head, mover, forbidden, outcome }
-}
-
-fn look(v: View) -> Decided
-{
-    let mover = v.mover;
-    if mover.forbidden == 0 {
-        return pass(v, 5, false);
-    }
-    pass(v, 3, false)
-}
-
-fn probe(v: View) -> Decided
-{
-    let subject = v.subject;
-    if subject.busy == 1 {
-        return pass(v, 12, true);
-    }
-    let others = v.others;
-    let all = others.set & (subject.forbidden == 1);
-    if all {
-        return aim(v, 13, NO_TARGET, subject.forbidden, false);
-    }
-    aim(v, 10, NO_TARGET, subject.forbidden, false)
-}
-
-fn take_back(v: View) -> Decided
-{
-    aim(v, 10, NO_TARGET, 0, false)
-}
-
+// The phases of Table 1 of source document 000, by number:
+//  0 Free; 1 to 4 the reader raises busy, looks at its forbidden, and lowers busy where it is 1; 18 it holds the mutex
+//  before it tries again; 5 LOE; 6 Shared; 7, 8 it lowers busy and leaves;
+//  9 EE; 10 to 12 the writer holds the mutex and sets a forbidden, looks at that thread's busy, or takes the forbidden back;
+// 13 LOS; 14 Exclusive; 15 it clears every forbidden; 16, 17 it lets the mutex go and leaves.
 fn go(v: View) -> Decided
+    ensures { λ r. ⌜ Decides v go r ⌝ }
 {
     let mover = v.mover;
     let phase = mover.phase;
@@ -172,34 +53,10 @@ fn go(v: View) -> Decided
     }
 }
 
-fn set_flag(v: View) -> Decided
-{
-    let mover = v.mover;
-    let subject = v.subject;
-    let head = v.head;
-    let again = (mover.phase == 15) | (subject.forbidden == 1);
-    if mover.phase == 10 {
-        return aim(v, 11, v.number, 1, again);
-    }
-    aim(v, mover.phase, head.target, 1, again)
-}
-
-fn clear_flag(v: View) -> Decided
-{
-    let mover = v.mover;
-    let subject = v.subject;
-    let head = v.head;
-    let again = subject.forbidden == 0;
-    let others = v.others;
-    if others.clear {
-        return aim(v, 16, head.target, 0, again);
-    }
-    aim(v, mover.phase, head.target, 0, again)
-}
-
+// What a move writes and shows. Callers ask for a move that has passed its tests.
 pub fn decide(v: View, mv: u8) -> Decided
+    ensures { λ r. ⌜ Decides v mv r ⌝ }
 {
-    let mover = v.mover;
     match mv {
         GO => go(v),
         CALL_SHARED => show(v, 1, Event::EnterSharedCall),
@@ -208,6 +65,6 @@ pub fn decide(v: View, mv: u8) -> Decided
         CLEAR => clear_flag(v),
         RELENT => pass(v, 12, true),
         HOLD => set_mutex(v, 18, 1, true),
-        _ => pass(v, mover.phase, false),
+        _ => pass(v, 0, false),
     }
 }

@@ -12,25 +12,20 @@ use Rattle.theory.proofs.Tests.{true-T}
 use Rattle.requests.proofs.test_move.Statement.{statement}
 use Rattle.requests.proofs.test_move.Tie as tie
 
-cast-if1 : tie.Need-cast-if1
-cast-if1 c = search needs
-
 returns : tie.Need-returns
 unfolding answered
 returns c = rw (lt-leb _ _ (c .if1 .taken))
 
-cast-small : tie.Need-cast-small
-cast-small c = search needs
+-- where test 4 is passed and the two that follow are made
+module _ (c : tie.After-has-move) where
+  abbrev left : tie.Else1
+  left = c .before .before .before .before .before
 
-target-fits-requires : tie.Need-target-fits-requires
-target-fits-requires c κs = search needs
+  abbrev start : tie.Start
+  start = left .before .before
 
-has-move-requires : tie.Need-has-move-requires
-has-move-requires c κs = search needs
-
--- test 4 is passed where the others are made
-known : (c : tie.After-has-move) → leb (c .before .before .before .args .mv) lastMove ≡ true
-known c = le-leb _ _ (c .before .before .if1 .left)
+  known : leb (start .args .request .mv) lastMove ≡ true
+  known = le-leb _ _ (left .if1 .left)
 
 returns-2 : tie.Need-returns-2
 unfolding answered
@@ -38,8 +33,8 @@ returns-2 c =
     let at = c .before in
     rw (known at, sym (at .before .target-fits .ensures) ∙ not-true (at .before .target-fits .result) (c .if2 .taken))
 
--- and test 5
-fits : (c : tie.Else2) → targetFits (c .before .before .before .before .args .threads) (c .before .before .before .before .args .mv) (c .before .before .before .before .args .target) ≡ true
+-- test 5 is passed
+fits : (c : tie.Else2) → let a = start (c .before) .args in targetFits (a .head .threads) (a .request .mv) (a .request .target) ≡ true
 fits c = sym (c .before .before .target-fits .ensures) ∙ not-false _ (c .if2 .left)
 
 returns-3 : tie.Need-returns-3
@@ -49,11 +44,8 @@ returns-3 c =
     rw (known at, fits (c .before), sym (at .has-move .ensures) ∙ not-true (at .has-move .result) (c .if3 .taken))
 
 -- and test 6
-exists : (c : tie.Else3) → hasMove (c .before .before .before .before .before .args .mv) (c .before .before .before .before .before .args .phase) ≡ true
+exists : (c : tie.Else3) → let a = start (c .before .before) .args in hasMove (a .request .mv) (a .mover .phase) ≡ true
 exists c = sym (c .before .before .has-move .ensures) ∙ not-false _ (c .if3 .left)
-
-must-wait-requires : tie.Need-must-wait-requires
-must-wait-requires c κs = search needs
 
 returns-4 : tie.Need-returns-4
 unfolding answered
@@ -71,13 +63,15 @@ pub test-move-spec : {M : Type 1} → statement M
 test-move-spec =
     tie.close
     (tie.spec
-    cast-if1
+    (λ c. search needs)
     returns
-    cast-small
-    target-fits-requires
-    has-move-requires
+    (λ c. search needs)
+    (λ c. search needs)
+    (λ c. search needs)
+    (λ c κs. search needs)
+    (λ c κs. search needs)
     returns-2
     returns-3
-    must-wait-requires
+    (λ c κs. search needs)
     returns-4
     returns-5)

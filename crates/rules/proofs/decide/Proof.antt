@@ -7,7 +7,8 @@ use Rattle.definitions.specs.Bounds.{lastMove}
 use Rattle.definitions.specs.Codes.{go, callShared, callExclusive, setMove, clearMove, relent, hold}
 use Rattle.definitions.specs.Moves.{effect, isRetry}
 use Rattle.theory.proofs.Matches.{above}
-use Rattle.rules.proofs.Arms.{unseen-says, move-arm, called, hold-retry, no-arm}
+use Rattle.arms.proofs.Steps.{unseen-says, move-arm}
+use Rattle.rules.proofs.Arms.{called, hold-retry, no-arm}
 use Rattle.rules.proofs.decide.Statement.{statement}
 use Rattle.rules.proofs.decide.Tie as tie
 
@@ -25,10 +26,10 @@ decide-spec =
     (λ c κs. search needs)
     (λ c κs. search needs)
     (λ c. called _ _ go _ (c .before .match .keys1) (c .go .ensures))
-    (λ c. move-arm _ _ callShared _ _ (c .before .match .keys2) (c .show .ensures) (λ s r a seen. record { cells = refl; says = refl }))
-    (λ c. move-arm _ _ callExclusive _ _ (c .before .match .keys3) (c .show2 .ensures) (λ s r a seen. record { cells = refl; says = refl }))
+    (λ c. move-arm _ _ callShared _ _ (c .before .match .keys2) (c .show .ensures) (λ s r a seen. record { head = refl; mover = refl; flag = refl; says = refl }))
+    (λ c. move-arm _ _ callExclusive _ _ (c .before .match .keys3) (c .show2 .ensures) (λ s r a seen. record { head = refl; mover = refl; flag = refl; says = refl }))
     (λ c. called _ _ setMove _ (c .before .match .keys4) (c .set-flag .ensures))
     (λ c. called _ _ clearMove _ (c .before .match .keys5) (c .clear-flag .ensures))
-    (λ c. move-arm _ _ relent _ _ (c .before .match .keys6) (c .pass .ensures) (λ s r a seen. record { cells = refl; says = refl }))
-    (λ c. move-arm _ _ hold _ _ (c .before .match .keys7) (c .hold .ensures) (λ s r a seen. record { cells = refl; says = unseen-says true _ (hold-retry s r a) }))
+    (λ c. move-arm _ _ relent _ _ (c .before .match .keys6) (c .pass .ensures) (λ s r a seen. record { head = refl; mover = refl; flag = refl; says = refl }))
+    (λ c. move-arm _ _ hold _ _ (c .before .match .keys7) (c .set-mutex .ensures) (λ s r a seen. record { head = refl; mover = refl; flag = refl; says = unseen-says true _ (hold-retry s r a) }))
     (λ c. no-arm _ _ _ (above (suc lastMove) _ (c .before .match .rest))))
