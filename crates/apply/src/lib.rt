@@ -1,48 +1,52 @@
-use definitions::Outcome;
+// An accepted request made on a sound byte table: the head, the mover and the subject are read, the rules decide, and what they
+// decided is written.
+use arms::Decided;
 use definitions::Request;
 use definitions::Task;
-use rules::Decided;
-use rules::View;
+use layout::read_head;
+use layout::read_task;
+use layout::write_head;
+use layout::write_task;
+use moving::Made;
+ghost use mathlib.Core.Path.{_≡_};
+ghost use Rattle.definitions.specs.Table.{byteTable};
+ghost use Rattle.theory.specs.Tables.{putBack};
+ghost use Rattle.apply.specs.MoveMade.{MoveTried, Accepting, TwoThreads};
 
-pub struct Made {
-    pub outcome: Outcome,
-    pub forbidden: usize,
-}
-
-fn recount(forbidden: usize, before: u8, after: u8) -> usize
-{
-    if before == after {
-        return forbidden;
-    }
-    let was = before == 1;
-    let is = after == 1;
-    let rest = forbidden - was as usize;
-    rest + is as usize
-}
-
-
-// The subject's forbidden is written after the mover: they may be one thread.
-fn store(table: &mut [u8], thread: usize, subject: usize, d: Decided)
+// The mover is written first, and the subject is read again: they may be one thread.
+fn store(table: &mut [u8], thread: usize, number: usize, d: Decided)
+    requires { ⌜ TwoThreads (now table) thread number ⌝ }
+    ensures { λ _. ⌜ now (table .exit) ≡ putBack byteTable (now (table .entry)) thread number (d .head) (d .mover) (d .forbidden) ⌝ }
 {
     let mover = d.mover;
-    table::write_task(table, thread, mover);
-    let aimed = table::read_task(table, subject);
-    table::write_task(table, subject, Task { phase: aimed.phase, busy: aimed.busy, forbidden: d.forbidden });
+    write_task(table, thread, mover);
+    let was = read_task(table, number);
+    let subject = Task {
+        phase: was.phase,
+        busy: was.busy,
+        forbidden: d.forbidden,
+    };
+    write_task(table, number, subject);
     let head = d.head;
-    table::write_head(table, head);
+    write_head(table, head);
 }
 
 pub fn apply_request(table: &mut [u8], forbidden: usize, request: Request) -> Made
+    requires { ⌜ Accepting (now table) forbidden request ⌝ }
+    ensures { λ r. ⌜ MoveTried (now (table .entry)) request (now (table .exit)) r ⌝ }
 {
     let thread = request.thread as usize;
-    let head = table::read_head(table);
-    let mover = table::read_task(table, thread);
-    let number = rules::subject_of(head, mover, request);
-    let subject = table::read_task(table, number);
-    let others = rules::others_of(head.threads as usize, forbidden, subject.forbidden);
-    let d = rules::decide(View { head, mover, number: number as u8, subject, others }, request.mv as u8);
-    let outcome = d.outcome;
+    let head = read_head(table);
+    let mover = read_task(table, thread);
+    let number = arms::subject_of(head, mover, request);
+    let subject = read_task(table, number);
+    let v = moving::view_of(head, mover, number, subject, forbidden);
+    let d = rules::decide(v, request.mv as u8);
     store(table, thread, number, d);
-    let forbidden = recount(forbidden, subject.forbidden, d.forbidden);
-    Made { outcome, forbidden }
+    let left = moving::recount(forbidden, subject.forbidden, d.forbidden);
+    let outcome = d.outcome;
+    Made {
+        outcome,
+        forbidden: left,
+    }
 }

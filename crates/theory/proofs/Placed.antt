@@ -14,7 +14,7 @@ use Rattle.definitions.specs.declared.Head.{Head}
 use Rattle.definitions.specs.declared.Request.{Request}
 use Rattle.definitions.specs.declared.Task.{Task}
 use Rattle.theory.specs.Statements.{subjectOf}
-use Rattle.theory.specs.Tables.{Keeps, Told, forbiddenCount, headOf, taskOf, flagged, headWrites, taskWrites, putHead, putTask, headWith, moverWith, flagWith, headAfter, moverAfter, flagAfter}
+use Rattle.theory.specs.Tables.{Keeps, Told, forbiddenCount, headOf, taskOf, flagged, headWrites, taskWrites, putTask, putBack, headWith, moverWith, flagWith, headAfter, moverAfter, flagAfter}
 use Rattle.theory.proofs.MoveWrites.{Within, WithinOne, effect-within, writes-fit, subject-thread}
 use Rattle.theory.proofs.Quantifiers.{howMany-change}
 use Rattle.theory.proofs.Tests.{same?}
@@ -120,12 +120,12 @@ put-back s i t h m f own =
 -- ---- an accepted request
 
 -- what its writes make of the head, the mover and the subject's flag
-pub record Made (s : Table) (r : Request) (h : Head) (m : Task) (f : ℕ) : Type 0 where
+pub record MadeBy (s : Table) (r : Request) (h : Head) (m : Task) (f : ℕ) : Type 0 where
   pub head : h ≡ headAfter (headOf s) (effect s r .writes)
   pub mover : m ≡ moverAfter (taskOf s (r .thread)) (effect s r .writes)
   pub flag : f ≡ flagAfter (s .forbidden (subjectOf s r)) (effect s r .writes)
 
-module _ (s : Table) (r : Request) (a : T (accepts s r)) (h : Head) (m : Task) (f : ℕ) (made : Made s r h m f) where
+module _ (s : Table) (r : Request) (a : T (accepts s r)) (h : Head) (m : Task) (f : ℕ) (made : MadeBy s r h m f) where
   abbrev ws : List Write
   ws = effect s r .writes
 
@@ -152,7 +152,7 @@ module _ (s : Table) (r : Request) (a : T (accepts s r)) (h : Head) (m : Task) (
 
 -- the same through a storage
 module _ {B : Type 0} (S : Storage B) (keeps : Keeps S) (told : Told S) (b : B) (fits : T (S .fits b)) where
-  module _ (r : Request) (a : T (accepts (S .table b) r)) (h : Head) (m : Task) (f : ℕ) (made : Made (S .table b) r h m f) where
+  module _ (r : Request) (a : T (accepts (S .table b) r)) (h : Head) (m : Task) (f : ℕ) (made : MadeBy (S .table b) r h m f) where
     abbrev s : Table
     s = S .table b
 
@@ -199,7 +199,7 @@ module _ {B : Type 0} (S : Storage B) (keeps : Keeps S) (told : Told S) (b : B) 
     two-fits = keeps .fits one (taskWrites u subject) one-fits (there-too, (there-too, (there-too, tt)))
 
     -- the mover, then the subject with its flag, then the head: what the writes store
-    pub store-law : putHead S (putTask S (putTask S b i m) u (flagged (taskOf (S .table (putTask S b i m)) u) f)) h ≡ S .store b (effect s r .writes)
+    pub store-law : putBack S b i u h m f ≡ S .store b (effect s r .writes)
     store-law =
         told _ _ (keeps .fits two (headWrites h) two-fits (tt, (tt, tt))) (keeps .fits b (effect s r .writes) fits (writes-fit s r a))
         (keeps .writes two (headWrites h) two-fits (tt, (tt, tt))

@@ -57,6 +57,10 @@ putHead S b h = S .store b (headWrites h)
 abbrev pub putTask : {B : Type 0} → Storage B → B → ℕ → Task → B
 putTask S b i t = S .store b (taskWrites i t)
 
+-- a mover, then a subject with its forbidden, which may be the same thread, then a head
+abbrev pub putBack : {B : Type 0} → Storage B → B → ℕ → ℕ → Head → Task → ℕ → B
+putBack S b i t h m f = putHead S (putTask S (putTask S b i m) t (flagged (taskOf (S .table (putTask S b i m)) t) f)) h
+
 -- a write as it shows in the head, in its mover's phase and busy, and in its subject's forbidden
 abbrev pub headWith : Head → Write → Head
 headWith h (mutex≔ v) = record { threads = h .threads; mutex = v; target = h .target }

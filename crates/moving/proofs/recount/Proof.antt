@@ -7,8 +7,8 @@ use borrow.Author.Needs.{needs}
 use lib.Dec.{eqb}
 use mir.Val.{boolByte}
 use Rattle.theory.proofs.Casts.{cast-is, cast-most}
-use Rattle.apply.proofs.recount.Statement.{statement}
-use Rattle.apply.proofs.recount.Tie as tie
+use Rattle.moving.proofs.recount.Statement.{statement}
+use Rattle.moving.proofs.recount.Tie as tie
 
 -- a cast
 record Cast (b : Bool) : Type 0 where

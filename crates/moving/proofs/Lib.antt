@@ -1,0 +1,3 @@
+-- Counts of flags; then one move as a whole, over any storage.
+pub mod Counts
+pub mod OneMove
