@@ -1,9 +1,9 @@
 // The move entry, and the same for a table that was tested before.
 use crate::request::test_request;
-use apply::Made;
 use apply::apply_request;
 use definitions::Outcome;
 use definitions::Request;
+use moving::Made;
 use requests::Tested;
 use table::Examined;
 ghost use Rattle.apply.specs.MoveMade.{MoveMade, MoveTried, TestedTable};

@@ -1,58 +1,77 @@
--- `test_request` meets its contract: the thread's test, then those of its phase.
-use native.Mathlib.Omega.{arith}
+-- `test_request` meets its contract: the thread's test, then those of the mover.
+use Prim.Native.Nat.{ℕ, _≤_, _<_}
+use mathlib.Core.List.{List}
+use mathlib.Core.Path.{_≡_, refl, subst, subst⁻¹, ap, _∙_}
 use borrow.Author.Needs.{needs}
 use borrow.Author.Tests.{lt-ltb, le-ltb}
-use Rattle.definitions.specs.Answers.{answered}
-use Rattle.table.proofs.TableTests.{phase-read}
+use Rattle.definitions.specs.Answers.{Reply, answered}
+use Rattle.definitions.specs.Bounds.{lastPhase}
+use Rattle.definitions.specs.Moves.{requestTests}
+use Rattle.definitions.specs.Table.{tableOf}
+use Rattle.definitions.specs.declared.Head.{Head}
+use Rattle.definitions.specs.declared.Refusal.the-variants.{NoThread}
+use Rattle.definitions.specs.declared.Request.{Request}
+use Rattle.definitions.specs.declared.Task.{Task}
+use Rattle.requests.specs.RequestTests.{testedReply, laterTests}
+use Rattle.requests.specs.declared.Tested.{Tested}
+use Rattle.requests.specs.declared.Tested.the-variants.{Refused}
+use Rattle.theory.specs.Tables.{SoundBytes, headOf, taskOf}
 use Rattle.theory.proofs.Bytes.{sized-e}
+use Rattle.theory.proofs.Soundness.{sound-e}
 use Rattle.lock.proofs.request.test_request.Statement.{statement}
 use Rattle.lock.proofs.request.test_request.Tie as tie
 
-shared-slice-read-threads : tie.Need-shared-slice-read-threads
-shared-slice-read-threads c = omega (arith, sized-e _ (c .before .before .pre .is-sized))
+module _ (bytes : List ℕ) (r : Request) (head : Head) (e : head ≡ headOf (tableOf bytes)) where
+  turned-down : head .threads ≤ r .thread → testedReply (Refused NoThread) ≡ answered (requestTests (tableOf bytes) r) tt
+  unfolding answered
+  turned-down l = rw (le-ltb (r .thread) (tableOf bytes .threads) (subst (λ (x : Head). x .threads ≤ r .thread) e l))
 
-cast-threads : tie.Need-cast-threads
-cast-threads c = omega (arith, c .shared-slice-known2 .given 0)
+  module _ (l : r .thread < head .threads) where
+    below : r .thread < tableOf bytes .threads
+    below = subst (λ (x : Head). r .thread < x .threads) e l
 
-cast-thread : tie.Need-cast-thread
-cast-thread c = search needs
+    module _ (mover : Task) (f : mover ≡ taskOf (tableOf bytes) (r .thread)) where
+      phase-fits : SoundBytes bytes → mover .phase ≤ lastPhase
+      phase-fits h = subst⁻¹ (λ (x : Task). x .phase ≤ lastPhase) f (sound-e (tableOf bytes) (h .is-sound) .phases (r .thread) below)
+
+      later : (x : Tested) → testedReply x ≡ answered (laterTests head mover r) tt → testedReply x ≡ answered (requestTests (tableOf bytes) r) tt
+      unfolding answered
+      later x q =
+          q
+          ∙ (ap (λ (y : Head). answered (laterTests y mover r) tt) e
+          ∙ (ap (λ (y : Task). answered (laterTests (headOf (tableOf bytes)) y r) tt) f ∙ rw (lt-ltb (r .thread) (tableOf bytes .threads) below) refl))
+
+read-head-requires : tie.Need-read-head-requires
+read-head-requires c κs = sized-e _ (c .before .pre .is-sized)
 
 returns : tie.Need-returns
-unfolding answered
-returns c = rw (le-ltb _ _ (c .if1 .taken))
+returns c =
+    let read = c .before .before .before in
+    let a = read .before .before .args in
+    turned-down (a .table .now) (a .request) (read .read-head .result) (read .read-head .ensures) (c .if1 .taken)
 
-shared-slice-read-mutex : tie.Need-shared-slice-read-mutex
-shared-slice-read-mutex c = omega (arith, sized-e _ (c .before .before .before .before .before .pre .is-sized))
-
-phase-at-requires : tie.Need-phase-at-requires
-phase-at-requires c κs = search needs
-
-shared-slice-read-phase : tie.Need-shared-slice-read-phase
-shared-slice-read-phase c = omega (arith, sized-e _ (c .before .before .before .before .before .before .before .pre .is-sized))
+read-task-requires : tie.Need-read-task-requires
+read-task-requires c κs =
+    let read = c .before .before .before in
+    let start = read .before .before in
+    (sized-e _ (start .pre .is-sized), below (start .args .table .now) (start .args .request) (read .read-head .result) (read .read-head .ensures) (c .if1 .left))
 
 test-move-requires : tie.Need-test-move-requires
 test-move-requires c κs =
-    let at = c .before in
-    let left = at .before .before in
-    let start = left .before .before .before .before in
-    phase-read (start .args .table .now) (start .args .request .thread) _ (start .pre) (left .if1 .left) (at .phase-at .ensures)
+    let left = c .before in
+    let read = left .before .before .before in
+    let start = read .before .before in
+    phase-fits (start .args .table .now) (start .args .request) (read .read-head .result) (read .read-head .ensures) (left .if1 .left) _ (c .read-task .ensures) (start .pre)
 
 returns-2 : tie.Need-returns-2
-unfolding answered
 returns-2 c =
-    let at = c .before .before in
-    rw (lt-ltb _ _ (at .before .before .if1 .left), ← at .phase-at .ensures) (c .test-move .ensures)
+    let task = c .before in
+    let left = task .before in
+    let read = left .before .before .before in
+    let a = read .before .before .args in
+    later (a .table .now) (a .request) (read .read-head .result) (read .read-head .ensures) (left .if1 .left) _ (task .read-task .ensures) (c .test-move .result) (c .test-move .ensures)
 
 pub test-request-spec : {M : Type 1} → statement M
 test-request-spec =
     tie.close
-    (tie.spec
-    shared-slice-read-threads
-    cast-threads
-    cast-thread
-    returns
-    shared-slice-read-mutex
-    phase-at-requires
-    shared-slice-read-phase
-    test-move-requires
-    returns-2)
+    (tie.spec read-head-requires (λ c. search needs) (λ c. search needs) returns read-task-requires test-move-requires returns-2)
