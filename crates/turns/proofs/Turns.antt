@@ -16,7 +16,7 @@ use Rattle.definitions.specs.declared.Outcome.the-variants as outcome
 use Rattle.definitions.specs.declared.Refusal.{Refusal}
 use Rattle.definitions.specs.declared.Request.{Request}
 use Rattle.apply.specs.MoveMade.{TestedTable, MoveTried}
-use Rattle.apply.specs.declared.Made.{Made}
+use Rattle.moving.specs.declared.Made.{Made}
 use Rattle.forms.specs.Readings.{formFor}
 use Rattle.forms.specs.declared.Form.{Form}
 use Rattle.forms.specs.declared.Form.the-variants as form
