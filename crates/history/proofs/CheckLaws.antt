@@ -1,4 +1,4 @@
--- A pass over the pairs (`Passed`): its start, that a turn judges its pair as the plain lock does, and its end; then the tests for 1 and 8.
+-- The pass over the pairs (`Passed`): its start, that a turn judges its pair as the plain lock does, and its end; then the tests for 1 and 8.
 use Prim.Native.Nat.{ℕ, zero, suc, _+_, _*_, _/_, _%_, _≤_, _<_}
 use native.Mathlib.Omega.{arith}
 use mathlib.Core.Bool.{Bool, true, false, _&&_}
@@ -8,16 +8,13 @@ use mathlib.Core.Path.{_≡_, refl, sym, subst, ap, _∙_, fun-ext}
 use lib.Dec.{T, leb, eqb, leb→le, le→leb, eqb→eq}
 use lib.ListN.{length, getD, set, take, replicate, length-set, length-replicate}
 use lib.Seq.{getD-set-same, getD-set-other}
-use Rattle.definitions.specs.Answers.{numberOf, answerReply, accepted, refused, Test, test, answered, passesAll}
+use Rattle.definitions.specs.Answers.{numberOf, accepted, refused, Test, test, answered, passesAll}
 use Rattle.definitions.specs.Bounds.{mostThreads, mostHistory}
 use Rattle.definitions.specs.PlainLock.{Pair, pairsOf, Places, placesIn, atStart, placeAfter, advanced, placesAfter, pairTests, testsOf, formTests, pairsTests, checkTests}
 use Rattle.definitions.specs.Table.{countFits}
 use Rattle.definitions.specs.Threads.{gather}
-use Rattle.definitions.specs.declared.Answer.{Answer}
-use Rattle.definitions.specs.declared.Answer.the-variants.{Done, Refused}
 use Rattle.definitions.specs.declared.Refusal.{Refusal}
 use Rattle.history.specs.Counts.{totalAt, standingOf, standingAfter, Counted}
-use Rattle.history.specs.Pairs.{Passed}
 use Rattle.history.specs.declared.Standing.{Standing}
 use Rattle.history.specs.declared.Verdict.{Verdict}
 use Rattle.history.specs.declared.Verdict.the-variants.{Fits, Bad}
@@ -25,8 +22,8 @@ use Rattle.theory.proofs.Lengths.{pairs-length}
 use Rattle.theory.proofs.Lists.{zeros}
 use Rattle.theory.proofs.Pairs.{pairAt}
 use Rattle.theory.proofs.Quantifiers.{howMany-none}
-use Rattle.theory.proofs.Replies.{all-passed, passed, failed, peel, pass, no-test, behind, in-front}
-use Rattle.theory.proofs.TestLists.{passes-split, passes-join, answered-e, one-more, first-failed}
+use Rattle.theory.proofs.Replies.{all-passed, passed, failed, peel, pass, no-test}
+use Rattle.theory.proofs.TestLists.{passes-split, passes-join, one-more, first-failed}
 use Rattle.theory.proofs.Tests.{and-l, and-r, and-i, true-T, false-T, eq-T, same?}
 use Rattle.theory.proofs.Writes.{update-same, update-other}
 use Rattle.history.proofs.PlainLaws.{noPair, places-more, in-round}
@@ -62,7 +59,15 @@ pair-at (t ∷ e ∷ rest) (suc k) l = pair-at rest k (omega arith) ∙ rw (even
     event : 2 * suc k + 1 ≡ suc (suc (2 * k + 1))
     event = omega arith
 
--- ---- a pass
+-- ---- the pass
+
+-- k pairs are passed: their tests are, and the places and the total are those after them
+pub record Passed (n : ℕ) (bytes places : List ℕ) (inside k : ℕ) : Type 0 where
+  pub within : k ≤ length bytes / 2
+  pub size : length places ≡ 256
+  pub after : placesIn places ≡ placesAfter atStart (take k (pairsOf bytes))
+  pub counted : inside ≡ totalAt n (placesIn places)
+  pub tested : T (passesAll (gather k (testsOf n (pairsOf bytes))))
 
 pub passed-none : (n : ℕ) (bytes : List ℕ) → Passed n bytes (replicate 256 0) 0 0
 unfolding placesAfter gather passesAll
@@ -81,10 +86,11 @@ passed-none n bytes =
 
 -- past the last pair all have passed
 pub passed-all : (n : ℕ) (bytes places : List ℕ) (inside k : ℕ) → Passed n bytes places inside k → length bytes / 2 ≤ k
-    → (answer : ℕ) → accepted answer ≡ answered (pairsTests n bytes) answer
-passed-all n bytes places inside k s l answer =
+    → accepted (length bytes / 2) ≡ answered (pairsTests n bytes) (length (pairsOf bytes))
+passed-all n bytes places inside k s l =
     let e : k ≡ length (pairsOf bytes) = omega (arith, s .within, pairs-length bytes) in
-    sym (all-passed answer (pairsTests n bytes) (subst (λ (j : ℕ). T (passesAll (gather j (testsOf n (pairsOf bytes))))) e (s .tested)))
+    ap accepted (sym (pairs-length bytes))
+    ∙ sym (all-passed (length (pairsOf bytes)) (pairsTests n bytes) (subst (λ (j : ℕ). T (passesAll (gather j (testsOf n (pairsOf bytes))))) e (s .tested)))
 
 -- pair k, as a turn of the pass judges it
 module _ (n : ℕ) (few : n ≤ mostThreads) (bytes a : List ℕ) (inside k : ℕ) (s : Passed n bytes a inside k) (l : k < length bytes / 2) where
@@ -175,37 +181,13 @@ module _ (n : ℕ) (bytes : List ℕ) where
   pub tests-i : Formed n bytes → T (passesAll (pairsTests n bytes)) → T (passesAll (checkTests n bytes))
   tests-i f t = passes-join (formTests n bytes) (pairsTests n bytes) (formed-i f) t
 
-  -- what they answer, whatever is answered where all are passed
+  -- what the check answers by them: its first refusals, or what the pairs decide
   module _ (answer : ℕ) where
-    pub bad-size : countFits n ≡ false → refused 1 0 ≡ answered (formTests n bytes) answer
-    bad-size e = sym (failed size (form ∷ []) answer (false-T (countFits n) e))
+    pub bad-size : countFits n ≡ false → refused 1 0 ≡ answered (checkTests n bytes) answer
+    bad-size e = sym (failed size (form ∷ pairsTests n bytes) answer (false-T (countFits n) e))
 
-    pub bad-form : countFits n ≡ true → formed ≡ false → refused 8 0 ≡ answered (formTests n bytes) answer
-    bad-form e f = sym (passed size (form ∷ []) answer (true-T (countFits n) e) ∙ failed form [] answer (false-T formed f))
+    pub bad-form : countFits n ≡ true → formed ≡ false → refused 8 0 ≡ answered (checkTests n bytes) answer
+    bad-form e f = sym (passed size (form ∷ pairsTests n bytes) answer (true-T (countFits n) e) ∙ failed form (pairsTests n bytes) answer (false-T formed f))
 
-    pub good-form : countFits n ≡ true → formed ≡ true → accepted answer ≡ answered (formTests n bytes) answer
-    unfolding answered
-    good-form e f = sym (passed size (form ∷ []) answer (true-T (countFits n) e) ∙ passed form [] answer (true-T formed f))
-
-    -- a refusal of theirs is the check's
-    pub form-refused : (other number place : ℕ) → answered (formTests n bytes) other ≡ refused number place → answered (checkTests n bytes) answer ≡ refused number place
-    form-refused other = in-front answer other (formTests n bytes) (pairsTests n bytes)
-
--- they are passed, so that the pairs decide
-pub record Told (n : ℕ) (bytes : List ℕ) (events : ℕ) : Type 0 where
-  pub form : Formed n bytes
-  pub whole : events ≡ length bytes / 2
-  pub pairs : (answer : ℕ) → answered (pairsTests n bytes) answer ≡ answered (checkTests n bytes) answer
-
-pub told : (n : ℕ) (bytes : List ℕ) (events : ℕ) → accepted events ≡ answered (formTests n bytes) (length bytes / 2) → Told n bytes events
-told n bytes events e =
-    let f = answered-e (formTests n bytes) (length bytes / 2) events (sym e) in
-    record { form = formed-e n bytes (f .0); whole = sym (f .1); pairs = λ answer. sym (behind answer (formTests n bytes) (pairsTests n bytes) (f .0)) }
-
--- what `count_pairs` answers, for whoever goes on to the pairs
-module _ (n : ℕ) (bytes : List ℕ) (r : Answer) (e : answerReply r ≡ answered (formTests n bytes) (length bytes / 2)) where
-  pub form-turned : (reason : Refusal) (place : ℕ) → r ≡ Refused reason place → (answer : ℕ) → answerReply r ≡ answered (checkTests n bytes) answer
-  form-turned reason place q answer = ap answerReply q ∙ sym (form-refused n bytes answer (length bytes / 2) (numberOf reason) place (sym e ∙ ap answerReply q))
-
-  pub form-told : (events : ℕ) → r ≡ Done events → Told n bytes events
-  form-told events q = told n bytes events (sym (ap answerReply q) ∙ e)
+    pub good-form : countFits n ≡ true → formed ≡ true → answered (pairsTests n bytes) answer ≡ answered (checkTests n bytes) answer
+    good-form e f = sym (passed size (form ∷ pairsTests n bytes) answer (true-T (countFits n) e) ∙ passed form (pairsTests n bytes) answer (true-T formed f))

@@ -1,5 +1,4 @@
--- What is permitted at any places, an event judged by plain counts, what a pass over the pairs keeps, and the rows that the code looks events up in.
+-- What is permitted at any places, an event judged by plain counts, and the rows that the code looks events up in.
 pub mod Permitted
 pub mod Counts
-pub mod Pairs
 pub mod Rows

@@ -1,20 +1,18 @@
-// The check of a history, pair by pair. A pass keeps each thread's place in its round and one total of the threads inside;
-// `judge` decides an event from the thread's place and the total alone, and answers what they are after it. `take_pair` is one
-// turn of such a pass, whatever else the pass counts.
+// The check of a history, pair by pair. The pass keeps each thread's place in its round and one total of the threads inside;
+// `judge` decides an event from the thread's place and the total alone, and answers what they are after it.
 use definitions::Answer;
 use definitions::Event;
 use definitions::MOST_HISTORY;
 use definitions::Refusal;
 use definitions::count_fits;
-ghost use Prim.Native.Nat.{ℕ, _/_, _≤_, _<_};
+ghost use Prim.Native.Nat.{ℕ, _≤_};
 ghost use mathlib.Core.Bool.{cond};
 ghost use mathlib.Core.Path.{_≡_};
 ghost use lib.ListN.{length};
 ghost use Rattle.definitions.specs.Answers.{numberOf, answered, answerReply};
 ghost use Rattle.definitions.specs.Bounds.{mostThreads};
-ghost use Rattle.definitions.specs.PlainLock.{formTests, pairsTests, checkReply};
+ghost use Rattle.definitions.specs.PlainLock.{pairsOf, pairsTests, checkReply};
 ghost use Rattle.history.specs.Counts.{Counted, countTests, standingAfter, verdictReply};
-ghost use Rattle.history.specs.Pairs.{Passed, Taken};
 ghost use Rattle.history.specs.Rows.{eventRow, movedBy};
 
 // In a total of those inside, a thread in shared is 1 and one in exclusive this, more than there are threads.
@@ -97,43 +95,29 @@ pub fn judge(threads: u16, thread: u16, code: u16, before: Standing) -> Verdict
     Verdict::Bad(reason(known, next))
 }
 
-// One pair of a pass: its thread's place is looked up, the pair judged, and the thread's place after it written. Any byte is an
-// index of the 256 places, so a place is looked up before the thread is judged; those below N are the only ones written.
-pub fn take_pair(threads: u16, history: &[u8], k: usize, places: &mut [u8], inside: u32) -> Verdict
+// One pass over the pairs. Any byte is an index of the 256 places, so a thread's place is looked up before the thread is judged;
+// those below N are the only ones written.
+fn check_pairs(threads: u16, history: &[u8]) -> Answer
     requires { ⌜ threads ≤ mostThreads ⌝ }
-    requires { ⌜ k < length (now history) / 2 ⌝ }
-    requires { ⌜ Passed threads (now history) (now places) inside k ⌝ }
-    ensures { λ r. ⌜ Taken threads (now (history .entry)) k (now (places .entry)) (now (places .exit)) r ⌝ }
-{
-    let at = 2 * k;
-    let thread = history[at];
-    let code = history[at + 1];
-    let t = thread as usize;
-    let place = places[t];
-    let before = Standing { place, inside };
-    let verdict = judge(threads, thread as u16, code as u16, before);
-    match verdict {
-        Verdict::Fits(after) => {
-            places[t] = after.place;
-            Verdict::Fits(after)
-        }
-        Verdict::Bad(refusal) => Verdict::Bad(refusal),
-    }
-}
-
-// One pass over the pairs.
-fn check_pairs(threads: u16, history: &[u8], events: usize) -> Answer
-    requires { ⌜ threads ≤ mostThreads ⌝ }
-    requires { ⌜ events ≡ length (now history) / 2 ⌝ }
-    ensures { λ r. ⌜ answerReply r ≡ answered (pairsTests threads (now (history .entry))) events ⌝ }
+    ensures { λ r. ⌜ answerReply r ≡ answered (pairsTests threads (now (history .entry))) (length (pairsOf (now (history .entry)))) ⌝ }
 {
     let mut places = [0u8; 256];
     let mut inside: u32 = 0;
+    let events = history.len() / 2;
     let mut k: usize = 0;
     while k < events {
-        let verdict = take_pair(threads, history, k, &mut places, inside);
+        let at = 2 * k;
+        let thread = history[at];
+        let code = history[at + 1];
+        let t = thread as usize;
+        let place = places[t];
+        let before = Standing { place, inside };
+        let verdict = judge(threads, thread as u16, code as u16, before);
         match verdict {
-            Verdict::Fits(after) => inside = after.inside,
+            Verdict::Fits(after) => {
+                places[t] = after.place;
+                inside = after.inside;
+            }
             Verdict::Bad(refusal) => return Answer::Refused(refusal, k),
         }
         k += 1;
@@ -141,9 +125,10 @@ fn check_pairs(threads: u16, history: &[u8], events: usize) -> Answer
     Answer::Done(events)
 }
 
-// Refusals 1 and 8; where neither fits, the number of pairs.
-pub fn count_pairs(threads: u16, history: &[u8]) -> Answer
-    ensures { λ r. ⌜ answerReply r ≡ answered (formTests threads (now (history .entry))) (length (now (history .entry)) / 2) ⌝ }
+// Refusals 1 and 8; then pair by pair 9, 10, 11, with the index of the first bad pair. An accepted history answers its number
+// of events.
+pub fn check(threads: u16, history: &[u8]) -> Answer
+    ensures { λ r. ⌜ answerReply r ≡ checkReply threads (now (history .entry)) ⌝ }
 {
     let count = threads as usize;
     if !count_fits(count) {
@@ -153,17 +138,5 @@ pub fn count_pairs(threads: u16, history: &[u8]) -> Answer
     if !formed {
         return Answer::Refused(Refusal::BadForm, 0);
     }
-    Answer::Done(history.len() / 2)
-}
-
-// Refusals 1 and 8; then pair by pair 9, 10, 11, with the index of the first bad pair. An accepted history answers its number
-// of events.
-pub fn check(threads: u16, history: &[u8]) -> Answer
-    ensures { λ r. ⌜ answerReply r ≡ checkReply threads (now (history .entry)) ⌝ }
-{
-    let formed = count_pairs(threads, history);
-    let Answer::Done(events) = formed else {
-        return formed;
-    };
-    check_pairs(threads, history, events)
+    check_pairs(threads, history)
 }

@@ -1,12 +1,10 @@
--- Bytes written one behind the other: one more byte behind a text that stands at the front of an output, and an output that is filled whole.
+-- Bytes written one behind the other: one more byte behind a text that stands at the front of an output.
 use Prim.Native.Nat.{ℕ, _+_, _<_}
 use native.Mathlib.Numerals.{add-one}
 use native.Mathlib.Omega.{arith}
-use mathlib.Core.List.{List, [], _∷_, _++_, append-nil}
+use mathlib.Core.List.{List, [], _∷_, _++_}
 use mathlib.Core.Path.{_≡_, refl, sym, subst, ap, _∙_}
-use lib.ListN.{length, drop, set, length-append}
-use lib.Seq.{drop-length}
-use Rattle.definitions.specs.Answers.{filled}
+use lib.ListN.{length, set, length-append}
 use Rattle.definitions.specs.Threads.{listOf}
 use Rattle.theory.specs.Outputs.{RoomAt, PutAt}
 use Rattle.theory.proofs.Outputs.{put-written, both, room-second}
@@ -20,6 +18,3 @@ entry-put f out out′ i v p l e =
     let more = both (listOf i f) (v ∷ []) room p (record { next = refl; output = put-written out′ i v (room-second (listOf i f) (v ∷ []) room p) }) in
     let text : listOf i f ++ (v ∷ []) ≡ listOf (i + 1) f = ap (λ (x : ℕ). listOf i f ++ (x ∷ [])) e ∙ ap (λ (k : ℕ). listOf k f) (sym (add-one i)) in
     subst (λ (t : List ℕ). PutAt out 0 t (set out′ i v) (i + 1)) text more
-
-pub whole-filled : (out text : List ℕ) → length out ≡ length text → filled out text ≡ text
-whole-filled out text e = ap (λ (n : ℕ). text ++ drop n out) (sym e) ∙ ap (λ (l : List ℕ). text ++ l) (drop-length out) ∙ append-nil text

@@ -1,17 +1,13 @@
 // The nodes of all threads.
 use definitions::Answer;
-use definitions::PHASE_COUNT;
 use definitions::Refusal;
 use table::Examined;
 use table::phase_at;
-ghost use Prim.Native.Nat.{suc};
 ghost use mathlib.Core.Path.{_≡_};
 ghost use Rattle.definitions.specs.Answers.{answerReply};
-ghost use Rattle.definitions.specs.Bounds.{lastPhase};
 ghost use Rattle.definitions.specs.Nodes.{nodesEntry};
 ghost use Rattle.definitions.specs.Phases.{nodeOf};
 ghost use Rattle.definitions.specs.Table.{tableOf};
-ghost use Rattle.definitions.specs.Threads.{listOf};
 ghost use Rattle.theory.specs.Outputs.{Delivered};
 ghost use Rattle.theory.specs.Tables.{SoundBytes};
 
@@ -57,17 +53,6 @@ fn node_of(phase: u8) -> u8
     }
 }
 
-// The node of each phase, looked up once for all threads.
-fn nodes_by_phase() -> [u8; PHASE_COUNT]
-    ensures { λ r. ⌜ r ≡ listOf (suc lastPhase) nodeOf ⌝ }
-{
-    let mut codes = [0u8; PHASE_COUNT];
-    for phase in 0..PHASE_COUNT {
-        codes[phase] = node_of(phase as u8);
-    }
-    codes
-}
-
 // The nodes of a sound table's threads.
 fn put_nodes(table: &[u8], threads: usize, out: &mut [u8]) -> Answer
     requires { ⌜ SoundBytes (now table) × (threads ≡ tableOf (now table) .threads) ⌝ }
@@ -77,10 +62,9 @@ fn put_nodes(table: &[u8], threads: usize, out: &mut [u8]) -> Answer
     if room < threads {
         return Answer::Refused(Refusal::NoRoom, 0);
     }
-    let codes = nodes_by_phase();
     for i in 0..threads {
         let phase = table[phase_at(i)];
-        out[i] = codes[phase as usize];
+        out[i] = node_of(phase);
     }
     Answer::Done(threads)
 }

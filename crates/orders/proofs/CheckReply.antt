@@ -1,5 +1,5 @@
 -- What the check answers: a number exactly for the bytes that pass it (`Passes`), and a refusal by 9 or above exactly as the first bad pair fails (`FirstBad`).
-use Prim.Native.Nat.{ℕ, _/_, _%_, _≤_, _<_}
+use Prim.Native.Nat.{ℕ, _%_, _≤_, _<_}
 use native.Mathlib.Nat.{mul-mod-right}
 use native.Mathlib.Omega.{arith}
 use mathlib.Core.Bool.{Bool, true, false}
@@ -8,12 +8,12 @@ use mathlib.Core.Logic.{_↔_}
 use mathlib.Core.Path.{_≡_, refl, sym, subst, ap, _∙_}
 use lib.Dec.{T}
 use lib.ListN.{length}
-use Rattle.definitions.specs.Answers.{accepted, refused, Test, testAt, answered, passesAll}
-use Rattle.definitions.specs.PlainLock.{Pair, pairsOf, testsOf, permitted, formTests, pairsTests, checkTests, checkReply}
+use Rattle.definitions.specs.Answers.{accepted, refused, testAt, answered, passesAll}
+use Rattle.definitions.specs.PlainLock.{Pair, pairsOf, testsOf, permitted, pairsTests, checkTests, checkReply}
 use Rattle.definitions.specs.Table.{countFits}
 use Rattle.definitions.specs.Threads.{gather}
 use Rattle.orders.specs.Histories.{Passes, FirstBad}
-use Rattle.history.proofs.CheckLaws.{formed, bad-size, bad-form, good-form, form-refused, told, tests-e, tests-i}
+use Rattle.history.proofs.CheckLaws.{formed, bad-size, bad-form, good-form, tests-e, tests-i}
 use Rattle.theory.proofs.Lengths.{pairs-length}
 use Rattle.theory.proofs.Quantifiers.{every-at}
 use Rattle.theory.proofs.Replies.{all-passed}
@@ -80,10 +80,10 @@ check-refused n bytes number place e l = by (countFits n) (formed n bytes) refl 
     count = length (pairsOf bytes)
 
     -- not by 1 or 8
-    low : (k : ℕ) → k < 9 → refused k 0 ≡ answered (formTests n bytes) count → FirstBad n (pairsOf bytes) number place
-    low k few d = absurd (let f = form-refused n bytes count count k 0 (sym d) in let z : k ≡ number = cc in omega arith)
+    low : (k : ℕ) → k < 9 → refused k 0 ≡ answered (checkTests n bytes) count → FirstBad n (pairsOf bytes) number place
+    low k few d = absurd (let z : k ≡ number = cc in omega arith)
 
     by : (a b : Bool) → countFits n ≡ a → formed n bytes ≡ b → FirstBad n (pairsOf bytes) number place
     by false b p q = low 1 (omega arith) (bad-size n bytes count p)
     by true false p q = low 8 (omega arith) (bad-form n bytes count p q)
-    by true true p q = first-bad n (pairsOf bytes) number place (told n bytes (length bytes / 2) (good-form n bytes (length bytes / 2) p q) .pairs count ∙ e)
+    by true true p q = first-bad n (pairsOf bytes) number place (good-form n bytes count p q ∙ e)

@@ -1,14 +1,10 @@
-// The plan for a history: its length, counted in the pass that checks it; then the triples written event by event.
+// The plan for a history: checked, then its moves counted, then the triples written event by event.
 use definitions::Answer;
 use definitions::Refusal;
-use history::Verdict;
-use history::take_pair;
-ghost use Prim.Native.Nat.{_/_, _≤_};
 ghost use mathlib.Core.Path.{_≡_};
 ghost use lib.ListN.{length};
-ghost use Rattle.definitions.specs.Answers.{answered, answerReply, filled};
-ghost use Rattle.definitions.specs.Bounds.{mostThreads, mostHistory};
-ghost use Rattle.definitions.specs.PlainLock.{pairsOf, pairsTests};
+ghost use Rattle.definitions.specs.Answers.{accepted, answerReply, filled};
+ghost use Rattle.definitions.specs.PlainLock.{pairsOf, checkReply};
 ghost use Rattle.definitions.specs.Plan.{plan, bytesOf, planEntry, planLengthReply};
 ghost use Rattle.theory.specs.Outputs.{RoomAt, Delivered};
 ghost use Rattle.plan.specs.Shares.{ShareOf};
@@ -35,43 +31,34 @@ fn share_of(code: usize) -> u64
     }
 }
 
-// One pass over the pairs, which checks them and adds up their events' shares. The product with N comes after it: in the loop it
-// would be compiled to branches.
-fn count_moves(threads: u16, history: &[u8], events: usize) -> Answer
-    requires { ⌜ threads ≤ mostThreads ⌝ }
-    requires { ⌜ length (now history) ≤ mostHistory ⌝ }
-    requires { ⌜ events ≡ length (now history) / 2 ⌝ }
-    ensures { λ r. ⌜ answerReply r ≡ answered (pairsTests threads (now (history .entry))) (length (plan threads (pairsOf (now (history .entry))))) ⌝ }
+// How many moves the plan for a history makes that the check accepts. A pass over the events' codes adds up their shares; the
+// product with N comes after it: in the loop it would be compiled to branches.
+fn count_moves(threads: u16, history: &[u8], events: usize) -> usize
+    requires { ⌜ checkReply threads (now history) ≡ accepted events ⌝ }
+    ensures { λ r. ⌜ r ≡ length (plan threads (pairsOf (now (history .entry)))) ⌝ }
 {
-    let mut places = [0u8; 256];
-    let mut inside: u32 = 0;
     let mut shares: u64 = 0;
     let mut k: usize = 0;
     while k < events {
-        let verdict = take_pair(threads, history, k, &mut places, inside);
-        match verdict {
-            Verdict::Fits(after) => inside = after.inside,
-            Verdict::Bad(refusal) => return Answer::Refused(refusal, k),
-        }
         let code = history[2 * k + 1] as usize;
         shares += share_of(code);
         k += 1;
     }
     let once = (shares % EACH) as usize;
     let each = (shares / EACH) as usize;
-    let total = once + each * threads as usize;
-    Answer::Done(total)
+    once + each * threads as usize
 }
 
 // How many moves the plan for a history makes, without the plan. Refusals and places are the check's.
 pub fn plan_length(threads: u16, history: &[u8]) -> Answer
     ensures { λ r. ⌜ answerReply r ≡ planLengthReply threads (now (history .entry)) ⌝ }
 {
-    let formed = history::count_pairs(threads, history);
-    let Answer::Done(events) = formed else {
-        return formed;
+    let checked = history::check(threads, history);
+    let Answer::Done(events) = checked else {
+        return checked;
     };
-    count_moves(threads, history, events)
+    let moves = count_moves(threads, history, events);
+    Answer::Done(moves)
 }
 
 // The triples of all pairs, from the front of the output.
@@ -96,10 +83,11 @@ fn write_pairs(out: &mut [u8], threads: u8, history: &[u8])
 pub fn plan(threads: u16, history: &[u8], out: &mut [u8]) -> Answer
     ensures { λ r. ⌜ Delivered (planEntry threads (now (history .entry))) (now (out .entry)) (now (out .exit)) (answerReply r) ⌝ }
 {
-    let checked = plan_length(threads, history);
-    let Answer::Done(moves) = checked else {
+    let checked = history::check(threads, history);
+    let Answer::Done(events) = checked else {
         return checked;
     };
+    let moves = count_moves(threads, history, events);
     if out.len() / 3 < moves {
         return Answer::Refused(Refusal::NoRoom, 0);
     }

@@ -1,72 +1,45 @@
 -- `plan` meets its contract: refused by the check, no room, or written.
 use native.Mathlib.Omega.{arith}
+use mathlib.Core.Path.{_≡_}
 use borrow.Author.Needs.{needs}
-use Rattle.plan.proofs.EntryLaws.{turned-plan, few, no-room-plan, room-plan, written-plan}
+use Rattle.definitions.specs.Answers.{accepted}
+use Rattle.definitions.specs.PlainLock.{checkReply}
+use Rattle.definitions.specs.Plan.{planLengthReply}
+use Rattle.plan.proofs.Counting.{counting-none}
+use Rattle.plan.proofs.EntryLaws.{turned-plan, passes, counted, no-room-plan, room-plan, written-plan}
 use Rattle.plan.proofs.plan.Statement.{statement}
 use Rattle.plan.proofs.plan.Tie as tie
-
-plan-length-requires : tie.Need-plan-length-requires
-plan-length-requires c κs = search needs
-
-enum-known-checked : tie.Need-enum-known-checked
-enum-known-checked c = search needs
-
-enum-told : tie.Need-enum-told
-enum-told c = search needs
 
 returns : tie.Need-returns
 returns c =
     let called = c .before .before in
-    let a = called .before .before .before .args in
-    turned-plan (a .threads) (a .history .now) (a .out .now) (called .plan-length .result) (called .plan-length .ensures)
-    (c .enum-told .given .0 .0) (c .enum-told .given .0 .1 .0) (c .enum-told .given .1)
+    turned-plan _ _ (called .check .result) (called .check .ensures) (c .enum-told .given .0 .0) (c .enum-told .given .0 .1 .0) (c .enum-told .given .1) _
 
-returns-2 : tie.Need-returns-2
-returns-2 c =
-    let known = c .before .before in
-    let called = known .before .before in
-    let a = called .before .before .before .args in
-    no-room-plan (a .threads) (a .history .now) (a .out .now) (called .plan-length .result) (called .plan-length .ensures)
-    (known .checked .given .0 .0) (known .checked .given .1) (c .if1 .taken)
+-- the check passes
+passed : (c : tie.After-known-told) → let a = c .before .before .before .before .before .before .args in checkReply (a .threads) (a .history .now) ≡ accepted (c .before .checked .given .0 .0)
+passed c = let called = c .before .before .before in passes _ _ (called .check .result) (called .check .ensures) _ (c .before .checked .given .1)
 
-cast-n : tie.Need-cast-n
-cast-n c =
-    let known = c .before .before in
-    let called = known .before .before in
-    let a = called .before .before .before .args in
-    omega (arith, few (a .threads) (a .history .now) (a .out .now) (called .plan-length .result) (called .plan-length .ensures) (known .checked .given .0 .0) (known .checked .given .1))
-
-write-pairs-requires : tie.Need-write-pairs-requires
-write-pairs-requires c κs =
-    let known = c .before .before .before in
-    let called = known .before .before in
-    let a = called .before .before .before .args in
-    room-plan (a .threads) (a .history .now) (a .out .now) (called .plan-length .result) (called .plan-length .ensures)
-    (known .checked .given .0 .0) (known .checked .given .1) (c .before .if1 .left)
-
-same-length : tie.Need-same-length
-same-length c = search needs
+-- the moves are counted
+moves : (c : tie.After-count-moves) → let a = c .before .before .before .before .before .before .before .args in accepted (c .count-moves .result) ≡ planLengthReply (a .threads) (a .history .now)
+moves c = counted _ _ _ _ (passed (c .before)) (c .count-moves .ensures)
 
 returns-3 : tie.Need-returns-3
 returns-3 c =
     let wrote = c .before .before in
     let left = wrote .before .before in
-    let known = left .before .before in
-    let called = known .before .before in
-    let a = called .before .before .before .args in
-    written-plan (a .threads) (a .history .now) (a .out .now) (called .plan-length .result) (called .plan-length .ensures)
-    (known .checked .given .0 .0) (known .checked .given .1) (wrote .write-pairs .last .0) (left .if1 .left) (wrote .write-pairs .ensures)
+    written-plan _ _ _ _ (moves (left .before)) (wrote .write-pairs .last .0) (left .if1 .left) (wrote .write-pairs .ensures)
 
 pub plan-spec : {M : Type 1} → statement M
 plan-spec =
     tie.close
     (tie.spec
-    plan-length-requires
-    enum-known-checked
-    enum-told
+    (λ c κs. search needs)
+    (λ c. search needs)
+    (λ c. search needs)
     returns
-    returns-2
-    cast-n
-    write-pairs-requires
-    same-length
+    (λ c κs. passed c)
+    (λ c. no-room-plan _ _ _ _ (moves (c .before)) (c .if1 .taken))
+    (λ c. omega (arith, counting-none _ _ _ (passed (c .before .before)) .few))
+    (λ c κs. room-plan _ _ _ _ (moves (c .before .before)) (c .before .if1 .left))
+    (λ c. search needs)
     returns-3)
