@@ -18,10 +18,10 @@ ghost use Rattle.history.specs.Rows.{eventRow, movedBy};
 // In a total of those inside, a thread in shared is 1 and one in exclusive this, more than there are threads.
 pub const WRITER: u32 = 256;
 
-// Where a thread stands: its place in its round, and the total of those inside.
+// Where a thread stands: the total of those inside, and its place in its round.
 pub struct Standing {
-    pub place: u8,
     pub inside: u32,
+    pub place: u8,
 }
 
 // What an event gets: where it leaves its thread, or why it is turned down.

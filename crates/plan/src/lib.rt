@@ -53,12 +53,11 @@ fn count_moves(threads: u16, history: &[u8], events: usize) -> usize
 pub fn plan_length(threads: u16, history: &[u8]) -> Answer
     ensures { λ r. ⌜ answerReply r ≡ planLengthReply threads (now (history .entry)) ⌝ }
 {
-    let checked = history::check(threads, history);
-    let Answer::Done(events) = checked else {
-        return checked;
+    let answer = history::check(threads, history);
+    let Answer::Done(events) = answer else {
+        return answer;
     };
-    let moves = count_moves(threads, history, events);
-    Answer::Done(moves)
+    Answer::Done(count_moves(threads, history, events))
 }
 
 // The triples of all pairs, from the front of the output.

@@ -13,8 +13,8 @@ returns c =
     turned-length _ _ (called .check .result) (called .check .ensures) (c .enum-told .given .0 .0) (c .enum-told .given .0 .1 .0) (c .enum-told .given .1)
 
 -- the check passes
-passed : (c : tie.After-known-told) → let a = c .before .before .before .before .before .args in checkReply (a .threads) (a .history .now) ≡ accepted (c .before .checked .given .0 .0)
-passed c = let called = c .before .before .before in passes _ _ (called .check .result) (called .check .ensures) _ (c .before .checked .given .1)
+passed : (c : tie.After-known-told) → let a = c .before .before .before .before .before .args in checkReply (a .threads) (a .history .now) ≡ accepted (c .before .answer .given .0 .0)
+passed c = let called = c .before .before .before in passes _ _ (called .check .result) (called .check .ensures) _ (c .before .answer .given .1)
 
 pub plan-length-spec : {M : Type 1} → statement M
 plan-length-spec =
