@@ -190,6 +190,9 @@ static void turns(uint16_t n)
 /* The fresh table, the nodes, and the open moves of threads in several phases. */
 static void lists(uint16_t n)
 {
+    /* Phases that all threads may be in with no flag set, one of each node. */
+    const uint8_t many[] = {WOSPINZO_PHASE_FREE, WOSPINZO_PHASE_RAISE_BUSY, WOSPINZO_PHASE_LEAVE_SHARED, WOSPINZO_PHASE_TAKE_MUTEX,
+                            WOSPINZO_PHASE_LEAVE_EXCLUSIVE};
     uint16_t t;
 
     fresh(n);
@@ -211,8 +214,11 @@ static void lists(uint16_t n)
     turn(WOSPINZO_UNSOUND, n, "refused by 2, all in 4");
     COUNT(WOSPINZO_UNSOUND, wospinzo_nodes(table, WOSPINZO_TABLE_SIZE(n), out, sizeof out), "nodes %u refused by 2, all in 4", n);
     COUNT(WOSPINZO_UNSOUND, wospinzo_open_moves(table, WOSPINZO_TABLE_SIZE(n), 0, out, sizeof out), "open_moves %u refused by 2, all in 4", n);
+    for (t = 0; t < sizeof many; t++) {
+        all_in(n, many[t]);
+        COUNT(WOSPINZO_ACCEPTED, wospinzo_nodes(table, WOSPINZO_TABLE_SIZE(n), out, sizeof out), "nodes %u all in %u", n, many[t]);
+    }
     all_in(n, WOSPINZO_PHASE_FREE);
-    COUNT(WOSPINZO_ACCEPTED, wospinzo_nodes(table, WOSPINZO_TABLE_SIZE(n), out, sizeof out), "nodes %u", n);
     COUNT(WOSPINZO_ACCEPTED, wospinzo_open_moves(table, WOSPINZO_TABLE_SIZE(n), 0, out, sizeof out), "open_moves %u in 0", n);
     move(0, WOSPINZO_CALL_EXCLUSIVE, 0);
     move(0, WOSPINZO_GO, 0);

@@ -22,7 +22,8 @@ NAMES = {"version": "", "fresh": "N", "move": "N", "dispatch": "N", "nodes": "N"
          "run": "B", "write_script": "MB", "read_script": "BM", "watch_start": "N", "watch_event": "N", "watch_inside": "N"}
 # A formula may be above the largest count by this share, or by this many instructions.
 SHARE, LOOSE = 0.12, 40
-# Those that are the same instructions for each task or event, so that the formula is held to the largest input too.
+# Those that are the same instructions for each task or event of the input that takes most, so that the formula is held to the
+# largest input too.
 EVEN = {"move", "dispatch", "nodes", "open_moves", "check", "plan_length"}
 
 
