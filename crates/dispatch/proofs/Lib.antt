@@ -1,4 +1,1 @@
-pub mod ReadyBits
-pub mod PassLaws
-pub mod ChoiceLaws
 pub mod TurnLaws

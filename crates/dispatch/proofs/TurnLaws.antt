@@ -15,7 +15,11 @@ use Rattle.definitions.specs.declared.Outcome.{Outcome}
 use Rattle.definitions.specs.declared.Outcome.the-variants as outcome
 use Rattle.definitions.specs.declared.Refusal.{Refusal}
 use Rattle.definitions.specs.declared.Request.{Request}
-use Rattle.apply.specs.MoveMade.{MoveMade, TestedTable}
+use Rattle.apply.specs.MoveMade.{MoveTried, TestedTable}
+use Rattle.apply.specs.declared.Made.{Made}
+use Rattle.choice.specs.Choosing.{choiceOf}
+use Rattle.choice.specs.declared.request.Choice.{Choice}
+use Rattle.choice.specs.declared.request.Choice.the-variants.{Nobody, Makes}
 use Rattle.dispatching.proofs.Choice.{chosen-may}
 use Rattle.dispatching.proofs.TurnKinds.{May, may-e}
 use Rattle.dispatching.proofs.TurnReplies.{refused-keeps, waits, moves}
@@ -27,10 +31,7 @@ use Rattle.theory.proofs.Bytes.{sized-e}
 use Rattle.theory.proofs.Soundness.{sound-e}
 use Rattle.theory.proofs.Storages.{accepts-i, accepted-reply}
 use Rattle.theory.proofs.Tests.{decided, T-false, cond-yes, cond-no}
-use Rattle.dispatch.specs.Choosing.{SoundFor, choiceOf, eventIn}
-use Rattle.dispatch.specs.Turned.{Turned}
-use Rattle.dispatch.specs.declared.choice.Choice.{Choice}
-use Rattle.dispatch.specs.declared.choice.Choice.the-variants.{Nobody, Makes}
+use Rattle.dispatch.specs.Turned.{Turned, TurnTaken, TurnTable, eventIn}
 
 -- ---- the choice
 
@@ -75,8 +76,10 @@ module _ (bytes : List ℕ) (k : ℕ) (h : TestedTable bytes k) where
   abbrev s : Table
   s = tableOf bytes
 
-  pub nobody-turn : choiceOf s ≡ Nobody → Turned bytes bytes dispatched.Waiting
-  nobody-turn e = let (reply, left) = waits byteTable bytes (h .tested .is-sized) (h .tested .is-sound) (nobody-e s e) in record { reply = sym reply; table = sym left }
+  pub nobody-turn : choiceOf s ≡ Nobody → TurnTaken bytes bytes (record { answer = dispatched.Waiting; forbidden = k })
+  nobody-turn e =
+      let (reply, left) = waits byteTable bytes (h .tested .is-sized) (h .tested .is-sound) (nobody-e s e) in
+      record { turned = record { reply = sym reply; table = sym left }; count = h .count }
 
   module _ (i mv t : ℕ) (e : choiceOf s ≡ Makes i mv t) where
     abbrev r : Request
@@ -91,16 +94,22 @@ module _ (bytes : List ℕ) (k : ℕ) (h : TestedTable bytes k) where
     may : May s r
     may = may-e s r (subst (λ (q : Request). T (mayDispatch s q)) same (chosen-may s (sound-e s (h .tested .is-sound)) someone))
 
-    pub made-turn : (after : List ℕ) (o : Outcome) (event : MoveEvent) → MoveMade bytes r after o → event ≡ eventIn o → Turned bytes after (dispatched.Moved i mv t event)
-    made-turn after o event m f =
+    pub made-turn : (after : List ℕ) (m : Made) (event : MoveEvent) → MoveTried bytes r after m → event ≡ eventIn (m .outcome)
+        → TurnTaken bytes after (record { answer = dispatched.Moved i mv t event; forbidden = m .forbidden })
+    made-turn after m event tried f =
         let (reply, left) = moves byteTable bytes (h .tested .is-sized) (h .tested .is-sound) someone in
-        let answer : outcomeReply o ≡ accepted (moveAnswer s r) = m .reply ∙ accepted-reply byteTable bytes r (accepts-i byteTable bytes r (h .tested .is-sized) (may .accepted)) in
-        let seen = event-is o (moveAnswer s r) answer (T-false (isRetry s r) (may .no-retry)) in
+        let answer : outcomeReply (m .outcome) ≡ accepted (moveAnswer s r) =
+        tried .made .reply ∙ accepted-reply byteTable bytes r (accepts-i byteTable bytes r (h .tested .is-sized) (may .accepted)) in
+        let seen = event-is (m .outcome) (moveAnswer s r) answer (T-false (isRetry s r) (may .no-retry)) in
         record {
-          reply =
-              ap (λ (x : MoveEvent). accepted (made r (moved (eventSeen x) false))) f
-              ∙ (ap (λ (a : MoveAnswer). accepted (made r a)) seen ∙ (ap (λ (q : Request). accepted (made q (moveAnswer s q))) (sym same) ∙ sym reply));
-          table = m .table ∙ (ap (moveTable bytes) (sym same) ∙ sym left);
+          turned =
+              record {
+                reply =
+                    ap (λ (x : MoveEvent). accepted (made r (moved (eventSeen x) false))) f
+                    ∙ (ap (λ (a : MoveAnswer). accepted (made r a)) seen ∙ (ap (λ (q : Request). accepted (made q (moveAnswer s q))) (sym same) ∙ sym reply));
+                table = tried .made .table ∙ (ap (moveTable bytes) (sym same) ∙ sym left);
+              };
+          count = tried .count;
         }
 
 -- ---- the tests
@@ -111,7 +120,10 @@ table-refused bytes x e =
     let d : dispatchReply bytes ≡ refused (numberOf x) 0 = refusal-is (dispatchAnswer (tableOf bytes)) bytes x e in
     record { reply = sym d; table = sym (refused-keeps byteTable bytes (subst (λ (y : Reply DispatchAnswer). T (not (isAccepted y))) (sym d) tt)) }
 
-pub found-sound : (bytes : List ℕ) (n k : ℕ) → examinedOf bytes ≡ examined.Sound n k → SoundFor bytes n × TestedTable bytes k
+pub found-sound : (bytes : List ℕ) (n k : ℕ) → examinedOf bytes ≡ examined.Sound n k → TurnTable bytes n k
 found-sound bytes n k e =
     let f = sound-is bytes n k e in
-    (record { size = sized-e bytes (f .tested .is-sized); is-sound = f .tested .is-sound; count = f .threads }, tested.found-sound bytes n k e)
+    record {
+      chosen = record { counted = record { size = sized-e bytes (f .tested .is-sized); count = f .threads }; is-sound = f .tested .is-sound };
+      moved = tested.found-sound bytes n k e;
+    }

@@ -1,6 +1,4 @@
-// The dispatcher (02 §8): the table is tested once, one pass over the threads chooses a request, and the move makes it.
-mod choice;
-mod ready;
+// The dispatcher (02 §8): the table is tested once, a request is chosen, and the move makes it.
 mod turn;
 
 pub use turn::dispatch;

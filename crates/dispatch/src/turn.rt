@@ -1,15 +1,19 @@
 // One turn of the dispatcher.
-use crate::choice::Choice;
-use crate::choice::choose;
+use choice::Choice;
+use choice::choose;
 use definitions::Dispatched;
 use definitions::MoveEvent;
 use definitions::Outcome;
 use definitions::Request;
 use table::Examined;
 ghost use mathlib.Core.Path.{_≡_};
-ghost use Rattle.apply.specs.MoveMade.{TestedTable};
-ghost use Rattle.dispatch.specs.Choosing.{SoundFor, eventIn};
-ghost use Rattle.dispatch.specs.Turned.{Turned};
+ghost use Rattle.dispatch.specs.Turned.{TurnTable, Turned, TurnTaken, eventIn};
+
+// What a turn answers, and how many threads have forbidden 1 after it.
+struct Turn {
+    answer: Dispatched,
+    forbidden: usize,
+}
 
 // What is seen of a move.
 fn event_of(outcome: Outcome) -> MoveEvent
@@ -24,14 +28,16 @@ fn event_of(outcome: Outcome) -> MoveEvent
 }
 
 // A turn on a table that was tested, of whose threads `forbidden` have forbidden 1.
-fn take_turn(table: &mut [u8], threads: usize, forbidden: usize) -> Dispatched
-    requires { ⌜ SoundFor (now table) threads ⌝ }
-    requires { ⌜ TestedTable (now table) forbidden ⌝ }
-    ensures { λ r. ⌜ Turned (now (table .entry)) (now (table .exit)) r ⌝ }
+fn take_turn(table: &mut [u8], threads: usize, forbidden: usize) -> Turn
+    requires { ⌜ TurnTable (now table) threads forbidden ⌝ }
+    ensures { λ r. ⌜ TurnTaken (now (table .entry)) (now (table .exit)) r ⌝ }
 {
     let choice = choose(table, threads);
     match choice {
-        Choice::Nobody => Dispatched::Waiting,
+        Choice::Nobody => Turn {
+            answer: Dispatched::Waiting,
+            forbidden,
+        },
         Choice::Makes { thread, mv, target } => {
             let request = Request {
                 thread: thread as u16,
@@ -41,11 +47,14 @@ fn take_turn(table: &mut [u8], threads: usize, forbidden: usize) -> Dispatched
             let made = lock::try_move(table, forbidden, request);
             let outcome = made.outcome;
             let event = event_of(outcome);
-            Dispatched::Moved {
-                thread,
-                mv,
-                target,
-                event,
+            Turn {
+                answer: Dispatched::Moved {
+                    thread,
+                    mv,
+                    target,
+                    event,
+                },
+                forbidden: made.forbidden,
             }
         }
     }
@@ -57,6 +66,9 @@ pub fn dispatch(table: &mut [u8]) -> Dispatched
     let examined = table::examine(table);
     match examined {
         Examined::Refused(x) => Dispatched::Refused(x),
-        Examined::Sound(threads, forbidden) => take_turn(table, threads, forbidden),
+        Examined::Sound(threads, forbidden) => {
+            let turn = take_turn(table, threads, forbidden);
+            turn.answer
+        }
     }
 }

@@ -1,0 +1,82 @@
+// The choice of a thread, and the request of that thread.
+use crate::searches::lowest_ready;
+use crate::searches::lowest_with;
+use ready::move_in;
+use ready::ready_phases;
+use table::MUTEX_AT;
+use table::TARGET_AT;
+use table::busy_at;
+use table::phase_at;
+ghost use Prim.Native.Nat.{_<_};
+ghost use mathlib.Core.Path.{_≡_};
+ghost use Rattle.definitions.specs.Table.{tableOf};
+ghost use Rattle.ready.specs.ReadyBits.{readyIn};
+ghost use Rattle.choice.specs.Choosing.{CountedFor, SoundFor, targetIn, requestFor, choiceOf};
+
+// What is chosen.
+pub enum Choice {
+    Nobody,
+    Makes { thread: u8, mv: u8, target: u8 },
+}
+
+// The busy of the table's target, 0 where there is none.
+fn target_busy(table: &[u8], threads: usize) -> u8
+    requires { ⌜ CountedFor (now table) threads ⌝ }
+    ensures { λ r. ⌜ r ≡ tableOf (now (table .entry)) .busy (tableOf (now (table .entry)) .target) ⌝ }
+{
+    let target = table[TARGET_AT] as usize;
+    if target < threads {
+        return table[busy_at(target)];
+    }
+    0
+}
+
+// The phases in which a thread is ready, a bit each.
+fn phases_in(table: &[u8], threads: usize) -> u32
+    requires { ⌜ CountedFor (now table) threads ⌝ }
+    ensures { λ r. ⌜ r ≡ readyIn (tableOf (now (table .entry))) ⌝ }
+{
+    let mutex = table[MUTEX_AT];
+    let busy = target_busy(table, threads);
+    ready_phases(mutex, busy)
+}
+
+// "In 10 the target is the lowest thread with forbidden 0, in 15 the lowest with forbidden 1."
+fn target_in(table: &[u8], threads: usize, phase: u8) -> usize
+    requires { ⌜ CountedFor (now table) threads ⌝ }
+    ensures { λ r. ⌜ r ≡ targetIn (tableOf (now (table .entry))) phase ⌝ }
+{
+    match phase {
+        10 => lowest_with(table, threads, 0),
+        15 => lowest_with(table, threads, 1),
+        _ => 0,
+    }
+}
+
+// The request of a thread that is ready.
+fn request_for(table: &[u8], threads: usize, thread: usize) -> Choice
+    requires { ⌜ CountedFor (now table) threads × (thread < threads) ⌝ }
+    ensures { λ r. ⌜ r ≡ requestFor (tableOf (now (table .entry))) thread ⌝ }
+{
+    let phase = table[phase_at(thread)];
+    let mv = move_in(phase);
+    let target = target_in(table, threads, phase);
+    Choice::Makes {
+        thread: thread as u8,
+        mv,
+        target: target as u8,
+    }
+}
+
+// "for the lowest-numbered thread that has one"
+pub fn choose(table: &[u8], threads: usize) -> Choice
+    requires { ⌜ SoundFor (now table) threads ⌝ }
+    ensures { λ r. ⌜ r ≡ choiceOf (tableOf (now (table .entry))) ⌝ }
+{
+    let phases = phases_in(table, threads);
+    let thread = lowest_ready(table, 0, threads, phases);
+    if threads <= thread {
+        return Choice::Nobody;
+    }
+    request_for(table, threads, thread)
+}

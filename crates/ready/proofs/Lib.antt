@@ -1,0 +1,2 @@
+-- What the bits of the phases say.
+pub mod ReadyBits

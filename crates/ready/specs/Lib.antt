@@ -1,0 +1,2 @@
+-- The definition that this crate's contracts cite besides those of the crates below.
+pub mod ReadyBits
