@@ -9,7 +9,7 @@ use Rattle.definitions.specs.Dispatch.{moverIn, moveFor, targetFor, isWaiting}
 use Rattle.definitions.specs.Sound.{sound}
 use Rattle.definitions.specs.Table.{Table}
 use Rattle.definitions.specs.Threads.{lowest}
-use Rattle.dispatching.specs.Ready.{ready, moveBy}
+use Rattle.dispatching.specs.Ready.{ready}
 use Rattle.dispatching.proofs.Choice.{mover-fits, mover-is, chosen-move, waiting-none}
 use Rattle.theory.proofs.Lowest.{lowest-none, lowest-most}
 use Rattle.theory.proofs.Quantifiers.{none-i}

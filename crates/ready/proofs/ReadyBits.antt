@@ -1,33 +1,18 @@
 -- The bits of the phases say which threads are ready, by trying the phases.
-use Prim.Native.Nat.{ℕ, suc, _+_, _*_, _≤_, _<_}
+use Prim.Native.Nat.{ℕ, suc, _≤_}
 use native.Mathlib.Omega.{arith}
-use mathlib.Core.Bool.{cond, not, Bool·beq}
-use mathlib.Core.List.{List}
+use mathlib.Core.Bool.{not, Bool·beq}
 use mathlib.Core.Logic.{_⊎_, inl, inr}
-use mathlib.Core.Path.{_≡_, sym, subst, ap, ap₂, _∙_}
+use mathlib.Core.Path.{_≡_}
 use lib.Dec.{T, eqb}
-use lib.ListN.{getD}
 use Rattle.definitions.specs.Bounds.{lastPhase}
-use Rattle.definitions.specs.Table.{tableOf, phaseAt}
 use Rattle.definitions.specs.Threads.{every}
-use Rattle.dispatching.specs.Ready.{readyBy, ready}
+use Rattle.dispatching.specs.Ready.{readyBy}
 use Rattle.theory.proofs.Quantifiers.{every-at}
-use Rattle.theory.proofs.Soundness.{sound-e}
 use Rattle.theory.proofs.Tests.{T-true, T-false, decided}
 use Rattle.requests.specs.RequestTests.{bitsBelow, hasBit}
 use Rattle.requests.proofs.Bits.{agrees-eq}
 use Rattle.ready.specs.ReadyBits.{readyBits}
-
--- the bits that the mutex and the target's busy do not change, and those of 9 and 11
-pub bits-are : (mutex busy : ℕ) → 505_262 + 512 * cond (eqb mutex 0) 1 0 + 2_048 * cond (eqb busy 0) 1 0 ≡ readyBits mutex busy
-unfolding readyBy bitsBelow
-bits-are mutex busy = by (decided (eqb mutex 0)) (decided (eqb busy 0))
-  where
-    by : T (eqb mutex 0) ⊎ T (not (eqb mutex 0)) → T (eqb busy 0) ⊎ T (not (eqb busy 0)) → 505_262 + 512 * cond (eqb mutex 0) 1 0 + 2_048 * cond (eqb busy 0) 1 0 ≡ readyBits mutex busy
-    by (inl t) (inl u) = rw (T-true (eqb mutex 0) t, T-true (eqb busy 0) u)
-    by (inl t) (inr u) = rw (T-true (eqb mutex 0) t, T-false (eqb busy 0) u)
-    by (inr t) (inl u) = rw (T-false (eqb mutex 0) t, T-true (eqb busy 0) u)
-    by (inr t) (inr u) = rw (T-false (eqb mutex 0) t, T-false (eqb busy 0) u)
 
 -- each bit, by trying the phases
 pub ready-bit : (mutex busy phase : ℕ) → phase ≤ lastPhase → hasBit (readyBits mutex busy) phase ≡ readyBy mutex busy phase

@@ -1,11 +1,14 @@
--- `ready_phases` meets its contract.
+-- `ready_phases` meets its contract: with the mutex free or taken, and the target busy or not, both sides are numbers.
 use Prim.Native.Nat.{_≤_}
 use native.Mathlib.Omega.{arith}
+use mathlib.Core.Logic.{⊎-elim}
 use borrow.Author.Needs.{needs}
 use lib.Dec.{eqb}
 use mir.Val.{boolByte}
-use Rattle.theory.proofs.Casts.{cast-is, cast-most}
-use Rattle.ready.proofs.ReadyBits.{bits-are}
+use Rattle.dispatching.specs.Ready.{readyBy}
+use Rattle.requests.specs.RequestTests.{bitsBelow}
+use Rattle.theory.proofs.Casts.{cast-most}
+use Rattle.theory.proofs.Tests.{T-true, T-false, decided}
 use Rattle.ready.proofs.ready_phases.Statement.{statement}
 use Rattle.ready.proofs.ready_phases.Tie as tie
 
@@ -16,28 +19,21 @@ free-most c = cast-most (eqb (c .args .mutex) 0)
 calm-most : (c : tie.Start) → boolByte (eqb (c .args .busy) 0) ≤ 1
 calm-most c = cast-most (eqb (c .args .busy) 0)
 
-cast-result : tie.Need-cast-result
-cast-result c = search needs
-
-mul-result : tie.Need-mul-result
-mul-result c = record { fits = omega (arith, free-most c) }
-
-add-result : tie.Need-add-result
-add-result c = record { fits = omega (arith, free-most c) }
-
-cast-result-2 : tie.Need-cast-result-2
-cast-result-2 c = search needs
-
-mul-result-2 : tie.Need-mul-result-2
-mul-result-2 c = record { fits = omega (arith, calm-most c) }
-
-add-result-2 : tie.Need-add-result-2
-add-result-2 c = record { fits = omega (arith, free-most c, calm-most c) }
-
-returns : tie.Need-returns
-returns c = rw (cast-is (eqb (c .args .mutex) 0), cast-is (eqb (c .args .busy) 0)) (bits-are (c .args .mutex) (c .args .busy))
-
 pub ready-phases-spec : {M : Type 1} → statement M
+unfolding readyBy bitsBelow
 ready-phases-spec =
     tie.close
-    (tie.spec cast-result mul-result add-result cast-result-2 mul-result-2 add-result-2 returns)
+    (tie.spec
+    (λ c. search needs)
+    (λ c. record { fits = omega (arith, free-most c) })
+    (λ c. record { fits = omega (arith, free-most c) })
+    (λ c. search needs)
+    (λ c. record { fits = omega (arith, calm-most c) })
+    (λ c. record { fits = omega (arith, free-most c, calm-most c) })
+    (λ c.
+    let free = eqb (c .args .mutex) 0 in
+    let calm = eqb (c .args .busy) 0 in
+    ⊎-elim
+    (λ t. ⊎-elim (λ u. rw (T-true free t, T-true calm u)) (λ u. rw (T-true free t, T-false calm u)) (decided calm))
+    (λ t. ⊎-elim (λ u. rw (T-false free t, T-true calm u)) (λ u. rw (T-false free t, T-false calm u)) (decided calm))
+    (decided free)))

@@ -1,8 +1,7 @@
 -- `lowest_ready` meets its contract. The loop's invariant: no thread of the range that was passed is ready.
-use Prim.Native.Nat.{ℕ, _-_, _<_}
+use Prim.Native.Nat.{ℕ, _-_}
 use native.Mathlib.Omega.{arith}
 use mathlib.Core.Bool.{Bool, not}
-use mathlib.Core.List.{List}
 use mathlib.Core.Path.{_≡_, subst, _∙_}
 use lib.Dec.{T}
 use Rattle.definitions.specs.Table.{tableOf}
