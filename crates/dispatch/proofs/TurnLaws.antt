@@ -124,6 +124,6 @@ pub found-sound : (bytes : List ℕ) (n k : ℕ) → examinedOf bytes ≡ examin
 found-sound bytes n k e =
     let f = sound-is bytes n k e in
     record {
-      chosen = record { counted = record { size = sized-e bytes (f .tested .is-sized); count = f .threads }; is-sound = f .tested .is-sound };
-      moved = tested.found-sound bytes n k e;
+      counted = record { counted = record { size = sized-e bytes (f .tested .is-sized); count = f .threads }; is-sound = f .tested .is-sound };
+      tested = tested.found-sound bytes n k e;
     }

@@ -26,8 +26,8 @@ pub record TurnTaken (before after : List ℕ) (t : Turn) : Type 0 where
 
 -- a table that passes the tests 1 and 2, its N, and how many of its threads have forbidden 1
 pub record TurnTable (bytes : List ℕ) (n k : ℕ) : Type 0 where
-  pub chosen : SoundFor bytes n
-  pub moved : TestedTable bytes k
+  pub counted : SoundFor bytes n
+  pub tested : TestedTable bytes k
 
 -- what is seen of a move by its outcome
 abbrev pub eventIn : Outcome → MoveEvent

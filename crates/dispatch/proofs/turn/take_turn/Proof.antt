@@ -20,10 +20,10 @@ take-turn-spec =
     (λ c. search needs)
     (λ c.
     let called = c .before .before in
-    nobody-turn _ _ (called .before .before .before .pre .moved) (sym (called .choose .ensures) ∙ c .enum-told .given .1))
+    nobody-turn _ _ (called .before .before .before .pre .tested) (sym (called .choose .ensures) ∙ c .enum-told .given .1))
     (λ c. search needs)
     (λ c.
     let chosen = c .before .before .before .before .before .before in
     let called = chosen .before .before in
-    made-turn _ _ (called .before .before .before .pre .moved) _ _ _ (sym (called .choose .ensures) ∙ chosen .choice .given .1) _ _ _
+    made-turn _ _ (called .before .before .before .pre .tested) _ _ _ (sym (called .choose .ensures) ∙ chosen .choice .given .1) _ _ _
     (c .before .before .before .try-move .ensures) (c .event-of .ensures)))
