@@ -15,19 +15,19 @@ use Rattle.theory.proofs.Lowest.{lowest-none, lowest-most}
 use Rattle.theory.proofs.Quantifiers.{none-i}
 use Rattle.theory.proofs.Soundness.{Sound, sound-e}
 use Rattle.theory.proofs.Tests.{decided, cond-yes, cond-no, cond-either}
-use Rattle.choice.specs.Choosing.{lowestFrom, targetIn, requestFor, choiceOf}
+use Rattle.choice.specs.Choosing.{lowestFrom, requestFor, choiceOf}
 use Rattle.choice.specs.declared.request.Choice.{Choice}
 use Rattle.choice.specs.declared.request.Choice.the-variants.{Nobody, Makes}
 use Rattle.choice.proofs.SearchLaws.{of-all}
 
 module _ (s : Table) where
   -- a target is a thread, or N
-  pub target-most : (phase target : ℕ) → target ≡ targetIn s phase → target ≤ s .threads
-  unfolding targetIn
-  target-most phase target e =
+  pub target-most : (i target : ℕ) → target ≡ targetFor s i → target ≤ s .threads
+  unfolding targetFor
+  target-most i target e =
       subst (λ (t : ℕ). t ≤ s .threads) (sym e)
-      (cond-either (λ (t : ℕ). t ≤ s .threads) (eqb phase 10) _ _ (λ t. lowest-most _ (s .threads))
-      (λ t. cond-either (λ (t : ℕ). t ≤ s .threads) (eqb phase 15) _ _ (λ u. lowest-most _ (s .threads)) (λ u. omega arith)))
+      (cond-either (λ (t : ℕ). t ≤ s .threads) (eqb (s .phase i) 10) _ _ (λ t. lowest-most _ (s .threads))
+      (λ t. cond-either (λ (t : ℕ). t ≤ s .threads) (eqb (s .phase i) 15) _ _ (λ u. lowest-most _ (s .threads)) (λ u. omega arith)))
 
   -- what the search over all threads answers
   module _ (is-sound : T (sound s)) (n i : ℕ) (count : n ≡ s .threads) (found : i ≡ lowestFrom 0 n (ready s)) where

@@ -3,7 +3,7 @@ use Prim.Native.Nat.{ℕ, _≤_}
 use mathlib.Core.Bool.{Bool, cond, _&&_}
 use mathlib.Core.List.{List}
 use mathlib.Core.Path.{_≡_}
-use lib.Dec.{T, leb, eqb}
+use lib.Dec.{T, leb}
 use Rattle.definitions.specs.Dispatch.{moverIn, moveFor, targetFor, isWaiting}
 use Rattle.definitions.specs.Sound.{sound}
 use Rattle.definitions.specs.Table.{Table, tableOf}
@@ -38,12 +38,6 @@ pub record SearchedFor (bytes : List ℕ) (to phases : ℕ) : Type 0 where
   pub bits : phases ≡ readyIn (tableOf bytes)
 
 -- ---- what is chosen
-
--- the target of a thread in a phase
-unfoldable pub targetIn : Table → ℕ → ℕ
-targetIn s phase =
-    cond (eqb phase 10) (lowest (s .threads) (λ t. eqb (s .forbidden t) 0))
-    (cond (eqb phase 15) (lowest (s .threads) (λ t. eqb (s .forbidden t) 1)) 0)
 
 -- the request of thread i
 abbrev pub requestFor : Table → ℕ → Choice

@@ -7,11 +7,12 @@ use table::MUTEX_AT;
 use table::TARGET_AT;
 use table::busy_at;
 use table::phase_at;
-ghost use Prim.Native.Nat.{_<_};
+ghost use Prim.Native.Nat.{ℕ, _<_};
 ghost use mathlib.Core.Path.{_≡_};
+ghost use Rattle.definitions.specs.Dispatch.{targetFor};
 ghost use Rattle.definitions.specs.Table.{tableOf};
 ghost use Rattle.ready.specs.ReadyBits.{readyIn};
-ghost use Rattle.choice.specs.Choosing.{CountedFor, SoundFor, targetIn, requestFor, choiceOf};
+ghost use Rattle.choice.specs.Choosing.{CountedFor, SoundFor, requestFor, choiceOf};
 
 // What is chosen.
 pub enum Choice {
@@ -41,10 +42,10 @@ fn phases_in(table: &[u8], threads: usize) -> u32
     ready_phases(mutex, busy)
 }
 
-// "In 10 the target is the lowest thread with forbidden 0, in 15 the lowest with forbidden 1."
+// The target of a thread by its phase: "In 10 the target is the lowest thread with forbidden 0, in 15 the lowest with forbidden 1."
 fn target_in(table: &[u8], threads: usize, phase: u8) -> usize
     requires { ⌜ CountedFor (now table) threads ⌝ }
-    ensures { λ r. ⌜ r ≡ targetIn (tableOf (now (table .entry))) phase ⌝ }
+    ensures { λ r. ⌜ ((i : ℕ) → phase ≡ tableOf (now (table .entry)) .phase i → r ≡ targetFor (tableOf (now (table .entry))) i) ⌝ }
 {
     match phase {
         10 => lowest_with(table, threads, 0),

@@ -1,25 +1,27 @@
--- `request_for` meets its contract.
+-- `request_for` meets its contract: the move and the target go by the phase that was read.
 use Prim.Native.Nat.{ℕ}
 use native.Mathlib.Omega.{arith}
-use mathlib.Core.List.{List}
 use mathlib.Core.Path.{_≡_, ap, _∙_}
 use borrow.Author.Needs.{needs}
 use lib.ListN.{getD}
 use Rattle.definitions.specs.Dispatch.{targetFor}
-use Rattle.definitions.specs.Table.{tableOf, phaseAt}
+use Rattle.definitions.specs.Table.{tableOf}
 use Rattle.dispatching.specs.Ready.{moveBy}
-use Rattle.choice.specs.Choosing.{targetIn, requestFor}
 use Rattle.choice.specs.declared.request.Choice.the-variants.{Makes}
 use Rattle.choice.proofs.ChoiceLaws.{target-most}
 use Rattle.choice.proofs.request.request_for.Statement.{statement}
 use Rattle.choice.proofs.request.request_for.Tie as tie
 
--- the move and the target by the phase that was read
-its-request : (bytes : List ℕ) (i at mv target : ℕ) → at ≡ phaseAt i → mv ≡ moveBy (getD bytes at 0) → target ≡ targetIn (tableOf bytes) (getD bytes at 0)
-    → Makes i mv target ≡ requestFor (tableOf bytes) i
-unfolding targetFor targetIn
-its-request bytes i at mv target e f g =
-    (λ k. Makes i (f k) (g k)) ∙ ap (λ (a : ℕ). Makes i (moveBy (getD bytes a 0)) (targetIn (tableOf bytes) (getD bytes a 0))) e
+module _ (c : tie.After-target-in) where
+  abbrev start : tie.Start
+  start = c .before .before .before .before .before
+
+  -- the phase that was read is the thread's
+  read : getD (start .args .table .now) (c .before .before .before .phase-at .result) 0 ≡ tableOf (start .args .table .now) .phase (start .args .thread)
+  read = ap (λ (k : ℕ). getD (start .args .table .now) k 0) (c .before .before .before .phase-at .ensures)
+
+  target-is : c .target-in .result ≡ targetFor (tableOf (start .args .table .now)) (start .args .thread)
+  target-is = c .target-in .ensures (start .args .thread) read
 
 pub request-for-spec : {M : Type 1} → statement M
 request-for-spec =
@@ -31,9 +33,8 @@ request-for-spec =
     (λ c κs. search needs)
     (λ c. search needs)
     (λ c.
-    let start = c .before .before .before .before .before in
-    let most = target-most (tableOf (start .args .table .now)) _ _ (c .target-in .ensures) in
-    omega (arith, start .pre .0 .size))
+    let most = target-most (tableOf (start c .args .table .now)) (start c .args .thread) _ (target-is c) in
+    omega (arith, start c .pre .0 .size))
     (λ c.
-    let start = c .before .before .before .before .before in
-    its-request (start .args .table .now) _ _ _ _ (c .before .before .before .phase-at .ensures) (c .before .move-in .ensures) (c .target-in .ensures)))
+    let mv-is = c .before .move-in .ensures ∙ ap moveBy (read c) in
+    λ i. Makes (start c .args .thread) (mv-is i) (target-is c i)))
