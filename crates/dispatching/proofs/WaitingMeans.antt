@@ -1,6 +1,7 @@
--- What waiting means (02 §8): in a table for which the dispatcher answers waiting, a writer in 11 has a target in Shared, a thread in EE finds the mutex taken,
--- and every thread is in 0, 4, 6, 9, 11 or 14 (`waiting-means`). So a mutex that is taken is held by a writer in 11 or 14 (`waiting-holder`),
--- and where some thread isn't Free the host has a move that is no call (`waiting-host`).
+-- What waiting means (02 §8): in a sound table in which no thread has a turn, a writer in 11 has a target in Shared, a thread in EE finds the mutex taken,
+-- and every thread is in 0, 4, 6, 9, 11 or 14 (`no-turn-means`). So a mutex that is taken is held by a writer in 11 or 14 (`no-turn-holder`),
+-- and where some thread isn't Free the host has a move that is no call (`no-turn-host`).
+-- A table for which the dispatcher answers waiting is such a table (`waiting-means`, `waiting-holder`, `waiting-host`).
 use Prim.Native.Nat.{ℕ, suc, _≤_, _<_}
 use native.Mathlib.Omega.{arith}
 use mathlib.Core.Bool.{not, _&&_, _||_}
@@ -11,7 +12,7 @@ use lib.Dec.{T, eqb, eqb→eq}
 use Rattle.definitions.specs.Answers.{accepted}
 use Rattle.definitions.specs.Bounds.{lastPhase}
 use Rattle.definitions.specs.Codes.{Free, Shared, EE}
-use Rattle.definitions.specs.Dispatch.{waiting, dispatchReply}
+use Rattle.definitions.specs.Dispatch.{isWaiting, waiting, dispatchReply}
 use Rattle.definitions.specs.Phases.{rows, nodeOf, busyIn, holds}
 use Rattle.definitions.specs.Sound.{anyHolder}
 use Rattle.definitions.specs.Table.{Table, tableOf}
@@ -19,7 +20,7 @@ use Rattle.definitions.specs.Threads.{every, among, implies}
 use Rattle.theory.proofs.Cases.{or-at, among-here}
 use Rattle.theory.proofs.Quantifiers.{implied}
 use Rattle.theory.proofs.SoundChanges.{in-phase}
-use Rattle.theory.proofs.Soundness.{Some, Sound, some-in, none-in, sound-e}
+use Rattle.theory.proofs.Soundness.{All, Some, Sound, some-in, none-in, sound-e}
 use Rattle.theory.proofs.Tests.{and-i, or-e, or-l, or-r, eq-T, ne-T, decided, no-both, same?, implies-i}
 use Rattle.dispatching.specs.Ready.{hosts, readyBy, ready}
 use Rattle.dispatching.specs.Turns.{WaitsThere, hostPhases, HostMoves}
@@ -62,31 +63,24 @@ not-ready mutex busy p t = by (decided (hosts p)) (decided (eqb p 9 || eqb p 11)
         (implies-i (eqb p 11) (eqb busy 0) (λ w. absurd (no-both (eqb p 9 || eqb p 11) (or-r (eqb p 9) (eqb p 11) w) v)))))
         t)
 
--- a sound table without a thread that is ready
-module _ (s : Table) (z : Sound s) (none : (j : ℕ) → j < s .threads → T (not (ready s j))) (i : ℕ) (l : i < s .threads) where
-  there : (j : ℕ) → j < s .threads → T (among (s .phase j) waitingPhases)
-  there j k = are-these (s .phase j) (z .phases j k) (not-ready (s .mutex) (s .busy (s .target)) (s .phase j) (none j k))
+-- a sound table in which no thread has a turn
+module _ (s : Table) (z : Sound s) (none : T (isWaiting s)) where
+  there : All s (λ j. T (among (s .phase j) waitingPhases))
+  there j k = are-these (s .phase j) (z .phases j k) (not-ready (s .mutex) (s .busy (s .target)) (s .phase j) (waiting-none s z none j k))
 
-  waits-in-11 : s .phase i ≡ 11 → (s .target < s .threads) × (nodeOf (s .phase (s .target)) ≡ Shared)
+  waits-in-11 : All s (λ i. s .phase i ≡ 11 → (s .target < s .threads) × (nodeOf (s .phase (s .target)) ≡ Shared))
   unfolding rows readyBy
-  waits-in-11 e =
+  waits-in-11 i l e =
       let k = z .has-target i l (in-phase s z i l 11 e tt 11 12 tt) .0 in
-      let busy : (s .busy (s .target) ≡ 1 → ⊥) → ⊥ = λ h. no-both (ready s i) (rw (e, target-calm s z i l e h) tt) (none i l) in
+      let busy : (s .busy (s .target) ≡ 1 → ⊥) → ⊥ = λ h. no-both (ready s i) (rw (e, target-calm s z i l e h) tt) (waiting-none s z none i l) in
       (k, busy-shared (s .phase (s .target)) (z .phases (s .target) k) (there (s .target) k) (sym (z .busies (s .target) k) ∙ ⊎-elim (λ b. b) (λ h. absurd (busy h)) (same? (s .busy (s .target)) 1)))
 
-  waits-in-9 : s .phase i ≡ 9 → s .mutex ≡ 1
+  waits-in-9 : All s (λ i. s .phase i ≡ 9 → s .mutex ≡ 1)
   unfolding readyBy
-  waits-in-9 e = ⊎-elim (λ m. m) (λ h. absurd (no-both (ready s i) (rw (e, mutex-free s z h) tt) (none i l))) (same? (s .mutex) 1)
+  waits-in-9 i l e = ⊎-elim (λ m. m) (λ h. absurd (no-both (ready s i) (rw (e, mutex-free s z h) tt) (waiting-none s z none i l))) (same? (s .mutex) 1)
 
-  waits-there : WaitsThere s i
-  waits-there = record { in-11 = waits-in-11; in-EE = λ e. waits-in-9 (in-9 (s .phase i) (z .phases i l) e); phases = there i l }
-
-pub waiting-means : (table : List ℕ) → dispatchReply table ≡ accepted waiting → (i : ℕ) → i < tableOf table .threads → WaitsThere (tableOf table) i
-waiting-means table e i l =
-    let s = tableOf table in
-    let (g, t) = waiting-says table e in
-    let z = sound-e s (g .is-sound) in
-    waits-there s z (waiting-none s z t) i l
+  pub no-turn-means : All s (WaitsThere s)
+  no-turn-means i l = record { in-11 = waits-in-11 i l; in-EE = λ e. waits-in-9 i l (in-9 (s .phase i) (z .phases i l) e); phases = there i l }
 
 -- ---- where the mutex is, and where the host has a move
 
@@ -106,10 +100,13 @@ shared-host : (p : ℕ) → p ≤ lastPhase → nodeOf p ≡ Shared → T (among
 unfolding rows every among
 shared-host p l e = implied (λ q. eqb (nodeOf q) Shared) (λ q. among q hostPhases) (suc lastPhase) tt p (omega arith) (eq-T (nodeOf p) Shared e)
 
-module _ (s : Table) (z : Sound s) (all : (i : ℕ) → i < s .threads → WaitsThere s i) where
+module _ (s : Table) (z : Sound s) (none : T (isWaiting s)) where
+  all : All s (WaitsThere s)
+  all = no-turn-means s z none
+
   -- the mutex is taken by a writer
-  taken-by : s .mutex ≡ 1 → Some s (λ h. T (among (s .phase h) (11 ∷ 14 ∷ [])))
-  taken-by m = by (decided (anyHolder s))
+  pub no-turn-holder : s .mutex ≡ 1 → Some s (λ h. T (among (s .phase h) (11 ∷ 14 ∷ [])))
+  no-turn-holder m = by (decided (anyHolder s))
     where
       by : T (anyHolder s) ⊎ T (not (anyHolder s)) → Some s (λ h. T (among (s .phase h) (11 ∷ 14 ∷ [])))
       by (inl t) = let (h, k, u) = some-in s holds t in (h, k, holder-late (s .phase h) (z .phases h k) (all h k .phases) u)
@@ -124,18 +121,29 @@ module _ (s : Table) (z : Sound s) (all : (i : ℕ) → i < s .threads → Waits
       (λ u. (h, k, or-r (eqb (s .phase h) 4) (among (s .phase h) (6 ∷ 14 ∷ [])) (or-r (eqb (s .phase h) 6) (among (s .phase h) (14 ∷ [])) u)))
       (or-e (eqb (s .phase h) 11) (among (s .phase h) (14 ∷ [])) t)
 
-  somewhere : (i : ℕ) → i < s .threads → (nodeOf (s .phase i) ≡ Free → ⊥) → Some s (HostMoves s)
+  pub no-turn-host : (i : ℕ) → i < s .threads → (nodeOf (s .phase i) ≡ Free → ⊥) → Some s (HostMoves s)
   unfolding rows
-  somewhere i l other =
-      or-at (s .phase i) 9 _ (λ e. let (h, k, t) = taken-by (all i l .in-EE (rw e)) in by-writer h k t)
+  no-turn-host i l other =
+      or-at (s .phase i) 9 _ (λ e. let (h, k, t) = no-turn-holder (all i l .in-EE (rw e)) in by-writer h k t)
       (or-at (s .phase i) 11 _ (λ e. by-writer i l (among-here (s .phase i) 11 (14 ∷ []) e)) (λ t. (i, l, t)))
       (not-free (s .phase i) (z .phases i l) (all i l .phases) other)
 
--- while a table waits, a mutex that is taken is held by a writer in 11 or 14
-pub waiting-holder : (table : List ℕ) → dispatchReply table ≡ accepted waiting → tableOf table .mutex ≡ 1 → Some (tableOf table) (λ h. T (among (tableOf table .phase h) (11 ∷ 14 ∷ [])))
-waiting-holder table e = let s = tableOf table in taken-by s (sound-e s (waiting-says table e .0 .is-sound)) (waiting-means table e)
+-- ---- a table for which the dispatcher answers waiting is such a table
 
--- and where some thread isn't Free, the host has a move: some thread is in 4, 6 or 14
-pub waiting-host : (table : List ℕ) → dispatchReply table ≡ accepted waiting → (i : ℕ) → i < tableOf table .threads → (nodeOf (tableOf table .phase i) ≡ Free → ⊥)
-    → Some (tableOf table) (HostMoves (tableOf table))
-waiting-host table e = let s = tableOf table in somewhere s (sound-e s (waiting-says table e .0 .is-sound)) (waiting-means table e)
+module _ (table : List ℕ) (e : dispatchReply table ≡ accepted waiting) where
+  abbrev s : Table
+  s = tableOf table
+
+  z : Sound s
+  z = sound-e s (waiting-says table e .0 .is-sound)
+
+  pub waiting-means : (i : ℕ) → i < s .threads → WaitsThere s i
+  waiting-means = no-turn-means s z (waiting-says table e .1)
+
+  -- a mutex that is taken is held by a writer in 11 or 14
+  pub waiting-holder : s .mutex ≡ 1 → Some s (λ h. T (among (s .phase h) (11 ∷ 14 ∷ [])))
+  waiting-holder = no-turn-holder s z (waiting-says table e .1)
+
+  -- and where some thread isn't Free, the host has a move: some thread is in 4, 6 or 14
+  pub waiting-host : (i : ℕ) → i < s .threads → (nodeOf (s .phase i) ≡ Free → ⊥) → Some s (HostMoves s)
+  waiting-host = no-turn-host s z (waiting-says table e .1)
