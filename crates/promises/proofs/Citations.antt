@@ -40,6 +40,7 @@ use Rattle.theory.proofs.SoundKept as kept
 use Rattle.theory.proofs.Storages as storages
 use Rattle.turn_limit.proofs.TurnLimit.{turns-sound, turn-limit, waits-then}
 use Rattle.turn_limit.proofs.TurnLimitReached.{turn-limit-reached}
+use Rattle.turn_limit.proofs.TurnsAnyOrder.{turns-any-order, turns-any-rule}
 use Rattle.watching.proofs.EveryEvent as watching
 use Rattle.answer_numbers.proofs.Small.{write-held}
 use Rattle.answer_numbers.proofs.Told as told
@@ -197,6 +198,8 @@ proved =
       waits-then = waits-then;
       turns-sound = turns-sound;
       turn-limit-reached = turn-limit-reached;
+      turns-any-order = turns-any-order;
+      turns-any-rule = turns-any-rule;
       as-requests = as-requests;
       steps-safe = steps-safe;
     }

@@ -45,6 +45,7 @@ use Rattle.soundness.specs.Pass.{foundOf, passes}
 use Rattle.theory.specs.Outputs.{Delivered}
 use Rattle.theory.specs.Statements.{OutsideView, writesMutex, MayWrite, Disciplined, atMutex, localMove, Agree, Stands}
 use Rattle.theory.specs.Tables.{SoundBytes, Keeps}
+use Rattle.turn_limit.specs.AnyOrder.{dispatchesAll, WaitsAfterBy, Rule, NamesTurns, turnBy}
 use Rattle.turn_limit.specs.TurnLimit.{mostTurns, afterTurns, WaitsAfter, TurnsReached}
 use Rattle.watching.specs.Verdicts.{verdictOn, verdictsOn, acceptedOf, someInside}
 use Rattle.answer_numbers.specs.Calls.{CountCall, countReply, WatchCall, watchReply}
@@ -345,6 +346,11 @@ pub record Promises (M : Type 1) : Type 2 where
   pub waits-then : (table : List ℕ) → SoundBytes table → (j : ℕ) → mostTurns (tableOf table .threads) ≤ j → dispatchReply (afterTurns j table) ≡ accepted waiting
   pub turns-sound : (table : List ℕ) → SoundBytes table → (k : ℕ) → SoundBytes (afterTurns k table)
   pub turn-limit-reached : (n : ℕ) → 1 ≤ n → n ≤ mostThreads → TurnsReached n
+  -- The limit is not the order's: requests that the dispatcher may make, of whichever threads and with whichever targets, are at most so many;
+  -- and by any rule of choice that names a thread which has a turn, waiting comes after at most so many turns.
+  pub turns-any-order : (table : List ℕ) → SoundBytes table → (rs : List Request) → T (dispatchesAll table rs) → length rs ≤ mostTurns (tableOf table .threads)
+  pub turns-any-rule : {Q : Type 0} (rule : Rule Q) → NamesTurns rule → (q : Q) (table : List ℕ) → SoundBytes table
+      → (k : ℕ) × (k ≤ mostTurns (tableOf table .threads)) × WaitsAfterBy (turnBy rule byteTable) (q, table) k
   -- Demand 3 with the dispatcher: requests of the host and turns, in any order, show and leave what `requestsBy` does, the host's requests with each turn's move in its place.
   -- So what they show from a fresh table is permitted.
   pub as-requests : (table : List ℕ) (xs : List Step) → AsRequests table xs

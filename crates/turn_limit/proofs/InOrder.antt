@@ -1,5 +1,5 @@
--- Tables in which the dispatcher serves the threads one after the other and nobody comes to Shared (`InOrder`): those below w leave, then w, a writer, goes on to 14, and then alone those above w,
--- which find their flags set. Turns keep a table so (`in-order-kept`). For every N and w.
+-- Tables in which the threads are served one after the other and nobody comes to Shared (`InOrder`, `none-shared`): those below w leave, then w, a writer, goes on to 14, and then alone those above w,
+-- which find their flags set. Requests keep a table so that are of no thread above w before (`in-order-kept`), and the lowest thread that has a turn is none (`mover-low`). For every N and w.
 use Prim.Native.Nat.{ℕ, suc, _≤_, _<_}
 use native.Mathlib.Omega.{arith}
 use mathlib.Core.Bool.{Bool, not, _||_}
@@ -8,23 +8,23 @@ use mathlib.Core.Path.{_≡_, refl, sym, subst, ap, _∙_}
 use lib.Dec.{T, eqb, eqb→eq}
 use Rattle.definitions.specs.Bounds.{lastPhase}
 use Rattle.definitions.specs.Codes.{Shared}
-use Rattle.definitions.specs.Dispatch.{moverIn, isWaiting, dispatchIn}
+use Rattle.definitions.specs.Dispatch.{mayDispatch, moverIn}
+use Rattle.definitions.specs.Moves.{step}
 use Rattle.definitions.specs.Phases.{rows, nodeOf, busyIn, holds}
-use Rattle.definitions.specs.Table.{Table, Storage}
+use Rattle.definitions.specs.Table.{Table}
 use Rattle.definitions.specs.Threads.{every, among, between, implies, listOf}
 use Rattle.dispatching.specs.Ready.{readyBy, ready}
-use Rattle.dispatching.proofs.Choice.{mover-fits, mover-is}
-use Rattle.dispatching.proofs.TurnReplies.{waits}
-use Rattle.theory.specs.Tables.{Keeps}
+use Rattle.definitions.specs.declared.Request.{Request}
+use Rattle.dispatching.proofs.Choice.{mover-is}
 use Rattle.theory.proofs.Cases.{or-at, none-of, among-range}
 use Rattle.theory.proofs.Lowest.{lowest-below}
 use Rattle.theory.proofs.Quantifiers.{implied}
 use Rattle.theory.proofs.SoundChanges.{put-all, in-phase}
-use Rattle.theory.proofs.Soundness.{All, Sound, sound-e}
+use Rattle.theory.proofs.Soundness.{All, Sound}
 use Rattle.theory.proofs.Stages.{between-e}
-use Rattle.theory.proofs.Tests.{or-e, no-both, decided, implies-e, T-ne, same?, below?}
+use Rattle.theory.proofs.Tests.{or-e, no-both, implies-e, T-ne, same?, below?}
 use Rattle.turn_limit.proofs.NextPhases.{next, Next, tried}
-use Rattle.turn_limit.proofs.OneTurn.{Passes, turn-next, turn-threads}
+use Rattle.turn_limit.proofs.OneRequest.{request-fits, request-threads, request-next}
 
 -- the phases of those that leave, of a writer that hasn't left, and of those that are kept out
 abbrev pub leaver : ℕ → Bool
@@ -58,7 +58,7 @@ module _ (w : ℕ) (s : Table) (z : Sound s) (o : InOrder w s) where
       by (inr k) (inl q) = no writer tt (subst (λ (x : ℕ). T (writer (s .phase x))) (sym q) (o .here))
       by (inr k) (inr q) = no outsider tt (o .above j (omega arith) l)
 
-  -- ---- who moves before the writer is in 14
+  -- ---- who is the lowest before the writer is in 14
 
   module _ (early : s .phase w ≡ 14 → ⊥) where
     -- where those below are outside, w is ready
@@ -93,7 +93,7 @@ module _ (w : ℕ) (s : Table) (z : Sound s) (o : InOrder w s) where
           (among-range (s .phase w) 9 14 (o .here))
 
     -- so the mover is w or below, where one in 15 to 17 is ready
-    mover-low : moverIn s ≤ w
+    pub mover-low : moverIn s ≤ w
     unfolding readyBy every
     mover-low = ⊎-elim (λ l. omega arith) (λ l. absurd (no-both (ready s w) (writer-ready (λ j k. gone j k l)) (not-ready w l))) (below? (suc w) (moverIn s))
       where
@@ -106,18 +106,30 @@ module _ (w : ℕ) (s : Table) (z : Sound s) (o : InOrder w s) where
             leaves : T (between 15 17 (s .phase j)) → T (ready s j)
             leaves t = implied (between 15 17) (readyBy (s .mutex) (s .busy (s .target))) 18 tt (s .phase j) (omega (arith, between-e 15 17 (s .phase j) t .1)) t
 
-  -- ---- what a turn keeps
+  -- ---- what a request keeps
 
-  module _ (s′ : Table) (same : s′ .threads ≡ s .threads) (a : Next s (moverIn s) (s′ .phase)) (l : moverIn s < s .threads) where
+  module _ (r : Request) (may : T (mayDispatch s r)) (low : (s .phase w ≡ 14 → ⊥) → r .thread ≤ w) where
     abbrev i : ℕ
-    i = moverIn s
+    i = r .thread
+
+    abbrev s′ : Table
+    s′ = step s r
+
+    l : i < s .threads
+    l = request-fits s z r may
+
+    same : s′ .threads ≡ s .threads
+    same = request-threads s z r may
+
+    a : Next s i (s′ .phase)
+    a = request-next s z r may
 
     abbrev p : ℕ
     p = s .phase i
 
     -- if it is one above w, the writer is in 14
     late : w < i → s .phase w ≡ 14
-    late k = ⊎-elim (λ e. e) (λ h. absurd (omega (arith, mover-low h))) (same? (s .phase w) 14)
+    late k = ⊎-elim (λ e. e) (λ h. absurd (omega (arith, low h))) (same? (s .phase w) 14)
 
     -- where the mover comes to, by trying the phases
     comes-to : (f g : ℕ → Bool) → T (every (suc lastPhase) (λ x. every (suc lastPhase) (λ y. implies (among y (next x)) (implies (f x) (g y))))) → T (f p) → T (g (a .to))
@@ -137,9 +149,9 @@ module _ (w : ℕ) (s : Table) (z : Sound s) (o : InOrder w s) where
         put-all (λ x q. x ≡ w → q ≡ 14) (s .phase) (s′ .phase) i (a .to) (a .column)
         (λ d. none-of (a .to) (subst (λ (q : ℕ). T (among (a .to) (next q))) (ap (s .phase) d ∙ e) (a .behind))) w (λ d. e) refl
 
-    kept : InOrder w s′
+    pub in-order-kept : InOrder w s′
     unfolding every next among
-    kept =
+    in-order-kept =
         record {
           fits = omega (arith, o .fits, same);
           below = λ j k. put-all (λ x q. x < w → T (leaver q)) (s .phase) (s′ .phase) i (a .to) (a .column) (λ m. comes-to leaver leaver tt (o .below i m)) j (o .below j) k;
@@ -150,17 +162,5 @@ module _ (w : ℕ) (s : Table) (z : Sound s) (o : InOrder w s) where
               put-all (λ x q. w < x → x < s .threads → T (outsider q)) (s .phase) (s′ .phase) i (a .to) (a .column) (λ h d. kept-out h) j (o .above j) k (omega (arith, same));
           begun = λ j k m early′.
               let early : s .phase w ≡ 14 → ⊥ = λ e. early′ (stays-14 e) in
-              a .column .others j (λ q. omega (arith, mover-low early)) ∙ o .begun j k (omega (arith, same)) early;
+              a .column .others j (λ q. omega (arith, low early)) ∙ o .begun j k (omega (arith, same)) early;
         }
-
--- whatever stores the table
-module _ {B : Type 0} (S : Storage B) (keeps : Keeps S) where
-  pub in-order-kept : (w : ℕ) (b : B) → Passes S b → InOrder w (S .table b) → InOrder w (S .table (dispatchIn S b))
-  in-order-kept w b g o = by (decided (isWaiting (S .table b)))
-    where
-      z : Sound (S .table b)
-      z = sound-e (S .table b) (g .is-sound)
-
-      by : T (isWaiting (S .table b)) ⊎ T (not (isWaiting (S .table b))) → InOrder w (S .table (dispatchIn S b))
-      by (inl t) = subst (λ (x : B). InOrder w (S .table x)) (sym (waits S b (g .fits) (g .is-sound) t .1)) o
-      by (inr t) = kept w (S .table b) z o (S .table (dispatchIn S b)) (turn-threads S keeps b g t) (turn-next S keeps b g t) (mover-fits (S .table b) z t)

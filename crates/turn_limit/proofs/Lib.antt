@@ -1,12 +1,13 @@
--- TurnLimit and TurnLimitReached hold the theorems; the files before them hold what the proofs use.
+-- TurnsAnyOrder, TurnLimit and TurnLimitReached hold the theorems; the files before them hold what the proofs use.
 pub mod Stops
 pub mod TurnsLeft
 pub mod NextPhases
 pub mod StopsKept
-pub mod OneTurn
-pub mod Turns
-pub mod TurnLimit
+pub mod OneRequest
 pub mod AllStopped
+pub mod Turns
+pub mod TurnsAnyOrder
+pub mod TurnLimit
 pub mod InOrder
 pub mod LongestTable
 pub mod TurnLimitReached

@@ -2,17 +2,20 @@
 -- In it the threads are served in order (InOrder), so that no turns are left (TurnsLeft) when it waits. For one thread it is that with the thread in 9, for more that of LongestTable.
 use Prim.Native.Nat.{ℕ, _≤_}
 use native.Mathlib.Omega.{arith}
+use mathlib.Core.Bool.{not}
 use mathlib.Core.List.{List}
 use mathlib.Core.Logic.{⊎-elim}
 use mathlib.Core.Path.{_≡_, refl, sym, subst, ap, _∙_}
 use lib.Dec.{T}
 use Rattle.definitions.specs.Bounds.{mostThreads, noTarget}
+use Rattle.definitions.specs.Dispatch.{chosen, isWaiting, dispatchTable}
 use Rattle.definitions.specs.Phases.{rows}
 use Rattle.definitions.specs.Sound.{sound}
 use Rattle.definitions.specs.Table.{Table, tableOf, sized, byteTable}
 use Rattle.definitions.specs.Threads.{some, howMany}
 use Rattle.completeness.proofs.Completeness.{complete}
-use Rattle.dispatching.proofs.WaitingMeans.{waiting-means}
+use Rattle.dispatching.proofs.Choice.{chosen-may}
+use Rattle.dispatching.proofs.TurnReplies.{moves}
 use Rattle.progress.specs.Progress.{allCalled}
 use Rattle.progress.proofs.CalledTable.{calledTable, called-table, called-sized, called-sound}
 use Rattle.progress.proofs.Measure.{alone, part, total}
@@ -20,26 +23,29 @@ use Rattle.progress.proofs.ThreadBytes.{bytes-table, bytes-sized}
 use Rattle.theory.specs.Tables.{SoundBytes}
 use Rattle.theory.proofs.Bytes.{byte-keeps}
 use Rattle.theory.proofs.Soundness.{sound-e}
+use Rattle.theory.proofs.Storages.{table-step}
 use Rattle.theory.proofs.Tests.{same?}
-use Rattle.turn_limit.specs.TurnLimit.{mostTurns, afterTurns, WaitsAfter, TurnsReached}
-use Rattle.turn_limit.proofs.AllStopped.{none-left}
-use Rattle.turn_limit.proofs.InOrder.{InOrder, none-shared, in-order-kept}
+use Rattle.turn_limit.specs.TurnLimit.{mostTurns, dispatcherIn, WaitsAfter, TurnsReached}
+use Rattle.turn_limit.proofs.InOrder.{InOrder, none-shared, mover-low, in-order-kept}
 use Rattle.turn_limit.proofs.LongestTable.{longestBytes, longestTable, longest-sound, longest-in-order, longest-left}
-use Rattle.turn_limit.proofs.OneTurn.{Passes, bytes-pass, turn-passes}
+use Rattle.turn_limit.proofs.OneRequest.{Passes, bytes-pass}
 use Rattle.turn_limit.proofs.Stops.{stop}
 use Rattle.turn_limit.proofs.TurnsLeft.{turnsLeft}
-use Rattle.turn_limit.proofs.Turns.{lasting, ends}
+use Rattle.turn_limit.proofs.TurnLimit.{by-lowest}
+use Rattle.turn_limit.proofs.Turns.{exactly}
 
 -- served in order, a table waits after as many turns as it has left
 all-turns : (w : ℕ) (table : List ℕ) → SoundBytes table → InOrder w (tableOf table) → WaitsAfter table (turnsLeft (tableOf table))
 all-turns w table g o =
-    let (k, turns, fall) = ends byteTable byte-keeps table (bytes-pass table g) in
-    let P : List ℕ → Type 0 = λ b. Passes byteTable b × InOrder w (tableOf b) in
-    let (pass, in-order) = lasting byteTable P (λ b (h, p). (turn-passes byteTable byte-keeps b h, in-order-kept byteTable byte-keeps w b h p)) k table (bytes-pass table g, o) in
-    let s = tableOf (afterTurns k table) in
-    let z = sound-e s (pass .is-sound) in
-    let none = none-left s z (waiting-means (afterTurns k table) (turns .waits k (omega arith))) (none-shared w s z in-order) in
-    subst (WaitsAfter table) (omega arith) turns
+    exactly (dispatcherIn byteTable) tableOf (Passes byteTable) (by-lowest byteTable byte-keeps) (λ b. InOrder w (tableOf b)) kept
+    (λ b h. none-shared w (tableOf b) (sound-e (tableOf b) (h .is-sound))) table (bytes-pass table g) o
+  where
+    kept : (b : List ℕ) → Passes byteTable b → T (not (isWaiting (tableOf b))) → InOrder w (tableOf b) → InOrder w (tableOf (dispatchTable b))
+    kept b h t p =
+        let s = tableOf b in
+        let z = sound-e s (h .is-sound) in
+        let left = ap tableOf (moves byteTable b (h .fits) (h .is-sound) t .1) ∙ table-step byteTable byte-keeps b (chosen s) (h .fits) in
+        subst (InOrder w) (sym left) (in-order-kept w s z p (chosen s) (chosen-may s z t) (mover-low w s z p))
 
 -- by the record that is read off a table
 by-record : (table : List ℕ) (s : Table) → tableOf table ≡ s → 1 ≤ s .threads → s .threads ≤ mostThreads → T (sized table) → T (sound s) → (w : ℕ) → InOrder w s → turnsLeft s ≡ mostTurns (s .threads)

@@ -1,2 +1,3 @@
 -- What the theorems on turns speak of besides the definitions of the papers.
+pub mod AnyOrder
 pub mod TurnLimit

@@ -1,0 +1,66 @@
+-- Requests that the dispatcher may make, in any order; rules of choice, which say whose request it makes; and turns one after the other, whatever a turn is.
+use Prim.Native.Nat.{ℕ, zero, suc, _≤_, _<_}
+use mathlib.Core.Bool.{Bool, true, cond, not, _&&_}
+use mathlib.Core.List.{List, [], _∷_}
+use mathlib.Core.Path.{_≡_}
+use lib.Dec.{T}
+use Rattle.definitions.specs.Dispatch.{mayDispatch, hasTurn, requestOf, isWaiting}
+use Rattle.definitions.specs.Moves.{stepIn}
+use Rattle.definitions.specs.Sound.{sound}
+use Rattle.definitions.specs.Table.{Table, Storage, byteTable}
+use Rattle.definitions.specs.declared.Request.{Request}
+
+-- ---- lists of requests
+
+-- each of them may be made on the table that it meets: "a move that is no call, no retry and no leaving", of any thread and with any target
+module _ {B : Type 0} (storage : Storage B) where
+  unfoldable pub dispatchesAllIn : B → List Request → Bool
+  dispatchesAllIn b [] = true
+  dispatchesAllIn b (r ∷ rs) = mayDispatch (storage .table b) r && dispatchesAllIn (stepIn storage b r) rs
+
+abbrev pub dispatchesAll : List ℕ → List Request → Bool
+dispatchesAll = dispatchesAllIn byteTable
+
+-- ---- turns one after the other
+
+-- a kind of turn of what X stores: what it leaves, whether it makes a move, and whether it says waiting
+pub record Turn (X : Type 0) : Type 1 where
+  pub leaves : X → X
+  pub Moves : X → Type 0
+  pub Waits : X → Type 0
+
+module _ {X : Type 0} (turn : Turn X) where
+  -- what k turns leave, "with the host making no moves between"
+  unfoldable pub afterTurnsBy : ℕ → X → X
+  afterTurnsBy zero x = x
+  afterTurnsBy (suc k) x = afterTurnsBy k (turn .leaves x)
+
+  -- waiting comes after exactly k turns: the first k turns each make a move, all that follow say waiting, and these leave what they find
+  pub record WaitsAfterBy (x : X) (k : ℕ) : Type 0 where
+    pub moves : (j : ℕ) → j < k → turn .Moves (afterTurnsBy j x)
+    pub waits : (j : ℕ) → k ≤ j → turn .Waits (afterTurnsBy j x)
+    pub stays : (j : ℕ) → k ≤ j → afterTurnsBy j x ≡ afterTurnsBy k x
+
+-- ---- rules of choice
+
+-- which thread of a table moves, by what is kept from turn to turn (the last mover, or nothing), and what is kept then
+pub record Rule (Q : Type 0) : Type 0 where
+  pub mover : Q → Table → ℕ
+  pub keeps : Q → Table → Q
+
+-- what is asked of a rule: where some thread of a sound table has a turn, it names one that has
+abbrev pub NamesTurns : {Q : Type 0} → Rule Q → Type 0
+NamesTurns {Q} rule = (q : Q) (s : Table) → T (sound s) → T (not (isWaiting s)) → T (hasTurn s (rule .mover q s))
+
+-- a turn by a rule: the request of the thread that it names, with its lowest target; where no thread has a turn it says waiting and changes nothing
+module _ {Q B : Type 0} (rule : Rule Q) (storage : Storage B) where
+  abbrev pub requestBy : Q → B → Request
+  requestBy q b = requestOf (storage .table b) (rule .mover q (storage .table b))
+
+  abbrev pub turnBy : Turn (Q × B)
+  turnBy =
+      record {
+        leaves = λ (q, b). cond (isWaiting (storage .table b)) (q, b) (rule .keeps q (storage .table b), stepIn storage b (requestBy q b));
+        Moves = λ (q, b). T (mayDispatch (storage .table b) (requestBy q b));
+        Waits = λ (q, b). T (isWaiting (storage .table b));
+      }
