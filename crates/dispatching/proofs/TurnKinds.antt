@@ -36,18 +36,9 @@ pub record May (s : Table) (r : Request) : Type 0 where
 pub may-e : (s : Table) (r : Request) → T (mayDispatch s r) → May s r
 unfolding mayDispatch
 may-e s r t =
-    let ok = accepts s r in
-    let no-call = not (isCall r) in
-    let no-retry = not (isRetry s r) in
-    let no-leaving = not (isLeaving s r) in
-    let u = and-r ok (no-call && (no-retry && no-leaving)) t in
-    let v = and-r no-call (no-retry && no-leaving) u in
-    record {
-      accepted = and-l ok (no-call && (no-retry && no-leaving)) t;
-      no-call = and-l no-call (no-retry && no-leaving) u;
-      no-retry = and-l no-retry no-leaving v;
-      no-leaving = and-r no-retry no-leaving v;
-    }
+    let u = and-r (accepts s r) _ t in
+    let v = and-r (not (isCall r)) _ u in
+    record { accepted = and-l (accepts s r) _ t; no-call = and-l (not (isCall r)) _ u; no-retry = and-l (not (isRetry s r)) _ v; no-leaving = and-r (not (isRetry s r)) _ v }
 
 may-i : (s : Table) (r : Request) → May s r → T (mayDispatch s r)
 unfolding mayDispatch

@@ -4,7 +4,7 @@
 -- A table for which the dispatcher answers waiting is such a table (`waiting-means`, `waiting-holder`, `waiting-host`).
 use Prim.Native.Nat.{ℕ, suc, _≤_, _<_}
 use native.Mathlib.Omega.{arith}
-use mathlib.Core.Bool.{not, _&&_, _||_}
+use mathlib.Core.Bool.{not, _&&_}
 use mathlib.Core.List.{List, [], _∷_}
 use mathlib.Core.Logic.{_⊎_, inl, inr, ⊎-elim}
 use mathlib.Core.Path.{_≡_, sym, _∙_}
@@ -16,13 +16,13 @@ use Rattle.definitions.specs.Dispatch.{isWaiting, waiting, dispatchReply}
 use Rattle.definitions.specs.Phases.{rows, nodeOf, busyIn, holds}
 use Rattle.definitions.specs.Sound.{anyHolder}
 use Rattle.definitions.specs.Table.{Table, tableOf}
-use Rattle.definitions.specs.Threads.{every, among, implies}
+use Rattle.definitions.specs.Threads.{every, among}
 use Rattle.theory.proofs.Cases.{or-at, among-here}
 use Rattle.theory.proofs.Quantifiers.{implied}
 use Rattle.theory.proofs.SoundChanges.{in-phase}
 use Rattle.theory.proofs.Soundness.{All, Some, Sound, some-in, none-in, sound-e}
-use Rattle.theory.proofs.Tests.{and-i, or-e, or-l, or-r, eq-T, ne-T, decided, no-both, same?, implies-i}
-use Rattle.dispatching.specs.Ready.{hosts, readyBy, ready}
+use Rattle.theory.proofs.Tests.{and-i, or-e, or-r, eq-T, ne-T, decided, no-both, same?}
+use Rattle.dispatching.specs.Ready.{readyBy, ready}
 use Rattle.dispatching.specs.Turns.{WaitsThere, hostPhases, HostMoves}
 use Rattle.dispatching.proofs.Choice.{waiting-none}
 use Rattle.dispatching.proofs.TurnKinds.{mutex-free, target-calm}
@@ -32,10 +32,10 @@ use Rattle.dispatching.proofs.WaitingExactly.{waiting-says}
 abbrev waitingPhases : List ℕ
 waitingPhases = 0 ∷ 4 ∷ 6 ∷ 9 ∷ 11 ∷ 14 ∷ []
 
--- by trying the phases: those of the host, 9 and 11 are these; of them a thread is busy in Shared alone; and EE is 9
-are-these : (p : ℕ) → p ≤ lastPhase → T (hosts p || (eqb p 9 || eqb p 11)) → T (among p waitingPhases)
-unfolding every among
-are-these p l = implied (λ q. hosts q || (eqb q 9 || eqb q 11)) (λ q. among q waitingPhases) (suc lastPhase) tt p (omega arith)
+-- by trying the phases: in the others a thread is ready; of these a thread is busy in Shared alone; and EE is 9
+else-ready : (mutex busy p : ℕ) → p ≤ lastPhase → T (not (among p waitingPhases)) → T (readyBy mutex busy p)
+unfolding readyBy every among
+else-ready mutex busy p l = implied (λ q. not (among q waitingPhases)) (readyBy mutex busy) (suc lastPhase) tt p (omega arith)
 
 busy-shared : (p : ℕ) → p ≤ lastPhase → T (among p waitingPhases) → busyIn p ≡ 1 → nodeOf p ≡ Shared
 unfolding rows every among
@@ -48,25 +48,12 @@ in-9 : (p : ℕ) → p ≤ lastPhase → nodeOf p ≡ EE → p ≡ 9
 unfolding rows every
 in-9 p l e = eqb→eq p 9 (implied (λ q. eqb (nodeOf q) EE) (λ q. eqb q 9) (suc lastPhase) tt p (omega arith) (eq-T (nodeOf p) EE e))
 
--- a thread that isn't ready
-not-ready : (mutex busy p : ℕ) → T (not (readyBy mutex busy p)) → T (hosts p || (eqb p 9 || eqb p 11))
-unfolding readyBy
-not-ready mutex busy p t = by (decided (hosts p)) (decided (eqb p 9 || eqb p 11))
-  where
-    by : T (hosts p) ⊎ T (not (hosts p)) → T (eqb p 9 || eqb p 11) ⊎ T (not (eqb p 9 || eqb p 11)) → T (hosts p || (eqb p 9 || eqb p 11))
-    by (inl u) v = or-l (hosts p) (eqb p 9 || eqb p 11) u
-    by (inr u) (inl v) = or-r (hosts p) (eqb p 9 || eqb p 11) v
-    by (inr u) (inr v) =
-        absurd (no-both (readyBy mutex busy p)
-        (and-i (not (hosts p)) _ u
-        (and-i (implies (eqb p 9) (eqb mutex 0)) _ (implies-i (eqb p 9) (eqb mutex 0) (λ w. absurd (no-both (eqb p 9 || eqb p 11) (or-l (eqb p 9) (eqb p 11) w) v)))
-        (implies-i (eqb p 11) (eqb busy 0) (λ w. absurd (no-both (eqb p 9 || eqb p 11) (or-r (eqb p 9) (eqb p 11) w) v)))))
-        t)
-
 -- a sound table in which no thread has a turn
 module _ (s : Table) (z : Sound s) (none : T (isWaiting s)) where
   there : All s (λ j. T (among (s .phase j) waitingPhases))
-  there j k = are-these (s .phase j) (z .phases j k) (not-ready (s .mutex) (s .busy (s .target)) (s .phase j) (waiting-none s z none j k))
+  there j k =
+      ⊎-elim (λ t. t) (λ t. absurd (no-both (ready s j) (else-ready (s .mutex) (s .busy (s .target)) (s .phase j) (z .phases j k) t) (waiting-none s z none j k)))
+      (decided (among (s .phase j) waitingPhases))
 
   waits-in-11 : All s (λ i. s .phase i ≡ 11 → (s .target < s .threads) × (nodeOf (s .phase (s .target)) ≡ Shared))
   unfolding rows readyBy

@@ -10,17 +10,16 @@ use Rattle.definitions.specs.Answers.{accepted}
 use Rattle.definitions.specs.Bounds.{mostThreads, lastMove}
 use Rattle.definitions.specs.Chains.{pairSeen, pairFor, historyIn, afterIn, retriesIn, acceptsAllIn, history, retries, tableAfter, acceptsAll, AllFit16}
 use Rattle.definitions.specs.Codes.{go}
-use Rattle.definitions.specs.Moves.{ask, Effect, goEffect, effect, targetFits, mustWait, moveAnswer, stepReply, accepts, replyIn, stepIn, acceptsIn}
+use Rattle.definitions.specs.Moves.{ask, Effect, goEffect, effect, targetFits, mustWait, moveAnswer, accepts, replyIn, stepIn, acceptsIn}
 use Rattle.definitions.specs.Phases.{hasMove}
 use Rattle.definitions.specs.PlainLock.{Pair}
 use Rattle.definitions.specs.Sound.{sound}
 use Rattle.definitions.specs.Table.{Table, freshTable, tableOf, applied, itself, byteTable, fresh}
 use Rattle.definitions.specs.declared.Request.{Request}
 use Rattle.theory.proofs.Bytes.{byte-keeps, fresh-table, fresh-sized}
-use Rattle.theory.proofs.Replies.{accepted-is, all-passed}
 use Rattle.theory.proofs.RequestNumbers.{NumbersFit, AllNumbersFit, target-below}
 use Rattle.theory.proofs.SoundSteps.{kept-sound}
-use Rattle.theory.proofs.Storages.{reply-same, accepts-e, accepts-i, accepted-stores, history-same, after-same, retries-same, accepts-all-same}
+use Rattle.theory.proofs.Storages.{accepts-e, accepts-i, accepted-reply, accepted-stores, history-same, after-same, retries-same, accepts-all-same}
 use Rattle.theory.proofs.Tests.{and-l, and-r, and-i}
 use Rattle.theory.proofs.Ways.{Accepted, accepted-e, accepted-i}
 use Rattle.theory.proofs.Writes.{applied-keeps}
@@ -45,8 +44,7 @@ module _ (n : ℕ) (least : 1 ≤ n) (most : n ≤ mostThreads) (rs : List Reque
 -- an accepted request: its effect is what it shows and what it writes
 module _ (s : Table) (r : Request) (t : T (accepts s r)) where
   pub own-reply : replyIn itself s r ≡ accepted (moveAnswer s r)
-  unfolding stepReply
-  own-reply = reply-same itself s r tt ∙ all-passed (moveAnswer s r) _ (subst T (accepted-is (moveAnswer s r) _) t)
+  own-reply = accepted-reply itself s r (accepts-i itself s r tt t)
 
   pub own-step : stepIn itself s r ≡ applied s (effect s r .writes)
   own-step = accepted-stores itself s r (accepts-i itself s r tt t)

@@ -55,10 +55,7 @@ module _ {B : Type 0} (S : Storage B) where
   -- its reply is what the move shows, and whether it was a retry
   pub accepted-reply : (b : B) (r : Request) → T (acceptsIn S b r) → replyIn S b r ≡ accepted (moveAnswer (S .table b) r)
   unfolding replyIn
-  accepted-reply b r t =
-      let tests = test 1 (S .fits b) ∷ moveTests (S .table b) r in
-      let x = moveAnswer (S .table b) r in
-      all-passed x tests (subst T (accepted-is x tests) t)
+  accepted-reply b r t = let x = moveAnswer (S .table b) r in all-passed x _ (subst T (accepted-is x _) t)
 
   -- ---- what a request leaves
 

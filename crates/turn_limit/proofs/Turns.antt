@@ -29,6 +29,11 @@ pub record Dispatches {X : Type 0} (turn : Turn X) (table : X → Table) (Good :
   pub waits : (x : X) → Good x → T (isWaiting (table x)) → turn .Waits x × (turn .leaves x ≡ x)
   pub moves : (x : X) → Good x → T (not (isWaiting (table x))) → turn .Moves x × Good (turn .leaves x) × Made (table x) (table (turn .leaves x))
 
+-- what holds of the successors of all numbers from k holds from one above k
+later : (P : ℕ → Type 0) (k : ℕ) → ((j : ℕ) → k ≤ j → P (suc j)) → (j : ℕ) → suc k ≤ j → P j
+later P k f zero l = absurd (not-suc-le-zero l)
+later P k f (suc j) l = f j (omega arith)
+
 module _ {X : Type 0} (turn : Turn X) (table : X → Table) (Good : X → Type 0) (d : Dispatches turn table Good) where
   abbrev after : ℕ → X → X
   after = afterTurnsBy turn
@@ -59,19 +64,12 @@ module _ {X : Type 0} (turn : Turn X) (table : X → Table) (Good : X → Type 0
   -- one whose first turn moves, and k more
   one-more : (x : X) (k : ℕ) → turn .Moves x → WaitsAfterBy turn (turn .leaves x) k → WaitsAfterBy turn x (suc k)
   unfolding afterTurnsBy
-  one-more x k m rest = record { moves = move; waits = wait; stays = stay }
+  one-more x k m rest =
+      record { moves = move; waits = later (λ j. turn .Waits (after j x)) k (rest .waits); stays = later (λ j. after j x ≡ after (suc k) x) k (rest .stays) }
     where
       move : (j : ℕ) → j < suc k → turn .Moves (after j x)
       move zero l = m
       move (suc j) l = rest .moves j (omega arith)
-
-      wait : (j : ℕ) → suc k ≤ j → turn .Waits (after j x)
-      wait zero l = absurd (not-suc-le-zero l)
-      wait (suc j) l = rest .waits j (omega arith)
-
-      stay : (j : ℕ) → suc k ≤ j → after j x ≡ after (suc k) x
-      stay zero l = absurd (not-suc-le-zero l)
-      stay (suc j) l = rest .stays j (omega arith)
 
   abbrev left : X → ℕ
   left x = turnsLeft (table x)
