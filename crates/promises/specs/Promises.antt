@@ -346,7 +346,7 @@ pub record Promises (M : Type 1) : Type 2 where
   pub waits-then : (table : List ℕ) → SoundBytes table → (j : ℕ) → mostTurns (tableOf table .threads) ≤ j → dispatchReply (afterTurns j table) ≡ accepted waiting
   pub turns-sound : (table : List ℕ) → SoundBytes table → (k : ℕ) → SoundBytes (afterTurns k table)
   pub turn-limit-reached : (n : ℕ) → 1 ≤ n → n ≤ mostThreads → TurnsReached n
-  -- The limit is not the order's: requests that the dispatcher may make, of whichever threads and with whichever targets, are at most so many;
+  -- The limit holds in any order: requests that the dispatcher may make, of whichever threads and with whichever targets, are at most so many;
   -- and by any rule of choice that names a thread which has a turn, waiting comes after at most so many turns.
   pub turns-any-order : (table : List ℕ) → SoundBytes table → (rs : List Request) → T (dispatchesAll table rs) → length rs ≤ mostTurns (tableOf table .threads)
   pub turns-any-rule : {Q : Type 0} (rule : Rule Q) → NamesTurns rule → (q : Q) (table : List ℕ) → SoundBytes table

@@ -23,7 +23,7 @@ use Rattle.turn_limit.proofs.AllStopped.{none-left}
 use Rattle.turn_limit.proofs.OneRequest.{request-lowers, Made}
 use Rattle.turn_limit.proofs.TurnsLeft.{turnsLeft, left-most}
 
--- of all x that pass some tests, among them that of soundness
+-- of every x that is good, whose table then is sound
 pub record Dispatches {X : Type 0} (turn : Turn X) (table : X → Table) (Good : X → Type 0) : Type 0 where
   pub is-sound : (x : X) → Good x → T (sound (table x))
   pub waits : (x : X) → Good x → T (isWaiting (table x)) → turn .Waits x × (turn .leaves x ≡ x)
@@ -41,8 +41,12 @@ module _ {X : Type 0} (turn : Turn X) (table : X → Table) (Good : X → Type 0
   z : (x : X) → Good x → Sound (table x)
   z x g = sound-e (table x) (d .is-sound x g)
 
-  -- what is good stays so, and what each turn that moves keeps is kept
-  pub lasting : (P : X → Type 0) → ((x : X) → Good x → T (not (isWaiting (table x))) → P x → P (turn .leaves x)) → (k : ℕ) (x : X) → Good x → P x → Good (after k x) × P (after k x)
+  -- each turn that moves keeps P
+  abbrev Kept : (X → Type 0) → Type 0
+  Kept P = (x : X) → Good x → T (not (isWaiting (table x))) → P x → P (turn .leaves x)
+
+  -- then turns keep it; and what is good stays so
+  pub lasting : (P : X → Type 0) → Kept P → (k : ℕ) (x : X) → Good x → P x → Good (after k x) × P (after k x)
   unfolding afterTurnsBy
   lasting P kept zero x g p = (g, p)
   lasting P kept (suc k) x g p =
@@ -100,8 +104,7 @@ module _ {X : Type 0} (turn : Turn X) (table : X → Table) (Good : X → Type 0
   at-most x g = let (k, turns, none, fall) = ends x g in (k, omega (arith, left-most (table x) (z x g)), turns)
 
   -- nobody is in Shared as long as turns are made
-  pub exactly : (P : X → Type 0) → ((x : X) → Good x → T (not (isWaiting (table x))) → P x → P (turn .leaves x)) → ((x : X) → Good x → P x → All (table x) (λ j. nodeOf (table x .phase j) ≡ Shared → ⊥))
-      → (x : X) → Good x → P x → WaitsAfterBy turn x (left x)
+  pub exactly : (P : X → Type 0) → Kept P → ((x : X) → Good x → P x → All (table x) (λ j. nodeOf (table x .phase j) ≡ Shared → ⊥)) → (x : X) → Good x → P x → WaitsAfterBy turn x (left x)
   exactly P kept none-shared x g p =
       let (k, turns, none, fall) = ends x g in
       let (good, last) = lasting P kept k x g p in
