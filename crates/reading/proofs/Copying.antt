@@ -9,7 +9,7 @@ use lib.Seq.{drop-cons}
 use Rattle.definitions.specs.Moves.{ask}
 use Rattle.definitions.specs.Plan.{bytesOf}
 use Rattle.theory.specs.Outputs.{RoomAt, PutAt}
-use Rattle.text.proofs.Parts.{Partly, no-part, room-part, part-put, all-parts}
+use Rattle.theory.proofs.Parts.{Partly, no-part, room-part, part-put, all-parts}
 
 -- the triples before `at` are copied
 pub record Copied (out₀ moves out : List ℕ) (at : ℕ) : Type 0 where

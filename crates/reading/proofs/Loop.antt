@@ -14,7 +14,7 @@ use Rattle.lines.specs.Lines.{LineAt, UnendedAt, DoneAt}
 use Rattle.theory.specs.Outputs.{RoomAt}
 use Rattle.reading.specs.Moves.{AllTaken, TurnedDown, Roomy}
 use Rattle.runs.proofs.Lines.{lines-size, stated-few}
-use Rattle.text.proofs.Parts.{Partly, no-part, room-part, part-put, all-parts}
+use Rattle.theory.proofs.Parts.{Partly, no-part, room-part, part-put, all-parts}
 use Rattle.theory.proofs.Lengths.{bytes-length}
 use Rattle.theory.proofs.Replies.{behind, in-front}
 use Rattle.theory.proofs.TestLists.{answered-e}

@@ -1,4 +1,3 @@
 -- Laws of texts put into an output, which the writers' proofs share and callers cite.
-pub mod Parts
 pub mod Decimals
 pub mod Deliveries

@@ -18,6 +18,7 @@ pub mod Replies
 pub mod TestLists
 pub mod RequestNumbers
 pub mod Outputs
+pub mod Parts
 pub mod Writes
 pub mod Columns
 pub mod Sums

@@ -13,7 +13,7 @@ use Rattle.definitions.specs.Scripts.{ended, movesText, scriptOf, triplesTests}
 use Rattle.definitions.specs.declared.Request.{Request}
 use Rattle.theory.specs.Outputs.{RoomAt, PutAt}
 use Rattle.spelling.proofs.LineTexts.{move-least}
-use Rattle.text.proofs.Parts.{Partly, room-part, part-put, all-parts}
+use Rattle.theory.proofs.Parts.{Partly, room-part, part-put, all-parts}
 use Rattle.theory.proofs.RequestNumbers.{numbers-e}
 use Rattle.theory.proofs.TestLists.{passes-split}
 use Rattle.theory.proofs.Triples.{tripleAt, triplesFrom, triples-next, triples-end}

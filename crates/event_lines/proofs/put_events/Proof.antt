@@ -1,55 +1,24 @@
 -- `event_lines::put_events` meets its contract. The loop's invariant: the lines of the pairs passed are put. The measure is how many pairs are left.
-use Prim.Native.Nat.{_-_, _/_, _≤_}
+use Prim.Native.Nat.{_-_}
 use native.Mathlib.Omega.{arith}
-use lib.ListN.{length}
-use Rattle.text.proofs.Parts.{Partly, no-part}
-use Rattle.event_lines.proofs.EventLines.{linesFrom, lines-put, line-room, line-put}
+use Rattle.theory.proofs.Parts.{PartsPut, parts-none, parts-room, parts-more, parts-all}
+use Rattle.event_lines.proofs.EventLines.{eventParts}
 use Rattle.event_lines.proofs.put_events.Statement.{statement}
 use Rattle.event_lines.proofs.put_events.Tie as tie
 
 abbrev Inv-loop : tie.InvT-loop
-Inv-loop out₀ history pairs at₀ k₀ out at k = (k ≤ length history / 2) × Partly out₀ 0 (linesFrom history 0) (linesFrom history k) out at
+Inv-loop out₀ history pairs at₀ k₀ out at k = PartsPut (eventParts history) out₀ 0 k out at
 
 abbrev μ-loop : tie.MeasureT-loop
 μ-loop out₀ history pairs at₀ k₀ out at k = pairs - k
 
-loop-holds : tie.Need-loop-holds Inv-loop μ-loop
-loop-holds c = (omega arith, no-part (c .before .before .pre))
-
-mul-i : tie.Need-mul-i Inv-loop μ-loop
-mul-i c = omega arith
-
-shared-slice-read-thread : tie.Need-shared-slice-read-thread Inv-loop μ-loop
-shared-slice-read-thread c = omega arith
-
-add-code : tie.Need-add-code Inv-loop μ-loop
-add-code c = omega arith
-
-shared-slice-read-code : tie.Need-shared-slice-read-code Inv-loop μ-loop
-shared-slice-read-code c = omega arith
-
 put-event-requires : tie.Need-put-event-requires Inv-loop μ-loop
-put-event-requires c κs =
-    let l = c .before .before .before .before in
-    line-room _ (l .loop .k) (l .loop .inv .1) (c .before .before .before .loop-test .taken)
-
-add-k : tie.Need-add-k Inv-loop μ-loop
-add-k c = omega arith
-
-loop-less : tie.Need-loop-less Inv-loop μ-loop
-loop-less c = omega arith
+put-event-requires c κs = let test = c .before .before .before in parts-room (test .before .loop .inv) (test .loop-test .taken)
 
 loop-again : tie.Need-loop-again Inv-loop μ-loop
 loop-again c =
     let test = c .before .before .before .before .before .before in
-    let l = test .before .loop in
-    (omega arith, line-put _ (l .k) (l .inv .1) (test .loop-test .taken) (c .before .before .put-event .ensures))
-
-same-length : tie.Need-same-length Inv-loop μ-loop
-same-length c = c .before .loop .inv .1 .size
-
-returns : tie.Need-returns Inv-loop μ-loop
-returns c = lines-put _ (c .before .loop .k) (c .before .loop .inv .1) (c .loop-test .left)
+    parts-more (test .before .loop .inv) (test .loop-test .taken) (c .before .before .put-event .ensures)
 
 pub put-events-spec : {M : Type 1} → statement M
 put-events-spec =
@@ -57,14 +26,14 @@ put-events-spec =
     (tie.spec
     Inv-loop
     μ-loop
-    loop-holds
-    mul-i
-    shared-slice-read-thread
-    add-code
-    shared-slice-read-code
+    (λ c. parts-none (c .before .before .pre))
+    (λ c. omega arith)
+    (λ c. omega arith)
+    (λ c. omega arith)
+    (λ c. omega arith)
     put-event-requires
-    add-k
-    loop-less
+    (λ c. omega arith)
+    (λ c. omega arith)
     loop-again
-    same-length
-    returns)
+    (λ c. c .before .loop .inv .put .size)
+    (λ c. parts-all (c .before .loop .inv) (c .loop-test .left)))

@@ -3,7 +3,7 @@ use mathlib.Core.Path.{sym, ap}
 use borrow.Author.Needs.{needs}
 use Rattle.definitions.specs.Run.{eventName}
 use Rattle.definitions.specs.Texts.{bytes}
-use Rattle.text.proofs.Parts.{room-as, put-as}
+use Rattle.theory.proofs.Parts.{room-as, put-as}
 use Rattle.theory.proofs.Outputs.{none}
 use Rattle.event_lines.proofs.Names.{no-name}
 use Rattle.event_lines.proofs.put_name.Statement.{statement}

@@ -1,7 +1,7 @@
 -- `printing::put_ending` meets its contract, by the case of the ending.
 use mathlib.Core.Path.{sym}
 use borrow.Author.Needs.{needs}
-use Rattle.text.proofs.Parts.{room-as, put-as}
+use Rattle.theory.proofs.Parts.{room-as, put-as}
 use Rattle.printing.proofs.Endings.{steps-line, refused-line}
 use Rattle.printing.proofs.put_ending.Statement.{statement}
 use Rattle.printing.proofs.put_ending.Tie as tie

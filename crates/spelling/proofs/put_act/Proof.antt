@@ -3,7 +3,7 @@ use mathlib.Core.Path.{sym}
 use borrow.Author.Needs.{needs}
 use Rattle.definitions.specs.Forms.{actText}
 use Rattle.definitions.specs.Texts.{bytes}
-use Rattle.text.proofs.Parts.{room-as, put-as}
+use Rattle.theory.proofs.Parts.{room-as, put-as}
 use Rattle.theory.proofs.Outputs.{none}
 use Rattle.spelling.proofs.LineTexts.{no-act, act-text}
 use Rattle.spelling.proofs.put_act.Statement.{statement}

@@ -1,42 +1,24 @@
 -- `text::put_text` meets its contract. The loop's invariant: the bytes passed are put. The measure is what is left of the text.
-use Prim.Native.Nat.{_≤_, _-_}
+use Prim.Native.Nat.{_-_}
 use native.Mathlib.Omega.{arith}
-use lib.ListN.{length, drop}
-use Rattle.text.proofs.Parts.{Partly, no-part, room-byte, byte-put, bytes-put}
+use lib.ListN.{length}
+use Rattle.theory.proofs.Parts.{bytewise, PartsPut, parts-none, parts-room, parts-more, parts-all}
 use Rattle.text.proofs.put_text.Statement.{statement}
 use Rattle.text.proofs.put_text.Tie as tie
 
 abbrev Inv-loop : tie.InvT-loop
-Inv-loop out₀ at text next₀ i₀ out next i = (i ≤ length text) × Partly out₀ at text (drop i text) out next
+Inv-loop out₀ at text next₀ i₀ out next i = PartsPut (bytewise text) out₀ at i out next
 
 abbrev μ-loop : tie.MeasureT-loop
 μ-loop out₀ at text next₀ i₀ out next i = length text - i
 
-loop-holds : tie.Need-loop-holds Inv-loop μ-loop
-loop-holds c = (omega arith, no-part (c .before .before .pre))
-
-shared-slice-read-put-byte : tie.Need-shared-slice-read-put-byte Inv-loop μ-loop
-shared-slice-read-put-byte c = omega arith
-
 put-byte-requires : tie.Need-put-byte-requires Inv-loop μ-loop
-put-byte-requires c κs = let l = c .before .before .before .loop in room-byte _ (l .i) (omega arith) (l .inv .1)
-
-add-i : tie.Need-add-i Inv-loop μ-loop
-add-i c = omega arith
-
-loop-less : tie.Need-loop-less Inv-loop μ-loop
-loop-less c = omega arith
+put-byte-requires c κs = let test = c .before .before in parts-room (test .before .loop .inv) (test .loop-test .taken)
 
 loop-again : tie.Need-loop-again Inv-loop μ-loop
 loop-again c =
-    let l = c .before .before .before .before .before .before .loop in
-    (omega arith, byte-put _ (l .i) (omega arith) (l .inv .1) (c .before .before .put-byte .ensures))
-
-same-length : tie.Need-same-length Inv-loop μ-loop
-same-length c = c .before .loop .inv .1 .size
-
-returns : tie.Need-returns Inv-loop μ-loop
-returns c = bytes-put _ (c .before .loop .i) (c .loop-test .left) (c .before .loop .inv .1)
+    let test = c .before .before .before .before .before in
+    parts-more (test .before .loop .inv) (test .loop-test .taken) (c .before .before .put-byte .ensures)
 
 pub put-text-spec : {M : Type 1} → statement M
 put-text-spec =
@@ -44,11 +26,11 @@ put-text-spec =
     (tie.spec
     Inv-loop
     μ-loop
-    loop-holds
-    shared-slice-read-put-byte
+    (λ c. parts-none (c .before .before .pre))
+    (λ c. omega arith)
     put-byte-requires
-    add-i
-    loop-less
+    (λ c. omega arith)
+    (λ c. omega arith)
     loop-again
-    same-length
-    returns)
+    (λ c. c .before .loop .inv .put .size)
+    (λ c. parts-all (c .before .loop .inv) (c .loop-test .left)))

@@ -2,7 +2,7 @@
 use Prim.Native.Nat.{_-_, _/_, _≤_}
 use native.Mathlib.Omega.{arith}
 use lib.ListN.{length}
-use Rattle.text.proofs.Parts.{Partly, no-part}
+use Rattle.theory.proofs.Parts.{Partly, no-part}
 use Rattle.writing.proofs.ScriptParts.{textFrom, lines-put, line-room, line-put}
 use Rattle.writing.proofs.put_moves.Statement.{statement}
 use Rattle.writing.proofs.put_moves.Tie as tie
