@@ -7,8 +7,9 @@ use Rattle.definitions.specs.Moves.{ask}
 use Rattle.definitions.specs.Plan.{bytesOf}
 use Rattle.definitions.specs.declared.Request.{Request}
 use Rattle.theory.specs.Outputs.{RoomAt}
+use Rattle.theory.proofs.Outputs.{room-first, room-second, both}
 use Rattle.theory.proofs.Parts.{PartsPut, parts-none, parts-room, parts-more, parts-all}
-use Rattle.triples.proofs.RequestBytes.{room-front, room-behind, put-both, requestParts}
+use Rattle.triples.proofs.RequestBytes.{requestParts}
 use Rattle.triples.proofs.set_each.Statement.{statement}
 use Rattle.triples.proofs.set_each.Tie as tie
 
@@ -33,24 +34,27 @@ room : (c : tie.In-loop Inv-loop μ-loop) → RoomAt (c .before .loop .out) (c .
 room c = parts-room (c .before .loop .inv) (c .loop-test .taken)
 
 put-triple-requires : tie.Need-put-triple-requires Inv-loop μ-loop
+unfolding bytesOf
 put-triple-requires c κs =
     let i = c .before .before .before .before .args .thread in
-    room-front (set i (c .before .before .loop .t)) (pass i) (room (c .before))
+    room-first (bytesOf (set i (c .before .before .loop .t))) (bytesOf (pass i)) (room (c .before))
 
 put-triple-requires-2 : tie.Need-put-triple-requires-2 Inv-loop μ-loop
+unfolding bytesOf
 put-triple-requires-2 c κs =
     let first = c .before .before .before in
     let test = first .before .before in
     let i = test .before .before .before .args .thread in
-    room-behind (set i (test .before .loop .t)) (pass i) (room test) (first .put-triple .ensures)
+    room-second (bytesOf (set i (test .before .loop .t))) (bytesOf (pass i)) (room test) (first .put-triple .ensures)
 
 loop-again : tie.Need-loop-again Inv-loop μ-loop
+unfolding bytesOf
 loop-again c =
     let first = c .before .before .before .before .before .before in
     let test = first .before .before in
     let i = test .before .before .before .args .thread in
     parts-more (test .before .loop .inv) (test .loop-test .taken)
-    (put-both (set i (test .before .loop .t)) (pass i) (room test) (first .put-triple .ensures) (c .before .before .put-triple2 .ensures))
+    (both (bytesOf (set i (test .before .loop .t))) (bytesOf (pass i)) (room test) (first .put-triple .ensures) (c .before .before .put-triple2 .ensures))
 
 pub set-each-spec : {M : Type 1} → statement M
 set-each-spec =
