@@ -9,7 +9,7 @@ use mathlib.Core.Path.{_≡_, refl, sym, ap, _∙_}
 use borrow.Author.Tests.{le-leb, lt-leb}
 use lib.Dec.{T, leb, leb→le}
 use lib.ListN.{length, take, drop, set, length-append, length-take, length-drop, take-append-drop}
-use lib.Seq.{take-at, drop-drop, drop-append-add, set-split}
+use lib.Seq.{take-at, drop-drop, drop-append-add, set-split, sets, sets-eq}
 use Rattle.definitions.specs.Answers.{Reply, accepted, refused, leaves, Test, passesAll, answered, filled, Delivery, counted, roomTest, deliveryReply, deliveryOutput}
 use Rattle.theory.specs.Outputs.{answering, putAt, RoomAt, PutAt, Delivered}
 use Rattle.theory.proofs.Replies.{peel, behind, in-front}
@@ -81,6 +81,11 @@ module _ {a : List ℕ} {at : ℕ} (s t : List ℕ) (r : RoomAt a at (s ++ t)) w
         next = simp length-append (omega (arith, p .next, q .next));
         output = cc (put-append a at s t (r .ends));
       }
+
+-- bytes stored one behind the other
+pub stored : (bytes : List ℕ) {out : List ℕ} {at : ℕ} → RoomAt out at bytes → PutAt out at bytes (sets out at bytes) (at + length bytes)
+unfolding putAt
+stored bytes {out} {at} r = record { next = refl; output = sets-eq bytes out at (r .ends) ∙ append-assoc (take at out) bytes (drop (at + length bytes) out) }
 
 -- a text put at the front fills the output from there
 pub filled-up : {out text out′ : List ℕ} {n : ℕ} → PutAt out 0 text out′ n → out′ ≡ filled out text
