@@ -1,41 +1,21 @@
--- The bytes of requests put into an output: one request; a text in parts whose turns are lists of requests; go, a list and go; and one list behind another.
-use Prim.Native.Nat.{ℕ, _+_, _≤_, _<_}
-use native.Mathlib.Numerals.{add-one, add-two}
-use mathlib.Core.List.{List, [], _∷_, _++_, append-assoc}
-use mathlib.Core.Path.{_≡_, refl, sym, subst, ap, _∙_}
-use lib.ListN.{length, take, drop, set}
-use lib.Seq.{sets-eq}
+-- The bytes of requests put into an output: no request; a text in parts whose turns are lists of requests; go, a list and go; and one list behind another.
+use Prim.Native.Nat.{ℕ, _+_, _<_}
+use mathlib.Core.List.{List, [], _∷_, _++_}
+use mathlib.Core.Path.{_≡_, sym, subst, ap, _∙_}
 use Rattle.definitions.specs.Codes.{go}
 use Rattle.definitions.specs.Moves.{ask}
 use Rattle.definitions.specs.Plan.{bytesOf}
 use Rattle.definitions.specs.Threads.{gather}
 use Rattle.definitions.specs.declared.Request.{Request}
-use Rattle.theory.specs.Outputs.{putAt, RoomAt, PutAt}
+use Rattle.theory.specs.Outputs.{RoomAt, PutAt}
 use Rattle.theory.proofs.Outputs.{none, room-first, room-second, both}
 use Rattle.theory.proofs.Parts.{room-as, put-as, Partly, no-part, room-part, part-put, last-part, Parts, gatherFrom, gather-start, gather-next, gather-end}
 use Rattle.theory.proofs.Triples.{bytes-append}
-
--- ---- one request
 
 -- nothing put
 pub put-none : (out : List ℕ) (at : ℕ) → PutAt out at (bytesOf []) out at
 unfolding bytesOf
 put-none out at = none out at
-
--- three stores are a triple
-pub triple-room : {out : List ℕ} {at : ℕ} (thread mv target : ℕ) → RoomAt out at (bytesOf (ask thread mv target ∷ [])) → at + 3 ≤ length out
-unfolding bytesOf
-triple-room thread mv target r = r .ends
-
-pub triple-put : (out : List ℕ) (at thread mv target : ℕ) → at + 3 ≤ length out
-    → PutAt out at (bytesOf (ask thread mv target ∷ [])) (set (set (set out at thread) (at + 1) mv) (at + 2) target) (at + 3)
-unfolding bytesOf putAt
-triple-put out at thread mv target h =
-    let bytes : List ℕ = thread ∷ mv ∷ target ∷ [] in
-    record {
-      output = rw (add-one at, add-two at) (sets-eq bytes out at h ∙ append-assoc (take at out) bytes (drop (at + 3) out));
-      next = refl;
-    }
 
 -- ---- the lists f 0, f 1, .. of requests, one behind the other
 
