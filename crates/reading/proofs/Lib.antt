@@ -1,5 +1,4 @@
 -- What the functions of reading share.
 pub mod OneLine
 pub mod Loop
-pub mod Copying
 pub mod EntryLaws

@@ -14,7 +14,7 @@ use Rattle.lines.specs.Lines.{LineAt, UnendedAt, DoneAt}
 use Rattle.theory.specs.Outputs.{RoomAt}
 use Rattle.reading.specs.Moves.{AllTaken, TurnedDown, Roomy}
 use Rattle.runs.proofs.Lines.{lines-size, stated-few}
-use Rattle.theory.proofs.Parts.{Partly, no-part, room-part, part-put, all-parts}
+use Rattle.theory.proofs.Parts.{Partly, no-part, room-by, put-by, all-by}
 use Rattle.theory.proofs.Lengths.{bytes-length}
 use Rattle.theory.proofs.Replies.{behind, in-front}
 use Rattle.theory.proofs.TestLists.{answered-e}
@@ -52,7 +52,7 @@ module _ {script : List ℕ} {start n : ℕ} {moves₀ moves : List ℕ} {from l
   finished d =
       record {
         passed = answered-e (linesTests 2 n (linesOf (drop start script))) tt tt (g .left ∙ ap (λ (ls : List Line). answered (linesTests line n ls) tt) (d .lines)) .0;
-        put = all-parts (rw (ap (λ (ls : List Line). bytesOf (requestsIn ls)) (d .lines)) at (g .put));
+        put = all-by (g .put) (ap (λ (ls : List Line). bytesOf (requestsIn ls)) (d .lines));
       }
 
   -- ---- a line that lacks its line feed
@@ -70,12 +70,12 @@ module _ {script : List ℕ} {start n : ℕ} {moves₀ moves : List ℕ} {from l
     says = ap (λ (ls : List Line). answered (linesTests line n ls) tt) (l .lines)
 
     -- its triple stands before those of the lines behind it
-    split : Partly moves₀ 0 (triplesFrom script start) (bytesOf (requestIn (formOf text)) ++ triplesFrom script (end + 1)) moves at
+    split : triplesFrom script from ≡ bytesOf (requestIn (formOf text)) ++ triplesFrom script (end + 1)
     unfolding requestsIn
-    split = rw (ap (λ (ls : List Line). bytesOf (requestsIn ls)) (l .lines) ∙ bytes-append (requestIn (formOf text)) (requestsIn (linesOf (drop (end + 1) script)))) at (g .put)
+    split = ap (λ (ls : List Line). bytesOf (requestsIn ls)) (l .lines) ∙ bytes-append (requestIn (formOf text)) (requestsIn (linesOf (drop (end + 1) script)))
 
     pub line-room : RoomAt moves at (bytesOf (requestIn (formOf text)))
-    line-room = room-part (bytesOf (requestIn (formOf text))) (triplesFrom script (end + 1)) split
+    line-room = room-by (g .put) (bytesOf (requestIn (formOf text))) (triplesFrom script (end + 1)) split
 
     pub refused-line : (number place : ℕ) → TurnedDown (lineTests line n (formOf text)) number place → TurnedDown (linesTests 2 n (linesOf (drop start script))) number place
     refused-line number place t = record { refusal = g .left ∙ (says ∙ in-front tt tt _ _ number place (t .refusal)) }
@@ -91,5 +91,5 @@ module _ {script : List ℕ} {start n : ℕ} {moves₀ moves : List ℕ} {from l
               ∙ (says
               ∙ (behind tt _ _ (t .passed)
               ∙ ap (λ (k : ℕ). answered (linesTests k n (linesOf (drop (end + 1) script))) tt) (sym (add-one line))));
-          put = part-put (bytesOf (requestIn (formOf text))) (triplesFrom script (end + 1)) split (t .put);
+          put = put-by (g .put) (bytesOf (requestIn (formOf text))) (triplesFrom script (end + 1)) split (t .put);
         }

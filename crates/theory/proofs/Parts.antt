@@ -55,6 +55,21 @@ module _ {out : List ℕ} {at : ℕ} {text : List ℕ} where
     pub all-parts : Partly out at text [] out′ next → PutAt out at text out′ next
     all-parts w = w .completes (none out′ next)
 
+    -- the same by an equation for what is left
+    module _ {rest : List ℕ} (w : Partly out at text rest out′ next) where
+      pub all-by : rest ≡ [] → PutAt out at text out′ next
+      all-by e = all-parts (subst (λ (l : List ℕ). Partly out at text l out′ next) e w)
+
+      module _ (s t : List ℕ) (e : rest ≡ s ++ t) where
+        split : Partly out at text (s ++ t) out′ next
+        split = subst (λ (l : List ℕ). Partly out at text l out′ next) e w
+
+        pub room-by : RoomAt out′ next s
+        room-by = room-part s t split
+
+        pub put-by : {o : List ℕ} {n : ℕ} → PutAt out′ next s o n → Partly out at text t o n
+        put-by p = part-put s t split p
+
 -- ---- a text in parts
 
 -- what part k is, and what is left of the text from part k on: part k and what is left from part k + 1 on, and behind the last part nothing
@@ -99,17 +114,14 @@ parts-none {p} {out} {at} r = record { within = omega arith; put = subst (λ (l 
 
 module _ {p : Parts} {out : List ℕ} {at k : ℕ} {out′ : List ℕ} {next : ℕ} (w : PartsPut p out at k out′ next) where
   pub parts-all : p .count ≤ k → PutAt out at (p .text) out′ next
-  parts-all l = all-parts (rw (at-end p k (w .within) l) at (w .put))
+  parts-all l = all-by (w .put) (at-end p k (w .within) l)
 
   module _ (l : k < p .count) where
-    split : Partly out at (p .text) (p .part k ++ p .from (k + 1)) out′ next
-    split = rw (p .next k l) at (w .put)
-
     pub parts-room : RoomAt out′ next (p .part k)
-    parts-room = room-part (p .part k) (p .from (k + 1)) split
+    parts-room = room-by (w .put) (p .part k) (p .from (k + 1)) (p .next k l)
 
     pub parts-more : {o : List ℕ} {n : ℕ} → PutAt out′ next (p .part k) o n → PartsPut p out at (k + 1) o n
-    parts-more q = record { within = omega arith; put = part-put (p .part k) (p .from (k + 1)) split q }
+    parts-more q = record { within = omega arith; put = put-by (w .put) (p .part k) (p .from (k + 1)) (p .next k l) q }
 
 -- ---- lists behind each other
 

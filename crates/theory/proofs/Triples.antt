@@ -1,8 +1,9 @@
 -- The requests of a list of byte triples, from a triple on; and that requests and triples are inverse.
 use Prim.Native.Nat.{ℕ, suc, _+_, _*_, _/_, _%_, _≤_, _<_}
+use native.Mathlib.Numerals.{add-one, add-two}
 use native.Mathlib.Omega.{arith}
 use mathlib.Core.List.{List, [], _∷_, _++_}
-use mathlib.Core.Path.{_≡_, refl, ap}
+use mathlib.Core.Path.{_≡_, refl, ap, _∙_}
 use lib.ListN.{length, getD, drop, length-drop}
 use lib.Seq.{drop-cons}
 use Rattle.definitions.specs.Chains.{requestsOf}
@@ -18,19 +19,18 @@ tripleAt bytes k = ask (getD bytes (3 * k) 0) (getD bytes (3 * k + 1) 0) (getD b
 abbrev pub triplesFrom : List ℕ → ℕ → List Request
 triplesFrom bytes k = requestsOf (drop (3 * k) bytes)
 
-three-more : (k : ℕ) → 3 * (k + 1) ≡ suc (suc (suc (3 * k)))
-three-more k = omega arith
-
-one-more : (k : ℕ) → 3 * k + 1 ≡ suc (3 * k)
-one-more k = omega arith
-
-two-more : (k : ℕ) → 3 * k + 2 ≡ suc (suc (3 * k))
-two-more k = omega arith
+-- the bytes from a triple on
+pub triple-bytes : (bytes : List ℕ) (at : ℕ) → at + 3 ≤ length bytes
+    → drop at bytes ≡ getD bytes at 0 ∷ getD bytes (at + 1) 0 ∷ getD bytes (at + 2) 0 ∷ drop (at + 3) bytes
+triple-bytes bytes at h =
+    let three : at + 3 ≡ suc (suc (suc at)) = omega arith in
+    rw (add-one at, add-two at, three, drop-cons bytes at 0 (omega arith), drop-cons bytes (suc at) 0 (omega arith), drop-cons bytes (suc (suc at)) 0 (omega arith))
 
 pub triples-next : (bytes : List ℕ) (k : ℕ) → k < length bytes / 3 → triplesFrom bytes k ≡ tripleAt bytes k ∷ triplesFrom bytes (k + 1)
 unfolding requestsOf
 triples-next bytes k l =
-    rw (three-more k, one-more k, two-more k, drop-cons bytes (3 * k) 0 (omega arith), drop-cons bytes (suc (3 * k)) 0 (omega arith), drop-cons bytes (suc (suc (3 * k))) 0 (omega arith))
+    let three : 3 * k + 3 ≡ 3 * (k + 1) = omega arith in
+    ap requestsOf (triple-bytes bytes (3 * k) (omega arith)) ∙ ap (λ (j : ℕ). tripleAt bytes k ∷ requestsOf (drop j bytes)) three
 
 short-triples : (l : List ℕ) → length l < 3 → requestsOf l ≡ []
 unfolding requestsOf
