@@ -12,12 +12,9 @@ use Rattle.event_lines.proofs.name_length.Tie as tie
 returns : tie.Need-returns
 returns c = sym (ap length (unnamed _ (c .if1 .taken)))
 
-array-read-result : tie.Need-array-read-result
-array-read-result c = search needs
-
 returns-2 : tie.Need-returns-2
 unfolding eventName bytes listOf
 returns-2 c = length-at (c .before .args .code) (c .if1 .left)
 
 pub name-length-spec : {M : Type 1} → statement M
-name-length-spec = tie.close (tie.spec returns array-read-result returns-2)
+name-length-spec = tie.close (tie.spec returns (λ c. search needs) returns-2)

@@ -50,18 +50,12 @@ middle-put c = let s = up1 (up2 (up3 c)) in part-put (bytes " (") (from-name s) 
 name-put : (c : tie.After-put-name) → let s = up1 (up2 (up3 (up4 c))) in Up-to s (bytes "))\n") (c .put-name .last .0) (c .put-name .result)
 name-put c = let s = up1 (up2 (up3 (up4 c))) in part-put (eventName (s .args .code)) (bytes "))\n") (middle-put (up4 c)) (c .put-name .ensures)
 
-slice-aggregate-put-text : tie.Need-slice-aggregate-put-text
-slice-aggregate-put-text c = search needs
-
 put-text-requires : tie.Need-put-text-requires
 unfolding bytes eventLine
 put-text-requires c κs = let s = c .before .before .before in room-part (bytes "(event ") (from-number s) (no-part (s .pre))
 
 put-decimal-requires : tie.Need-put-decimal-requires
 put-decimal-requires c κs = let p = c .before .before .before in room-part _ (from-middle (up1 p)) (word-put p)
-
-slice-aggregate-put-text-2 : tie.Need-slice-aggregate-put-text-2
-slice-aggregate-put-text-2 c = search needs
 
 put-text-requires-2 : tie.Need-put-text-requires-2
 unfolding bytes
@@ -70,15 +64,9 @@ put-text-requires-2 c κs = let p = c .before .before .before .before in room-pa
 put-name-requires : tie.Need-put-name-requires
 put-name-requires c κs = let p = c .before .before .before in room-part _ (bytes "))\n") (middle-put p)
 
-slice-aggregate-put-text-3 : tie.Need-slice-aggregate-put-text-3
-slice-aggregate-put-text-3 c = search needs
-
 put-text-requires-3 : tie.Need-put-text-requires-3
 unfolding bytes
 put-text-requires-3 c κs = name-put (c .before .before .before .before) .room
-
-same-length : tie.Need-same-length
-same-length c = search needs
 
 returns : tie.Need-returns
 unfolding bytes
@@ -88,13 +76,13 @@ pub put-event-spec : {M : Type 1} → statement M
 put-event-spec =
     tie.close
     (tie.spec
-    slice-aggregate-put-text
+    (λ c. search needs)
     put-text-requires
     put-decimal-requires
-    slice-aggregate-put-text-2
+    (λ c. search needs)
     put-text-requires-2
     put-name-requires
-    slice-aggregate-put-text-3
+    (λ c. search needs)
     put-text-requires-3
-    same-length
+    (λ c. search needs)
     returns)

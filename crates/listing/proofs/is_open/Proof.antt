@@ -11,12 +11,6 @@ use Rattle.theory.proofs.Tests.{and-cong}
 use Rattle.listing.proofs.is_open.Statement.{statement}
 use Rattle.listing.proofs.is_open.Tie as tie
 
-has-bit-requires : tie.Need-has-bit-requires
-has-bit-requires c κs = search needs
-
-must-wait-requires : tie.Need-must-wait-requires
-must-wait-requires c κs = search needs
-
 returns : tie.Need-returns
 returns c =
     let start = c .before .before in
@@ -29,4 +23,4 @@ returns c =
     and-cong _ _ _ _ has (λ t. ap not (c .must-wait .ensures (subst T has t)))
 
 pub is-open-spec : {M : Type 1} → statement M
-is-open-spec = tie.close (tie.spec has-bit-requires must-wait-requires returns)
+is-open-spec = tie.close (tie.spec (λ c κs. search needs) (λ c κs. search needs) returns)

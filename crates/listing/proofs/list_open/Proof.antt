@@ -10,19 +10,10 @@ use Rattle.theory.proofs.Replies.{no-test}
 use Rattle.listing.proofs.list_open.Statement.{statement}
 use Rattle.listing.proofs.list_open.Tie as tie
 
-count-open-requires : tie.Need-count-open-requires
-count-open-requires c κs = search needs
-
 returns : tie.Need-returns
 returns c =
     let a = c .before .before .before .args in
     no-room (counted [] (openPairs (a .at))) (a .out .now) no-test (omega arith)
-
-put-open-requires : tie.Need-put-open-requires
-put-open-requires c κs = search needs
-
-same-length : tie.Need-same-length
-same-length c = search needs
 
 returns-2 : tie.Need-returns-2
 returns-2 c =
@@ -35,4 +26,4 @@ returns-2 c =
 pub list-open-spec : {M : Type 1} → statement M
 list-open-spec =
     tie.close
-    (tie.spec count-open-requires returns put-open-requires same-length returns-2)
+    (tie.spec (λ c κs. search needs) returns (λ c κs. search needs) (λ c. search needs) returns-2)

@@ -12,15 +12,6 @@ use Rattle.listing.proofs.OpenAnswer.{table-refused, no-thread, listed}
 use Rattle.listing.proofs.open_moves.Statement.{statement}
 use Rattle.listing.proofs.open_moves.Tie as tie
 
-examine-requires : tie.Need-examine-requires
-examine-requires c κs = search needs
-
-enum-known-examined : tie.Need-enum-known-examined
-enum-known-examined c = search needs
-
-enum-known-examined-2 : tie.Need-enum-known-examined-2
-enum-known-examined-2 c = search needs
-
 -- a table that was found sound
 module _ (c : tie.After-known-told2) where
   abbrev start : tie.Start
@@ -42,9 +33,6 @@ returns c =
 
 shared-slice-read-mutex : tie.Need-shared-slice-read-mutex
 shared-slice-read-mutex c = omega (arith, size (c .before .before))
-
-phase-at-requires : tie.Need-phase-at-requires
-phase-at-requires c κs = search needs
 
 shared-slice-read-phase : tie.Need-shared-slice-read-phase
 shared-slice-read-phase c =
@@ -75,9 +63,6 @@ returns-2 c =
     let a = at .before .before .before .args in
     table-refused (a .table .now) (a .thread) (a .out .now) _ (sym (at .examine .ensures) ∙ known .examined .given .1)
 
-same-length : tie.Need-same-length
-same-length c = search needs
-
 returns-3 : tie.Need-returns-3
 returns-3 c =
     let list = c .before .before in
@@ -90,15 +75,15 @@ pub open-moves-spec : {M : Type 1} → statement M
 open-moves-spec =
     tie.close
     (tie.spec
-    examine-requires
-    enum-known-examined
-    enum-known-examined-2
+    (λ c κs. search needs)
+    (λ c. search needs)
+    (λ c. search needs)
     returns
     shared-slice-read-mutex
-    phase-at-requires
+    (λ c κs. search needs)
     shared-slice-read-phase
     moves-in-requires
     list-open-requires
     returns-2
-    same-length
+    (λ c. search needs)
     returns-3)

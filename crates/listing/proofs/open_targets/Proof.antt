@@ -6,15 +6,9 @@ use Rattle.listing.specs.Pairs.{openTargets}
 use Rattle.listing.proofs.open_targets.Statement.{statement}
 use Rattle.listing.proofs.open_targets.Tie as tie
 
-is-open-requires : tie.Need-is-open-requires
-is-open-requires c κs = search needs
-
 returns : tie.Need-returns
 unfolding openTargets
 returns c = rw (sym (c .before .is-open .ensures) ∙ not-true _ (c .if1 .taken))
-
-targets-of-requires : tie.Need-targets-of-requires
-targets-of-requires c κs = search needs
 
 returns-2 : tie.Need-returns-2
 unfolding openTargets
@@ -23,4 +17,4 @@ returns-2 c =
     rw (sym (left .before .is-open .ensures) ∙ not-false _ (left .if1 .left)) (c .targets-of .ensures)
 
 pub open-targets-spec : {M : Type 1} → statement M
-open-targets-spec = tie.close (tie.spec is-open-requires returns targets-of-requires returns-2)
+open-targets-spec = tie.close (tie.spec (λ c κs. search needs) returns (λ c κs. search needs) returns-2)

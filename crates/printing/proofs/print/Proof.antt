@@ -7,9 +7,6 @@ use Rattle.printing.proofs.print.Tie as tie
 events-length-requires : tie.Need-events-length-requires
 events-length-requires c κs = lines-short (c .before .before .pre)
 
-ending-length-requires : tie.Need-ending-length-requires
-ending-length-requires c κs = search needs
-
 add-needed : tie.Need-add-needed
 add-needed c = record { fits = needed-fits (c .before .before .before .before .pre) (c .before .events-length .ensures) (c .ending-length .ensures) }
 
@@ -31,9 +28,6 @@ put-ending-requires c κs =
     let a = e .before in
     last-room (a .before .before .before .before .pre) (a .before .events-length .ensures) (a .ending-length .ensures) _ (e .if1 .left) (p .put-events .ensures)
 
-same-length : tie.Need-same-length
-same-length c = search needs
-
 returns-2 : tie.Need-returns-2
 returns-2 c =
     let p = c .before .before .before .before .before .before in
@@ -47,10 +41,10 @@ print-spec =
     tie.close
     (tie.spec
     events-length-requires
-    ending-length-requires
+    (λ c κs. search needs)
     add-needed
     returns
     put-events-requires
     put-ending-requires
-    same-length
+    (λ c. search needs)
     returns-2)

@@ -6,36 +6,18 @@ use Rattle.printing.proofs.Endings.{steps-line, refused-line}
 use Rattle.printing.proofs.put_ending.Statement.{statement}
 use Rattle.printing.proofs.put_ending.Tie as tie
 
-enum-known-ending : tie.Need-enum-known-ending
-enum-known-ending c = search needs
-
 put-steps-requires : tie.Need-put-steps-requires
 put-steps-requires c κs = let e = c .before .before in room-as (steps-line (e .ending .given .1)) (e .before .before .before .pre)
-
-enum-known-ending-2 : tie.Need-enum-known-ending-2
-enum-known-ending-2 c = search needs
-
-number-requires : tie.Need-number-requires
-number-requires c κs = search needs
-
-cast-put-refused : tie.Need-cast-put-refused
-cast-put-refused c = search needs
 
 put-refused-requires : tie.Need-put-refused-requires
 put-refused-requires c κs =
     let e = c .before .before .before in
     room-as (refused-line (e .ending2 .given .1) (c .before .number .ensures)) (e .before .before .before .pre)
 
-same-length : tie.Need-same-length
-same-length c = search needs
-
 returns : tie.Need-returns
 returns c =
     let e = c .before .before .before .before .before in
     put-as (sym (steps-line (e .ending .given .1))) (c .before .before .put-steps .ensures)
-
-same-length-2 : tie.Need-same-length-2
-same-length-2 c = search needs
 
 returns-2 : tie.Need-returns-2
 returns-2 c =
@@ -46,13 +28,13 @@ pub put-ending-spec : {M : Type 1} → statement M
 put-ending-spec =
     tie.close
     (tie.spec
-    enum-known-ending
+    (λ c. search needs)
     put-steps-requires
-    enum-known-ending-2
-    number-requires
-    cast-put-refused
+    (λ c. search needs)
+    (λ c κs. search needs)
+    (λ c. search needs)
     put-refused-requires
-    same-length
+    (λ c. search needs)
     returns
-    same-length-2
+    (λ c. search needs)
     returns-2)

@@ -49,18 +49,12 @@ space-put c = let s = up1 (up2 (up3 c)) in part-put (bytes " ") (from-line s) (n
 line-put : (c : tie.After-put-decimal2) → let s = up1 (up2 (up3 (up4 c))) in Up-to s (bytes ")\n") (c .put-decimal2 .last .0) (c .put-decimal2 .result)
 line-put c = let s = up1 (up2 (up3 (up4 c))) in part-put (decimal (s .args .line)) (bytes ")\n") (space-put (up4 c)) (c .put-decimal2 .ensures)
 
-slice-aggregate-put-text : tie.Need-slice-aggregate-put-text
-slice-aggregate-put-text c = search needs
-
 put-text-requires : tie.Need-put-text-requires
 unfolding bytes refusedLine
 put-text-requires c κs = let s = c .before .before .before in room-part (bytes "(refused ") (from-number s) (no-part (s .pre))
 
 put-decimal-requires : tie.Need-put-decimal-requires
 put-decimal-requires c κs = let p = c .before .before .before in room-part _ (from-space (up1 p)) (word-put p)
-
-slice-aggregate-put-text-2 : tie.Need-slice-aggregate-put-text-2
-slice-aggregate-put-text-2 c = search needs
 
 put-text-requires-2 : tie.Need-put-text-requires-2
 unfolding bytes
@@ -69,15 +63,9 @@ put-text-requires-2 c κs = let p = c .before .before .before .before in room-pa
 put-decimal-requires-2 : tie.Need-put-decimal-requires-2
 put-decimal-requires-2 c κs = let p = c .before .before .before in room-part _ (bytes ")\n") (space-put p)
 
-slice-aggregate-put-text-3 : tie.Need-slice-aggregate-put-text-3
-slice-aggregate-put-text-3 c = search needs
-
 put-text-requires-3 : tie.Need-put-text-requires-3
 unfolding bytes
 put-text-requires-3 c κs = line-put (c .before .before .before .before) .room
-
-same-length : tie.Need-same-length
-same-length c = search needs
 
 returns : tie.Need-returns
 unfolding bytes
@@ -87,13 +75,13 @@ pub put-refused-spec : {M : Type 1} → statement M
 put-refused-spec =
     tie.close
     (tie.spec
-    slice-aggregate-put-text
+    (λ c. search needs)
     put-text-requires
     put-decimal-requires
-    slice-aggregate-put-text-2
+    (λ c. search needs)
     put-text-requires-2
     put-decimal-requires-2
-    slice-aggregate-put-text-3
+    (λ c. search needs)
     put-text-requires-3
-    same-length
+    (λ c. search needs)
     returns)

@@ -30,9 +30,6 @@ word-put c = part-put (bytes "(steps ") (from-number (up1 c)) (no-part (up1 c .p
 number-put : (c : tie.After-put-decimal) → Up-to (up1 (up2 c)) (bytes ")\n") (c .put-decimal .last .0) (c .put-decimal .result)
 number-put c = part-put (decimal (up1 (up2 c) .args .steps)) (bytes ")\n") (word-put (up2 c)) (c .put-decimal .ensures)
 
-slice-aggregate-put-text : tie.Need-slice-aggregate-put-text
-slice-aggregate-put-text c = search needs
-
 put-text-requires : tie.Need-put-text-requires
 unfolding bytes stepsLine
 put-text-requires c κs = let s = c .before .before .before in room-part (bytes "(steps ") (from-number s) (no-part (s .pre))
@@ -40,15 +37,9 @@ put-text-requires c κs = let s = c .before .before .before in room-part (bytes 
 put-decimal-requires : tie.Need-put-decimal-requires
 put-decimal-requires c κs = let p = c .before .before .before in room-part _ (bytes ")\n") (word-put p)
 
-slice-aggregate-put-text-2 : tie.Need-slice-aggregate-put-text-2
-slice-aggregate-put-text-2 c = search needs
-
 put-text-requires-2 : tie.Need-put-text-requires-2
 unfolding bytes
 put-text-requires-2 c κs = number-put (c .before .before .before .before) .room
-
-same-length : tie.Need-same-length
-same-length c = search needs
 
 returns : tie.Need-returns
 unfolding bytes
@@ -58,10 +49,10 @@ pub put-steps-spec : {M : Type 1} → statement M
 put-steps-spec =
     tie.close
     (tie.spec
-    slice-aggregate-put-text
+    (λ c. search needs)
     put-text-requires
     put-decimal-requires
-    slice-aggregate-put-text-2
+    (λ c. search needs)
     put-text-requires-2
-    same-length
+    (λ c. search needs)
     returns)

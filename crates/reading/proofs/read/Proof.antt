@@ -67,25 +67,10 @@ size-fits c =
 returns : tie.Need-returns
 returns c = too-long _ _ (c .if1 .taken)
 
-first-line-requires : tie.Need-first-line-requires
-first-line-requires c κs = search needs
-
-enum-known-first : tie.Need-enum-known-first
-enum-known-first c = search needs
-
-enum-told : tie.Need-enum-told
-enum-told c = search needs
-
 returns-2 : tie.Need-returns-2
 returns-2 c =
     let p = c .before .before in
     bad-first _ _ (p .before .if1 .left) (subst (FirstAt _) (c .enum-told .given .1) (p .first-line .ensures))
-
-cast-count-fits : tie.Need-cast-count-fits
-cast-count-fits c = search needs
-
-count-fits-requires : tie.Need-count-fits-requires
-count-fits-requires c κs = search needs
 
 returns-3 : tie.Need-returns-3
 returns-3 c =
@@ -95,19 +80,10 @@ returns-3 c =
 cast-threads : tie.Need-cast-threads
 cast-threads c = record { fits = omega (arith, most c) }
 
-slice-aggregate-take-lines : tie.Need-slice-aggregate-take-lines
-slice-aggregate-take-lines c = search needs
-
 take-lines-requires : tie.Need-take-lines-requires
 take-lines-requires c κs =
     let k = known (c .before) in
     (threads-at k .within, record { short = short k; room = omega (arith, short k, long) })
-
-enum-known-taken : tie.Need-enum-known-taken
-enum-known-taken c = search needs
-
-enum-known-taken-2 : tie.Need-enum-known-taken-2
-enum-known-taken-2 c = search needs
 
 returns-4 : tie.Need-returns-4
 returns-4 c =
@@ -137,9 +113,6 @@ returns-5 c =
     let k = known e in
     bad-line _ _ (short k) _ _ (threads-at k) (counts e) _ _ (subst (Taken _ _ _ _ _) (c .before .taken .given .1) (t .take-lines .ensures))
 
-same-length : tie.Need-same-length
-same-length c = search needs
-
 returns-6 : tie.Need-returns-6
 returns-6 c =
     let w = c .before .before in
@@ -153,22 +126,22 @@ read-spec =
     tie.close
     (tie.spec
     returns
-    first-line-requires
-    enum-known-first
-    enum-told
+    (λ c κs. search needs)
+    (λ c. search needs)
+    (λ c. search needs)
     returns-2
-    cast-count-fits
-    count-fits-requires
+    (λ c. search needs)
+    (λ c κs. search needs)
     returns-3
     cast-threads
-    slice-aggregate-take-lines
+    (λ c. search needs)
     take-lines-requires
-    enum-known-taken
-    enum-known-taken-2
+    (λ c. search needs)
+    (λ c. search needs)
     returns-4
     array-share-prefix-moves
     slice-aggregate-put-triples
     put-triples-requires
     returns-5
-    same-length
+    (λ c. search needs)
     returns-6)

@@ -4,32 +4,14 @@ use Rattle.reading.proofs.OneLine.{threads-refused, bad-refused, note-t
 use Rattle.reading.proofs.take_line.Statement.{statement}
 use Rattle.reading.proofs.take_line.Tie as tie
 
-read-form-requires : tie.Need-read-form-requires
-read-form-requires c κs = search needs
-
-enum-told : tie.Need-enum-told
-enum-told c = search needs
-
-enum-known-form : tie.Need-enum-known-form
-enum-known-form c = search needs
-
 take-request-requires : tie.Need-take-request-requires
 take-request-requires c κs =
     let f = c .before .before in
     let p = f .before .before in
     request-room _ _ (p .read-form .ensures) 0 0 _ (f .form .given .1) (p .before .before .before .pre)
 
-enum-told-2 : tie.Need-enum-told-2
-enum-told-2 c = search needs
-
-enum-told-3 : tie.Need-enum-told-3
-enum-told-3 c = search needs
-
 returns : tie.Need-returns
 returns c = let p = c .before .before in threads-refused _ _ (p .read-form .ensures) _ _ _ (c .enum-told .given .1)
-
-same-length : tie.Need-same-length
-same-length c = search needs
 
 returns-2 : tie.Need-returns-2
 returns-2 c =
@@ -49,14 +31,14 @@ pub take-line-spec : {M : Type 1} → statement M
 take-line-spec =
     tie.close
     (tie.spec
-    read-form-requires
-    enum-told
-    enum-known-form
+    (λ c κs. search needs)
+    (λ c. search needs)
+    (λ c. search needs)
     take-request-requires
-    enum-told-2
-    enum-told-3
+    (λ c. search needs)
+    (λ c. search needs)
     returns
-    same-length
+    (λ c. search needs)
     returns-2
     returns-3
     returns-4)

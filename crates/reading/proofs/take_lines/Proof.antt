@@ -38,29 +38,17 @@ found c = c .before .before .before .before .before .before .before .before
 loop-holds : tie.Need-loop-holds Inv-loop μ-loop
 loop-holds c = begun _ _ _ _ (c .before .before .pre .0) (c .before .before .pre .1)
 
-next-line-requires : tie.Need-next-line-requires Inv-loop μ-loop
-next-line-requires c κs = search needs
-
-enum-told : tie.Need-enum-told Inv-loop μ-loop
-enum-told c = search needs
-
 same-length : tie.Need-same-length Inv-loop μ-loop
 same-length c = c .before .before .before .loop .inv .put .size
 
 returns : tie.Need-returns Inv-loop μ-loop
 returns c = let p = c .before .before in finished (p .before .loop .inv) (subst (NextAt _ _) (c .enum-told .given .1) (p .next-line .ensures))
 
-enum-told-2 : tie.Need-enum-told-2 Inv-loop μ-loop
-enum-told-2 c = search needs
-
 same-length-2 : tie.Need-same-length-2 Inv-loop μ-loop
 same-length-2 c = c .before .before .before .loop .inv .put .size
 
 returns-2 : tie.Need-returns-2 Inv-loop μ-loop
 returns-2 c = let p = c .before .before in unended (p .before .loop .inv) (subst (NextAt _ _) (c .enum-told2 .given .1) (p .next-line .ensures))
-
-enum-known-next : tie.Need-enum-known-next Inv-loop μ-loop
-enum-known-next c = search needs
 
 add-behind : tie.Need-add-behind Inv-loop μ-loop
 add-behind c = omega (arith, line-at c .ends, start (here c) .pre .1 .short)
@@ -77,12 +65,6 @@ part-take-line-end c = omega (arith, line-at c .ends)
 take-line-requires : tie.Need-take-line-requires Inv-loop μ-loop
 take-line-requires c κs = let f = c .before .before in line-room (here f .loop .inv) (end f) (line-at f)
 
-enum-known-taken : tie.Need-enum-known-taken Inv-loop μ-loop
-enum-known-taken c = search needs
-
-enum-told-3 : tie.Need-enum-told-3 Inv-loop μ-loop
-enum-told-3 c = search needs
-
 same-length-3 : tie.Need-same-length-3 Inv-loop μ-loop
 same-length-3 c =
     let t = c .before .before .before .before in
@@ -95,9 +77,6 @@ returns-3 c =
     let f = t .before .before .before in
     rw (c .enum-told3 .given .1)
     (refused-line (here f .loop .inv) (end f) (line-at f) _ _ (subst (Taken _ _ _ _ _) (c .enum-told3 .given .1) (t .take-line .ensures)))
-
-add-line : tie.Need-add-line Inv-loop μ-loop
-add-line c = search needs
 
 loop-less : tie.Need-loop-less Inv-loop μ-loop
 loop-less c =
@@ -117,23 +96,23 @@ take-lines-spec =
     Inv-loop
     μ-loop
     loop-holds
-    next-line-requires
-    enum-told
+    (λ c κs. search needs)
+    (λ c. search needs)
     same-length
     returns
-    enum-told-2
+    (λ c. search needs)
     same-length-2
     returns-2
-    enum-known-next
+    (λ c. search needs)
     add-behind
     sub-take-line
     part-take-line-start
     part-take-line-end
     take-line-requires
-    enum-known-taken
-    enum-told-3
+    (λ c. search needs)
+    (λ c. search needs)
     same-length-3
     returns-3
-    add-line
+    (λ c. search needs)
     loop-less
     loop-again)

@@ -11,20 +11,11 @@ numbers c =
     let p = c .before .before in
     small 0 _ _ (p .test-numbers .result) (p .test-numbers .ensures) (c .enum-told .given .1) (omega arith)
 
-test-numbers-requires : tie.Need-test-numbers-requires
-test-numbers-requires c κs = search needs
-
-enum-known-tested : tie.Need-enum-known-tested
-enum-known-tested c = search needs
-
 returns : tie.Need-returns
 returns c =
     let p = c .before .before .before in
     let a = p .before .before .args in
     request-refused (a .line) (a .threads) (a .request) (p .test-numbers .result) (p .test-numbers .ensures) _ (c .before .tested .given .1)
-
-enum-told : tie.Need-enum-told
-enum-told c = search needs
 
 cast-thread : tie.Need-cast-thread
 cast-thread c = record { fits = numbers (c .before) .thread }
@@ -34,12 +25,6 @@ cast-mv c = record { fits = numbers (c .before .before) .mv }
 
 cast-target : tie.Need-cast-target
 cast-target c = record { fits = numbers (c .before .before .before) .target }
-
-put-triple-requires : tie.Need-put-triple-requires
-put-triple-requires c κs = search needs
-
-same-length : tie.Need-same-length
-same-length c = search needs
 
 returns-2 : tie.Need-returns-2
 returns-2 c =
@@ -52,13 +37,13 @@ pub take-request-spec : {M : Type 1} → statement M
 take-request-spec =
     tie.close
     (tie.spec
-    test-numbers-requires
-    enum-known-tested
+    (λ c κs. search needs)
+    (λ c. search needs)
     returns
-    enum-told
+    (λ c. search needs)
     cast-thread
     cast-mv
     cast-target
-    put-triple-requires
-    same-length
+    (λ c κs. search needs)
+    (λ c. search needs)
     returns-2)

@@ -9,9 +9,6 @@ use Rattle.spelling.proofs.LineTexts.{no-act, act-size, aimed-size, byt
 use Rattle.spelling.proofs.act_length.Statement.{statement}
 use Rattle.spelling.proofs.act_length.Tie as tie
 
-decimal-length-requires : tie.Need-decimal-length-requires
-decimal-length-requires c κs = search needs
-
 add-result : tie.Need-add-result
 add-result c = record { fits = omega (arith, c .before .decimal-length .ensures, byte-short (c .before .before .args .target) (omega arith)) }
 
@@ -53,7 +50,7 @@ pub act-length-spec : {M : Type 1} → statement M
 act-length-spec =
     tie.close
     (tie.spec
-    decimal-length-requires
+    (λ c κs. search needs)
     add-result
     add-result-2
     returns

@@ -9,105 +9,57 @@ use Rattle.spelling.proofs.LineTexts.{no-act, act-text}
 use Rattle.spelling.proofs.put_act.Statement.{statement}
 use Rattle.spelling.proofs.put_act.Tie as tie
 
-slice-aggregate-put-text : tie.Need-slice-aggregate-put-text
-slice-aggregate-put-text c = search needs
-
 put-text-requires : tie.Need-put-text-requires
 unfolding bytes actText
 put-text-requires c κs = room-as (act-text _ (c .before .before .match .keys1)) (c .before .before .before .before .pre)
-
-slice-aggregate-put-text-2 : tie.Need-slice-aggregate-put-text-2
-slice-aggregate-put-text-2 c = search needs
 
 put-text-requires-2 : tie.Need-put-text-requires-2
 unfolding bytes actText
 put-text-requires-2 c κs = room-as (act-text _ (c .before .before .match .keys2)) (c .before .before .before .before .pre)
 
-slice-aggregate-put-text-3 : tie.Need-slice-aggregate-put-text-3
-slice-aggregate-put-text-3 c = search needs
-
 put-text-requires-3 : tie.Need-put-text-requires-3
 unfolding bytes actText
 put-text-requires-3 c κs = room-as (act-text _ (c .before .before .match .keys3)) (c .before .before .before .before .pre)
-
-slice-aggregate-put-around : tie.Need-slice-aggregate-put-around
-slice-aggregate-put-around c = search needs
-
-slice-aggregate-put-around-2 : tie.Need-slice-aggregate-put-around-2
-slice-aggregate-put-around-2 c = search needs
 
 put-around-requires : tie.Need-put-around-requires
 unfolding bytes actText
 put-around-requires c κs = room-as (act-text _ (c .before .before .before .match .keys4)) (c .before .before .before .before .before .pre)
 
-slice-aggregate-put-around-3 : tie.Need-slice-aggregate-put-around-3
-slice-aggregate-put-around-3 c = search needs
-
-slice-aggregate-put-around-4 : tie.Need-slice-aggregate-put-around-4
-slice-aggregate-put-around-4 c = search needs
-
 put-around-requires-2 : tie.Need-put-around-requires-2
 unfolding bytes actText
 put-around-requires-2 c κs = room-as (act-text _ (c .before .before .before .match .keys5)) (c .before .before .before .before .before .pre)
-
-slice-aggregate-put-text-4 : tie.Need-slice-aggregate-put-text-4
-slice-aggregate-put-text-4 c = search needs
 
 put-text-requires-4 : tie.Need-put-text-requires-4
 unfolding bytes actText
 put-text-requires-4 c κs = room-as (act-text _ (c .before .before .match .keys6)) (c .before .before .before .before .pre)
 
-slice-aggregate-put-text-5 : tie.Need-slice-aggregate-put-text-5
-slice-aggregate-put-text-5 c = search needs
-
 put-text-requires-5 : tie.Need-put-text-requires-5
 unfolding bytes actText
 put-text-requires-5 c κs = room-as (act-text _ (c .before .before .match .keys7)) (c .before .before .before .before .pre)
-
-same-length : tie.Need-same-length
-same-length c = search needs
 
 returns : tie.Need-returns
 unfolding bytes actText
 returns c = put-as (sym (act-text _ (c .before .before .before .before .before .match .keys1))) (c .before .before .put-text .ensures)
 
-same-length-2 : tie.Need-same-length-2
-same-length-2 c = search needs
-
 returns-2 : tie.Need-returns-2
 unfolding bytes actText
 returns-2 c = put-as (sym (act-text _ (c .before .before .before .before .before .match .keys2))) (c .before .before .put-text2 .ensures)
-
-same-length-3 : tie.Need-same-length-3
-same-length-3 c = search needs
 
 returns-3 : tie.Need-returns-3
 unfolding bytes actText
 returns-3 c = put-as (sym (act-text _ (c .before .before .before .before .before .match .keys3))) (c .before .before .put-text3 .ensures)
 
-same-length-4 : tie.Need-same-length-4
-same-length-4 c = search needs
-
 returns-4 : tie.Need-returns-4
 unfolding bytes actText
 returns-4 c = put-as (sym (act-text _ (c .before .before .before .before .before .before .match .keys4))) (c .before .before .put-around .ensures)
-
-same-length-5 : tie.Need-same-length-5
-same-length-5 c = search needs
 
 returns-5 : tie.Need-returns-5
 unfolding bytes actText
 returns-5 c = put-as (sym (act-text _ (c .before .before .before .before .before .before .match .keys5))) (c .before .before .put-around2 .ensures)
 
-same-length-6 : tie.Need-same-length-6
-same-length-6 c = search needs
-
 returns-6 : tie.Need-returns-6
 unfolding bytes actText
 returns-6 c = put-as (sym (act-text _ (c .before .before .before .before .before .match .keys6))) (c .before .before .put-text4 .ensures)
-
-same-length-7 : tie.Need-same-length-7
-same-length-7 c = search needs
 
 returns-7 : tie.Need-returns-7
 unfolding bytes actText
@@ -120,34 +72,34 @@ pub put-act-spec : {M : Type 1} → statement M
 put-act-spec =
     tie.close
     (tie.spec
-    slice-aggregate-put-text
+    (λ c. search needs)
     put-text-requires
-    slice-aggregate-put-text-2
+    (λ c. search needs)
     put-text-requires-2
-    slice-aggregate-put-text-3
+    (λ c. search needs)
     put-text-requires-3
-    slice-aggregate-put-around
-    slice-aggregate-put-around-2
+    (λ c. search needs)
+    (λ c. search needs)
     put-around-requires
-    slice-aggregate-put-around-3
-    slice-aggregate-put-around-4
+    (λ c. search needs)
+    (λ c. search needs)
     put-around-requires-2
-    slice-aggregate-put-text-4
+    (λ c. search needs)
     put-text-requires-4
-    slice-aggregate-put-text-5
+    (λ c. search needs)
     put-text-requires-5
-    same-length
+    (λ c. search needs)
     returns
-    same-length-2
+    (λ c. search needs)
     returns-2
-    same-length-3
+    (λ c. search needs)
     returns-3
-    same-length-4
+    (λ c. search needs)
     returns-4
-    same-length-5
+    (λ c. search needs)
     returns-5
-    same-length-6
+    (λ c. search needs)
     returns-6
-    same-length-7
+    (λ c. search needs)
     returns-7
     returns-8)

@@ -37,13 +37,10 @@ put-decimal-requires c κs = let p = c .before .before .before in room-part _ (u
 put-text-requires-2 : tie.Need-put-text-requires-2
 put-text-requires-2 c κs = number-put (c .before .before .before) .room
 
-same-length : tie.Need-same-length
-same-length c = search needs
-
 returns : tie.Need-returns
 returns c = last-part (number-put (c .before .before .before .before .before .before)) (c .before .before .put-text2 .ensures)
 
 pub put-around-spec : {M : Type 1} → statement M
 put-around-spec =
     tie.close
-    (tie.spec put-text-requires put-decimal-requires put-text-requires-2 same-length returns)
+    (tie.spec put-text-requires put-decimal-requires put-text-requires-2 (λ c. search needs) returns)

@@ -44,9 +44,6 @@ number-put c = let s = up1 (up2 c) in part-put (decimal (s .args .thread)) (from
 act-put : (c : tie.After-put-act) → let s = up1 (up2 (up3 c)) in Up-to s (bytes "\n") (c .put-act .last .0) (c .put-act .result)
 act-put c = let s = up1 (up2 (up3 c)) in part-put (actText (s .args .mv) (s .args .target)) (bytes "\n") (number-put (up3 c)) (c .put-act .ensures)
 
-slice-aggregate-put-text : tie.Need-slice-aggregate-put-text
-slice-aggregate-put-text c = search needs
-
 put-text-requires : tie.Need-put-text-requires
 unfolding bytes
 put-text-requires c κs = let s = c .before .before .before in room-part (bytes "(") (from-number s) (nothing-put s)
@@ -57,15 +54,9 @@ put-decimal-requires c κs = let p = c .before .before .before in room-part _ (f
 put-act-requires : tie.Need-put-act-requires
 put-act-requires c κs = let p = c .before .before .before in room-part _ (bytes "\n") (number-put p)
 
-slice-aggregate-put-text-2 : tie.Need-slice-aggregate-put-text-2
-slice-aggregate-put-text-2 c = search needs
-
 put-text-requires-2 : tie.Need-put-text-requires-2
 unfolding bytes
 put-text-requires-2 c κs = act-put (c .before .before .before .before) .room
-
-same-length : tie.Need-same-length
-same-length c = search needs
 
 returns : tie.Need-returns
 unfolding bytes
@@ -78,11 +69,11 @@ pub put-move-spec : {M : Type 1} → statement M
 put-move-spec =
     tie.close
     (tie.spec
-    slice-aggregate-put-text
+    (λ c. search needs)
     put-text-requires
     put-decimal-requires
     put-act-requires
-    slice-aggregate-put-text-2
+    (λ c. search needs)
     put-text-requires-2
-    same-length
+    (λ c. search needs)
     returns)

@@ -7,18 +7,9 @@ use Rattle.spelling.proofs.LineTexts.{threads-text}
 use Rattle.spelling.proofs.put_threads.Statement.{statement}
 use Rattle.spelling.proofs.put_threads.Tie as tie
 
-slice-aggregate-put-around : tie.Need-slice-aggregate-put-around
-slice-aggregate-put-around c = search needs
-
-slice-aggregate-put-around-2 : tie.Need-slice-aggregate-put-around-2
-slice-aggregate-put-around-2 c = search needs
-
 put-around-requires : tie.Need-put-around-requires
 unfolding bytes
 put-around-requires c κs = let s = c .before .before .before .before in room-as (threads-text (s .args .threads)) (s .pre)
-
-same-length : tie.Need-same-length
-same-length c = search needs
 
 returns : tie.Need-returns
 unfolding bytes
@@ -28,8 +19,8 @@ pub put-threads-spec : {M : Type 1} → statement M
 put-threads-spec =
     tie.close
     (tie.spec
-    slice-aggregate-put-around
-    slice-aggregate-put-around-2
+    (λ c. search needs)
+    (λ c. search needs)
     put-around-requires
-    same-length
+    (λ c. search needs)
     returns)

@@ -16,9 +16,6 @@ loop-holds c = counted-none _
 add-digits : tie.Need-add-digits Inv-loop μ-loop
 add-digits c = omega (arith, counted-few _ _ _ (c .before .before .fits .n .fits) (c .before .loop .inv))
 
-loop-less : tie.Need-loop-less Inv-loop μ-loop
-loop-less c = omega arith
-
 loop-again : tie.Need-loop-again Inv-loop μ-loop
 loop-again c = counted-more _ _ _ (c .loop-test .taken) (c .before .loop .inv)
 
@@ -27,4 +24,4 @@ returns c = counted-all _ _ _ (c .loop-test .left) (c .before .loop .inv)
 
 pub decimal-length-spec : {M : Type 1} → statement M
 decimal-length-spec =
-    tie.close (tie.spec Inv-loop μ-loop loop-holds add-digits loop-less loop-again returns)
+    tie.close (tie.spec Inv-loop μ-loop loop-holds add-digits (λ c. omega arith) loop-again returns)

@@ -9,14 +9,8 @@ use Rattle.text.proofs.deliver.Tie as tie
 returns : tie.Need-returns
 returns c = short-refused [] _ _ no-test (c .if1 .taken)
 
-put-text-requires : tie.Need-put-text-requires
-put-text-requires c κs = search needs
-
-same-length : tie.Need-same-length
-same-length c = search needs
-
 returns-2 : tie.Need-returns-2
 returns-2 c = put-delivered [] _ _ no-test (c .before .before .before .before .if1 .left) (c .before .before .put-text .ensures)
 
 pub deliver-spec : {M : Type 1} → statement M
-deliver-spec = tie.close (tie.spec returns put-text-requires same-length returns-2)
+deliver-spec = tie.close (tie.spec returns (λ c κs. search needs) (λ c. search needs) returns-2)

@@ -22,15 +22,6 @@ further c = let l = c .before .loop in omega (arith, l .inv .1 .start, decimal-s
 first : (c : tie.After-loop Inv-loop μ-loop) → let l = c .before .loop in c .before .before .before .before .args .at + 1 ≡ l .place
 first c = let l = c .before .loop in omega (arith, l .inv .1 .start, ap length (decimal-small (l .high) (c .loop-test .left)))
 
-decimal-length-requires : tie.Need-decimal-length-requires Inv-loop μ-loop
-decimal-length-requires c κs = tt
-
-cast-end : tie.Need-cast-end Inv-loop μ-loop
-cast-end c = omega arith
-
-add-end : tie.Need-add-end Inv-loop μ-loop
-add-end c = omega arith
-
 loop-holds : tie.Need-loop-holds Inv-loop μ-loop
 loop-holds c =
     let end = ap (λ k. c .before .before .args .at + k) (c .decimal-length .ensures) in
@@ -39,31 +30,16 @@ loop-holds c =
 sub-place : tie.Need-sub-place Inv-loop μ-loop
 sub-place c = omega (arith, further c)
 
-cast-digit : tie.Need-cast-digit Inv-loop μ-loop
-cast-digit c = omega arith
-
-add-digit : tie.Need-add-digit Inv-loop μ-loop
-add-digit c = omega arith
-
 put-byte-requires : tie.Need-put-byte-requires Inv-loop μ-loop
 put-byte-requires c κs =
     let l = c .before .before in
     lower-room (l .before .before .before .pre) (l .loop .inv .1) _ (further (c .before)) _
-
-loop-less : tie.Need-loop-less Inv-loop μ-loop
-loop-less c = omega arith
 
 loop-again : tie.Need-loop-again Inv-loop μ-loop
 loop-again c =
     let test = c .before .before .before .before in
     let l = test .before in
     (l .loop .inv .0, lower-more (l .before .before .before .pre) (l .loop .inv .1) _ (further test) _ (c .before .before .put-byte .ensures) (test .loop-test .taken) refl)
-
-cast-first : tie.Need-cast-first Inv-loop μ-loop
-cast-first c = omega arith
-
-add-first : tie.Need-add-first Inv-loop μ-loop
-add-first c = omega arith
 
 put-byte-requires-2 : tie.Need-put-byte-requires-2 Inv-loop μ-loop
 put-byte-requires-2 c κs =
@@ -85,18 +61,18 @@ put-decimal-spec =
     (tie.spec
     Inv-loop
     μ-loop
-    decimal-length-requires
-    cast-end
-    add-end
+    (λ c κs. tt)
+    (λ c. omega arith)
+    (λ c. omega arith)
     loop-holds
     sub-place
-    cast-digit
-    add-digit
+    (λ c. omega arith)
+    (λ c. omega arith)
     put-byte-requires
-    loop-less
+    (λ c. omega arith)
     loop-again
-    cast-first
-    add-first
+    (λ c. omega arith)
+    (λ c. omega arith)
     put-byte-requires-2
     same-length
     returns)

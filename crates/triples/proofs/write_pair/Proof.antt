@@ -41,78 +41,42 @@ put c f q left next p = subst (λ (k : ℕ). PutAt (entry c .args .out .now) (en
 nothing : (out : List ℕ) (at : ℕ) (rs : List Request) → rs ≡ [] → PutAt out at (bytesOf rs) out at
 nothing out at rs e = rw e (put-none out at)
 
-from-code-requires : tie.Need-from-code-requires
-from-code-requires c κs = search needs
-
-enum-known-found : tie.Need-enum-known-found
-enum-known-found c = search needs
-
-enum-told : tie.Need-enum-told
-enum-told c = search needs
-
 returns : tie.Need-returns
 returns c =
     let a = c .before .before .before .before .args in
     nothing (a .out .now) (a .at) _ (no-plan (a .threads) (a .thread) (a .code) (sym (c .enum-told .given .1) ∙ c .before .before .from-code .ensures))
 
-enum-told-2 : tie.Need-enum-told-2
-enum-told-2 c = search needs
-
 put-triple-requires : tie.Need-put-triple-requires
 unfolding planOf gather
 put-triple-requires c κs = room (c .before .before .before) EnterSharedCall (c .before .enum-told2 .given .1)
-
-enum-told-3 : tie.Need-enum-told-3
-enum-told-3 c = search needs
 
 go-times-requires : tie.Need-go-times-requires
 unfolding planOf gather
 go-times-requires c κs = room (c .before .before .before) EnterSharedReturn (c .before .enum-told3 .given .1)
 
-enum-told-4 : tie.Need-enum-told-4
-enum-told-4 c = search needs
-
 go-times-requires-2 : tie.Need-go-times-requires-2
 unfolding planOf gather
 go-times-requires-2 c κs = room (c .before .before .before) LeaveSharedCall (c .before .enum-told4 .given .1)
-
-enum-told-5 : tie.Need-enum-told-5
-enum-told-5 c = search needs
 
 put-triple-requires-2 : tie.Need-put-triple-requires-2
 unfolding planOf gather
 put-triple-requires-2 c κs = room (c .before .before .before) LeaveSharedReturn (c .before .enum-told5 .given .1)
 
-enum-told-6 : tie.Need-enum-told-6
-enum-told-6 c = search needs
-
 put-triple-requires-3 : tie.Need-put-triple-requires-3
 unfolding planOf gather
 put-triple-requires-3 c κs = room (c .before .before .before) EnterExclusiveCall (c .before .enum-told6 .given .1)
-
-enum-told-7 : tie.Need-enum-told-7
-enum-told-7 c = search needs
 
 enter-exclusive-requires : tie.Need-enter-exclusive-requires
 unfolding planOf gather
 enter-exclusive-requires c κs = room (c .before .before .before) EnterExclusiveReturn (c .before .enum-told7 .given .1)
 
-enum-told-8 : tie.Need-enum-told-8
-enum-told-8 c = search needs
-
 leave-exclusive-requires : tie.Need-leave-exclusive-requires
 unfolding planOf gather
 leave-exclusive-requires c κs = room (c .before .before .before) LeaveExclusiveCall (c .before .enum-told8 .given .1)
 
-enum-told-9 : tie.Need-enum-told-9
-enum-told-9 c = search needs
-
 put-triple-requires-4 : tie.Need-put-triple-requires-4
 unfolding planOf gather
 put-triple-requires-4 c κs = room (c .before .before .before) LeaveExclusiveReturn (c .before .enum-told9 .given .1)
-
-same-length : tie.Need-same-length
-same-length c = search needs
 
 returns-2 : tie.Need-returns-2
 unfolding planOf gather
@@ -120,17 +84,11 @@ returns-2 c =
     let done = c .before .before .put-triple in
     put (c .before .before .before .before .before .before) EnterSharedCall (c .before .before .before .before .enum-told2 .given .1) (done .last .0) (done .result) (done .ensures)
 
-same-length-2 : tie.Need-same-length-2
-same-length-2 c = search needs
-
 returns-3 : tie.Need-returns-3
 unfolding planOf gather
 returns-3 c =
     let done = c .before .before .go-times in
     put (c .before .before .before .before .before .before) EnterSharedReturn (c .before .before .before .before .enum-told3 .given .1) (done .last .0) (done .result) (done .ensures)
-
-same-length-3 : tie.Need-same-length-3
-same-length-3 c = search needs
 
 returns-4 : tie.Need-returns-4
 unfolding planOf gather
@@ -138,17 +96,11 @@ returns-4 c =
     let done = c .before .before .go-times2 in
     put (c .before .before .before .before .before .before) LeaveSharedCall (c .before .before .before .before .enum-told4 .given .1) (done .last .0) (done .result) (done .ensures)
 
-same-length-4 : tie.Need-same-length-4
-same-length-4 c = search needs
-
 returns-5 : tie.Need-returns-5
 unfolding planOf gather
 returns-5 c =
     let done = c .before .before .put-triple2 in
     put (c .before .before .before .before .before .before) LeaveSharedReturn (c .before .before .before .before .enum-told5 .given .1) (done .last .0) (done .result) (done .ensures)
-
-same-length-5 : tie.Need-same-length-5
-same-length-5 c = search needs
 
 returns-6 : tie.Need-returns-6
 unfolding planOf gather
@@ -156,26 +108,17 @@ returns-6 c =
     let done = c .before .before .put-triple3 in
     put (c .before .before .before .before .before .before) EnterExclusiveCall (c .before .before .before .before .enum-told6 .given .1) (done .last .0) (done .result) (done .ensures)
 
-same-length-6 : tie.Need-same-length-6
-same-length-6 c = search needs
-
 returns-7 : tie.Need-returns-7
 unfolding planOf gather
 returns-7 c =
     let done = c .before .before .enter-exclusive in
     put (c .before .before .before .before .before .before) EnterExclusiveReturn (c .before .before .before .before .enum-told7 .given .1) (done .last .0) (done .result) (done .ensures)
 
-same-length-7 : tie.Need-same-length-7
-same-length-7 c = search needs
-
 returns-8 : tie.Need-returns-8
 unfolding planOf gather
 returns-8 c =
     let done = c .before .before .leave-exclusive in
     put (c .before .before .before .before .before .before) LeaveExclusiveCall (c .before .before .before .before .enum-told8 .given .1) (done .last .0) (done .result) (done .ensures)
-
-same-length-8 : tie.Need-same-length-8
-same-length-8 c = search needs
 
 returns-9 : tie.Need-returns-9
 unfolding planOf gather
@@ -187,39 +130,39 @@ pub write-pair-spec : {M : Type 1} → statement M
 write-pair-spec =
     tie.close
     (tie.spec
-    from-code-requires
-    enum-known-found
-    enum-told
+    (λ c κs. search needs)
+    (λ c. search needs)
+    (λ c. search needs)
     returns
-    enum-told-2
+    (λ c. search needs)
     put-triple-requires
-    enum-told-3
+    (λ c. search needs)
     go-times-requires
-    enum-told-4
+    (λ c. search needs)
     go-times-requires-2
-    enum-told-5
+    (λ c. search needs)
     put-triple-requires-2
-    enum-told-6
+    (λ c. search needs)
     put-triple-requires-3
-    enum-told-7
+    (λ c. search needs)
     enter-exclusive-requires
-    enum-told-8
+    (λ c. search needs)
     leave-exclusive-requires
-    enum-told-9
+    (λ c. search needs)
     put-triple-requires-4
-    same-length
+    (λ c. search needs)
     returns-2
-    same-length-2
+    (λ c. search needs)
     returns-3
-    same-length-3
+    (λ c. search needs)
     returns-4
-    same-length-4
+    (λ c. search needs)
     returns-5
-    same-length-5
+    (λ c. search needs)
     returns-6
-    same-length-6
+    (λ c. search needs)
     returns-7
-    same-length-7
+    (λ c. search needs)
     returns-8
-    same-length-8
+    (λ c. search needs)
     returns-9)

@@ -18,9 +18,6 @@ put-moves-requires c κs =
     let s = p .before .before .before .before in
     room-second (ended (threadsLine (s .args .threads))) (movesText (requestsOf (s .args .triples .now))) (s .pre) (p .put-threads .ensures)
 
-same-length : tie.Need-same-length
-same-length c = search needs
-
 returns : tie.Need-returns
 unfolding scriptOf
 returns c =
@@ -30,4 +27,4 @@ returns c =
     both (ended (threadsLine (s .args .threads))) (movesText (requestsOf (s .args .triples .now))) (s .pre) (p .put-threads .ensures) (q .put-moves .ensures)
 
 pub put-script-spec : {M : Type 1} → statement M
-put-script-spec = tie.close (tie.spec put-threads-requires put-moves-requires same-length returns)
+put-script-spec = tie.close (tie.spec put-threads-requires put-moves-requires (λ c. search needs) returns)

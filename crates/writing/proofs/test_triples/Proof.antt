@@ -15,47 +15,11 @@ abbrev μ-loop : tie.MeasureT-loop
 loop-holds : tie.Need-loop-holds Inv-loop μ-loop
 loop-holds c = tried-none _ _
 
-mul-i : tie.Need-mul-i Inv-loop μ-loop
-mul-i c = omega arith
-
-shared-slice-read-request-of : tie.Need-shared-slice-read-request-of Inv-loop μ-loop
-shared-slice-read-request-of c = omega arith
-
-add-request-of : tie.Need-add-request-of Inv-loop μ-loop
-add-request-of c = omega arith
-
-shared-slice-read-request-of-2 : tie.Need-shared-slice-read-request-of-2 Inv-loop μ-loop
-shared-slice-read-request-of-2 c = omega arith
-
-add-request-of-2 : tie.Need-add-request-of-2 Inv-loop μ-loop
-add-request-of-2 c = omega arith
-
-shared-slice-read-request-of-3 : tie.Need-shared-slice-read-request-of-3 Inv-loop μ-loop
-shared-slice-read-request-of-3 c = omega arith
-
-request-of-requires : tie.Need-request-of-requires Inv-loop μ-loop
-request-of-requires c κs = search needs
-
-test-numbers-requires : tie.Need-test-numbers-requires Inv-loop μ-loop
-test-numbers-requires c κs = search needs
-
-enum-known-tested : tie.Need-enum-known-tested Inv-loop μ-loop
-enum-known-tested c = search needs
-
 returns : tie.Need-returns Inv-loop μ-loop
 returns c =
     let p = c .before .before .before in
     let l = p .before .before .before .before .before in
     tried-refused _ _ (l .before .loop .k) (l .loop-test .taken) (l .before .loop .inv) (p .before .request-of .ensures) _ (p .test-numbers .ensures) _ (c .before .tested .given .1)
-
-enum-told : tie.Need-enum-told Inv-loop μ-loop
-enum-told c = search needs
-
-add-k : tie.Need-add-k Inv-loop μ-loop
-add-k c = omega arith
-
-loop-less : tie.Need-loop-less Inv-loop μ-loop
-loop-less c = omega arith
 
 loop-again : tie.Need-loop-again Inv-loop μ-loop
 loop-again c =
@@ -73,18 +37,18 @@ test-triples-spec =
     Inv-loop
     μ-loop
     loop-holds
-    mul-i
-    shared-slice-read-request-of
-    add-request-of
-    shared-slice-read-request-of-2
-    add-request-of-2
-    shared-slice-read-request-of-3
-    request-of-requires
-    test-numbers-requires
-    enum-known-tested
+    (λ c. omega arith)
+    (λ c. omega arith)
+    (λ c. omega arith)
+    (λ c. omega arith)
+    (λ c. omega arith)
+    (λ c. omega arith)
+    (λ c κs. search needs)
+    (λ c κs. search needs)
+    (λ c. search needs)
     returns
-    enum-told
-    add-k
-    loop-less
+    (λ c. search needs)
+    (λ c. omega arith)
+    (λ c. omega arith)
     loop-again
     returns-2)

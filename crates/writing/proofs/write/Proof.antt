@@ -9,9 +9,6 @@ use Rattle.writing.proofs.EntryLaws.{bad-count, bad-length, bad-triple,
 use Rattle.writing.proofs.write.Statement.{statement}
 use Rattle.writing.proofs.write.Tie as tie
 
-count-fits-requires : tie.Need-count-fits-requires
-count-fits-requires c κs = search needs
-
 -- N fits where the list is looked at
 counts : (c : tie.Else1) → countFits (c .before .before .before .before .args .threads) ≡ true
 counts c = sym (c .before .count-fits .ensures) ∙ not-false _ (c .if1 .left)
@@ -21,15 +18,6 @@ returns c = bad-count _ _ _ (sym (c .before .count-fits .ensures) ∙ not-true _
 
 returns-2 : tie.Need-returns-2
 returns-2 c = bad-length _ _ _ (counts (c .before)) (c .if2 .taken)
-
-test-triples-requires : tie.Need-test-triples-requires
-test-triples-requires c κs = search needs
-
-enum-known-tested : tie.Need-enum-known-tested
-enum-known-tested c = search needs
-
-enum-told : tie.Need-enum-told
-enum-told c = search needs
 
 returns-3 : tie.Need-returns-3
 returns-3 c =
@@ -69,12 +57,6 @@ returns-6 c =
     no-room-left _ _ _ (counts (e .before)) (e .if2 .left) _ (p .test-triples .ensures) _ (k .before .tested .given .1)
     (omega (arith, c .before .if4 .left, l .script-length .ensures)) (omega (arith, c .if5 .taken, l .script-length .ensures))
 
-put-script-requires : tie.Need-put-script-requires
-put-script-requires c κs = search needs
-
-same-length : tie.Need-same-length
-same-length c = search needs
-
 returns-7 : tie.Need-returns-7
 returns-7 c =
     let w = c .before .before in
@@ -90,17 +72,17 @@ pub write-spec : {M : Type 1} → statement M
 write-spec =
     tie.close
     (tie.spec
-    count-fits-requires
+    (λ c κs. search needs)
     returns
     returns-2
-    test-triples-requires
-    enum-known-tested
-    enum-told
+    (λ c κs. search needs)
+    (λ c. search needs)
+    (λ c. search needs)
     returns-3
     returns-4
     script-length-requires
     returns-5
     returns-6
-    put-script-requires
-    same-length
+    (λ c κs. search needs)
+    (λ c. search needs)
     returns-7)
