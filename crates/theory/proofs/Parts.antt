@@ -1,7 +1,8 @@
 -- A text in parts, put into an output one part behind the other.
--- First `Partly`: some parts are put, and a rest is left. A function that puts parts goes from `no-part` by `part-put` to `last-part` or `all-parts`; `room-part` is what each call asks.
--- Then `Parts`, a text whose parts have the indices 0, 1, .. A loop that puts them is entered by `parts-none`, one turn is `parts-more`, and it is left by `parts-all`; `parts-room` is what each turn asks.
--- A loop that measures them goes from `measured-none` by `measured-more` to `measured-all`. Last, texts in parts that several writers have: the lists f 0, f 1, .. behind each other, and a list byte by byte.
+-- First `Partly`: some parts are put, and a rest is left. A function that puts parts goes from `no-part` by `part-put` to `last-part` or `all-parts`, and `room-part` is what each call asks.
+-- Then `Parts`: a text whose parts have the indices 0, 1, .. A loop that puts them is entered by `parts-none`, one turn is `parts-more`, and it is left by `parts-all`.
+-- A turn's call asks `parts-room`. A loop that measures them goes from `measured-none` by `measured-more` to `measured-all`.
+-- Last, texts in parts that several writers have: lists behind each other, one entry for each thread, and a list byte by byte.
 use Prim.Native.Nat.{ℕ, zero, suc, _+_, _-_, _≤_, _<_}
 use native.Mathlib.Numerals.{add-one}
 use native.Mathlib.Omega.{arith}
@@ -9,7 +10,7 @@ use mathlib.Core.List.{List, [], _∷_, _++_, append-assoc, append-nil}
 use mathlib.Core.Path.{_≡_, refl, sym, subst, ap, _∙_}
 use lib.ListN.{length, getD, drop, length-append}
 use lib.Seq.{drop-cons, drop-length}
-use Rattle.definitions.specs.Threads.{gather}
+use Rattle.definitions.specs.Threads.{listOf, gather}
 use Rattle.theory.specs.Outputs.{RoomAt, PutAt}
 use Rattle.theory.proofs.Outputs.{none, same-size, room-first, room-second, both}
 
@@ -157,6 +158,21 @@ module _ {A : Type 0} (f : ℕ → List A) where
 
 abbrev pub gathered : ℕ → (ℕ → List ℕ) → Parts
 gathered n f = record { text = gather n f; count = n; part = f; from = gatherFrom f n; start = gather-start f n; next = gather-next f n; end = gather-end f n }
+
+-- ---- one entry for each thread below n
+
+list-gathered : (n : ℕ) (f : ℕ → ℕ) → gather n (λ i. f i ∷ []) ≡ listOf n f
+unfolding listOf gather
+list-gathered zero f = refl
+list-gathered (suc n) f = ap (λ (l : List ℕ). l ++ (f n ∷ [])) (list-gathered n f)
+
+pub list-start : (n : ℕ) (f : ℕ → ℕ) → gatherFrom (λ i. f i ∷ []) n 0 ≡ listOf n f
+list-start n f = gather-start (λ i. f i ∷ []) n ∙ list-gathered n f
+
+abbrev pub listed : ℕ → (ℕ → ℕ) → Parts
+listed n f =
+    let entry : ℕ → List ℕ = λ i. f i ∷ [] in
+    record { text = listOf n f; count = n; part = entry; from = gatherFrom entry n; start = list-start n f; next = gather-next entry n; end = gather-end entry n }
 
 -- ---- byte by byte
 
