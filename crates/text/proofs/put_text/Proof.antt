@@ -13,12 +13,13 @@ abbrev μ-loop : tie.MeasureT-loop
 μ-loop out₀ at text next₀ i₀ out next i = length text - i
 
 put-byte-requires : tie.Need-put-byte-requires Inv-loop μ-loop
-put-byte-requires c κs = let test = c .before .before in parts-room (test .before .loop .inv) (test .loop-test .taken)
+put-byte-requires c κs = parts-room (c .before .before .before .loop .inv) (omega arith)
 
 loop-again : tie.Need-loop-again Inv-loop μ-loop
-loop-again c =
-    let test = c .before .before .before .before .before in
-    parts-more (test .before .loop .inv) (test .loop-test .taken) (c .before .before .put-byte .ensures)
+loop-again c = parts-more (c .before .before .before .before .before .before .loop .inv) (omega arith) (c .before .before .put-byte .ensures)
+
+returns : tie.Need-returns Inv-loop μ-loop
+returns c = parts-all (c .before .loop .inv) (c .loop-test .left)
 
 pub put-text-spec : {M : Type 1} → statement M
 put-text-spec =
@@ -33,4 +34,4 @@ put-text-spec =
     (λ c. omega arith)
     loop-again
     (λ c. c .before .loop .inv .put .size)
-    (λ c. parts-all (c .before .loop .inv) (c .loop-test .left)))
+    returns)
