@@ -1,6 +1,6 @@
 // An accepted request made on a sound byte table: the head, the mover and the subject are read, the rules decide, and what they
 // decided is written.
-use arms::Decided;
+use definitions::Head;
 use definitions::Request;
 use definitions::Task;
 use layout::read_head;
@@ -14,20 +14,18 @@ ghost use Rattle.theory.specs.Tables.{putBack};
 ghost use Rattle.apply.specs.MoveMade.{MoveTried, Accepting, TwoThreads};
 
 // The mover is written first, and the subject is read again: they may be one thread.
-fn store(table: &mut [u8], thread: usize, number: usize, d: Decided)
+fn store(table: &mut [u8], thread: usize, number: usize, head: Head, mover: Task, forbidden: u8)
     requires { ⌜ TwoThreads (now table) thread number ⌝ }
-    ensures { λ _. ⌜ now (table .exit) ≡ putBack byteTable (now (table .entry)) thread number (d .head) (d .mover) (d .forbidden) ⌝ }
+    ensures { λ _. ⌜ now (table .exit) ≡ putBack byteTable (now (table .entry)) thread number head mover forbidden ⌝ }
 {
-    let mover = d.mover;
     write_task(table, thread, mover);
     let was = read_task(table, number);
     let subject = Task {
         phase: was.phase,
         busy: was.busy,
-        forbidden: d.forbidden,
+        forbidden,
     };
     write_task(table, number, subject);
-    let head = d.head;
     write_head(table, head);
 }
 
@@ -42,11 +40,13 @@ pub fn apply_request(table: &mut [u8], forbidden: usize, request: Request) -> Ma
     let subject = read_task(table, number);
     let v = moving::view_of(head, mover, number, subject, forbidden);
     let d = rules::decide(v, request.mv as u8);
-    store(table, thread, number, d);
-    let left = moving::recount(forbidden, subject.forbidden, d.forbidden);
+    let after = d.head;
+    let left = d.mover;
+    store(table, thread, number, after, left, d.forbidden);
+    let count = moving::recount(forbidden, subject.forbidden, d.forbidden);
     let outcome = d.outcome;
     Made {
         outcome,
-        forbidden: left,
+        forbidden: count,
     }
 }

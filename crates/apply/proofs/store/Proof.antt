@@ -34,7 +34,7 @@ module _ (c : tie.After-write-task) where
   start = c .before .before .before .before
 
   pub mover-put : Sized (c .write-task .last .0) × (start .args .number < tableOf (c .write-task .last .0) .threads)
-  mover-put = after-mover (start .args .table .now) (start .args .thread) (start .args .number) (start .args .d .mover) (start .pre) (c .write-task .last .0) (c .write-task .ensures)
+  mover-put = after-mover (start .args .table .now) (start .args .thread) (start .args .number) (start .args .mover) (start .pre) (c .write-task .last .0) (c .write-task .ensures)
 
 read-task-requires : tie.Need-read-task-requires
 read-task-requires c κs = mover-put (c .before .before .before)
@@ -47,7 +47,7 @@ write-head-requires c κs =
     let both = c .before .before .before .before in
     let one = both .before .before .before .before .before .before in
     let a = start one .args in
-    after-both (a .table .now) (a .thread) (a .number) (a .d .mover) (start one .pre) (one .write-task .last .0) (one .write-task .ensures) _ (both .write-task2 .last .0) (both .write-task2 .ensures)
+    after-both (a .table .now) (a .thread) (a .number) (a .mover) (start one .pre) (one .write-task .last .0) (one .write-task .ensures) _ (both .write-task2 .last .0) (both .write-task2 .ensures)
 
 returns : tie.Need-returns
 returns c =
@@ -56,8 +56,8 @@ returns c =
     let read = both .before .before in
     let one = read .before .before .before .before in
     let a = start one .args in
-    all-put (a .table .now) (a .thread) (a .number) (a .d .mover) (start one .pre) (one .write-task .last .0) (one .write-task .ensures) _ (both .write-task2 .last .0) (both .write-task2 .ensures)
-    (a .d .head) (a .d .forbidden) (read .read-task .result) (last .write-head .last .0) (read .read-task .ensures) refl (last .write-head .ensures)
+    all-put (a .table .now) (a .thread) (a .number) (a .mover) (start one .pre) (one .write-task .last .0) (one .write-task .ensures) _ (both .write-task2 .last .0) (both .write-task2 .ensures)
+    (a .head) (a .forbidden) (read .read-task .result) (last .write-head .last .0) (read .read-task .ensures) refl (last .write-head .ensures)
 
 pub store-spec : {M : Type 1} → statement M
 store-spec = tie.close (tie.spec (λ c κs. search needs) read-task-requires write-task-requires-2 write-head-requires (λ c. search needs) returns)
