@@ -121,13 +121,13 @@ cast-decide c = omega (arith, move-fits _ _ _ (known (at (c .before .before .bef
 
 store-requires : tie.Need-store-requires
 store-requires c κs =
-    let called = c .before .before .before .before .before .before in
+    let called = c .before .before .before .before .before .before .before .before in
     let head = at called in
     both (bytes head) (count head) (asked head) (known head) _ _ _ (head .read-head .ensures) (called .before .read-task .ensures) (called .subject-of .ensures)
 
 recount-requires : tie.Need-recount-requires
 recount-requires c κs =
-    let read = c .before .before .before .before .before .before .before in
+    let read = c .before .before .before .before .before .before .before .before .before in
     let called = read .before .before in
     let head = at called in
     count-known (bytes head) (count head) (asked head) (known head) _ _ _ (head .read-head .ensures) (called .before .read-task .ensures) (called .subject-of .ensures)
@@ -136,7 +136,7 @@ recount-requires c κs =
 returns : tie.Need-returns
 returns c =
     let stored = c .before .before .before in
-    let decided = stored .before .before in
+    let decided = stored .before .before .before .before in
     let seen = decided .before .before in
     let read = seen .before in
     let called = read .before .before in

@@ -31,7 +31,7 @@ module _ (bytes : List ℕ) (i t : ℕ) (m : Task) (p : TwoThreads bytes i t) (o
 -- after the mover was written
 module _ (c : tie.After-write-task) where
   abbrev start : tie.Start
-  start = c .before .before .before .before
+  start = c .before .before .before
 
   pub mover-put : Sized (c .write-task .last .0) × (start .args .number < tableOf (c .write-task .last .0) .threads)
   mover-put = after-mover (start .args .table .now) (start .args .thread) (start .args .number) (start .args .mover) (start .pre) (c .write-task .last .0) (c .write-task .ensures)
@@ -44,7 +44,7 @@ write-task-requires-2 c κs = mover-put (c .before .before .before .before .befo
 
 write-head-requires : tie.Need-write-head-requires
 write-head-requires c κs =
-    let both = c .before .before .before .before in
+    let both = c .before .before .before in
     let one = both .before .before .before .before .before .before in
     let a = start one .args in
     after-both (a .table .now) (a .thread) (a .number) (a .mover) (start one .pre) (one .write-task .last .0) (one .write-task .ensures) _ (both .write-task2 .last .0) (both .write-task2 .ensures)
@@ -52,7 +52,7 @@ write-head-requires c κs =
 returns : tie.Need-returns
 returns c =
     let last = c .before .before in
-    let both = last .before .before .before .before .before in
+    let both = last .before .before .before .before in
     let read = both .before .before in
     let one = read .before .before .before .before in
     let a = start one .args in
