@@ -1,5 +1,4 @@
 -- What the walks of the functions over a lent record share. Each file says what it shows.
 pub mod Lent
-pub mod Places
-pub mod LentPlaces
-pub mod MutPlaces
+pub mod ArrayFields
+pub mod Calls

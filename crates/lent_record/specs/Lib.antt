@@ -1,2 +1,2 @@
 -- What the walks over a lent record speak of.
-pub mod Parts
+pub mod Arrays

@@ -1,1 +1,1 @@
-// What the proofs of the functions over a lent watcher's record share: this crate has no code.
+// What the proofs of the functions over a lent record share: this crate has no code.

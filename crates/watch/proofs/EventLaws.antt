@@ -1,5 +1,4 @@
--- An event put to a record that passed its tests: where its thread stands is what the record's places tell (`counted`), and the verdict of the plain counts is the watcher's answer and
--- record (`fits-reply`, `fits-record`, `bad-reply`, `bad-record`).
+-- An event put to a record that passed its tests: where its thread stands is what the record's places tell (`counted`), and what the verdict of the plain counts changes is right (`bad`, `fits`).
 use Prim.Native.Nat.{ℕ, _≤_, _<_}
 use native.Mathlib.Omega.{arith}
 use mathlib.Core.List.{List, [], _∷_}
@@ -25,8 +24,9 @@ use Rattle.theory.proofs.Replies.{peel, behind, all-passed}
 use Rattle.theory.proofs.TestLists.{other-answer}
 use Rattle.theory.proofs.Tests.{and-r, below?}
 use Rattle.theory.proofs.Writes.{update-other}
-use Rattle.watch.specs.Records.{Tested, movedTo}
+use Rattle.watch.specs.Records.{Tested, changed, kept, Updates}
 use Rattle.watch.proofs.RecordLaws.{round-e, Consistent, consistent-e, same-record, entries-are}
+use Rattle.watch.proofs.TestLaws.{refuses}
 
 -- past the entries a place is 0
 pub beyond : (entries : List ℕ) (t : ℕ) → length entries ≡ mostThreads → mostThreads ≤ t → placesIn entries t ≡ 0
@@ -67,25 +67,17 @@ module _ (w : Watcher) (thread event : ℕ) (tested : Tested w) (s : Standing) (
   by-event e = behind tt (recordTests w) (pairTests n p 0 x) (tested .passed) ∙ e
 
   module _ (v : Verdict) (judged : VerdictOf n x s v) where
-    -- a bad event is refused and leaves the record
-    module _ (r : Refusal) (is : v ≡ verdict.Bad r) where
-      pub bad-reply : refused (numberOf r) 0 ≡ eventReply w x
-      bad-reply = sym (by-event (other-answer tt (pairTests n p 0 x) _ (numberOf r) 0 (bad-verdict n p x few s standing-is v r is judged 0)))
-
-      pub bad-record : w ≡ eventRecord w x
-      unfolding eventRecord
-      bad-record = ap (λ (a : Reply (Unit {0})). leaves a (recordOf n (advanced p x)) w) bad-reply
+    -- a bad event is refused
+    pub bad : (r : Refusal) → v ≡ verdict.Bad r → Updates w x (kept w r)
+    bad r is = refuses w x r (sym (by-event (other-answer tt (pairTests n p 0 x) _ (numberOf r) 0 (bad-verdict n p x few s standing-is v r is judged 0))))
 
     -- one that fits is accepted and leaves the record of the places after it
     module _ (z : Standing) (is : v ≡ verdict.Fits z) where
       fit : Fit n p x few s standing-is z 0
       fit = fit-verdict n p x few s standing-is v z is judged 0
 
-      pub fits-entry : thread < mostThreads
-      fits-entry = omega (arith, few, fit .below)
-
-      pub fits-reply : accepted tt ≡ eventReply w x
-      fits-reply = sym (by-event (all-passed tt (pairTests n p 0 x) (fit .passes)))
+      reply : accepted tt ≡ eventReply w x
+      reply = sym (by-event (all-passed tt (pairTests n p 0 x) (fit .passes)))
 
       entries : set (w .places) thread (z .place) ≡ recordOf n (advanced p x) .places
       entries =
@@ -100,10 +92,15 @@ module _ (w : Watcher) (thread event : ℕ) (tested : Tested w) (s : Standing) (
       inside : z .inside ≡ totalAt n (advanced p x)
       inside = ap (λ (y : Standing). y .inside) (fit .after)
 
-      pub fits-record : movedTo w thread z ≡ eventRecord w x
+      pub fits : Updates w x (changed thread z)
       unfolding eventRecord
-      fits-record =
+      fits =
           let readers = few-inside n (advanced p x) 2 in
           let writers = few-inside n (advanced p x) 6 in
-          same-record refl (omega (arith, few, inside)) (omega (arith, few, inside)) entries
-          ∙ ap (λ (a : Reply (Unit {0})). leaves a (recordOf n (advanced p x)) w) fits-reply
+          record {
+            entry = omega (arith, few, fit .below);
+            reply = reply;
+            left =
+                same-record refl (omega (arith, few, inside)) (omega (arith, few, inside)) entries
+                ∙ ap (λ (a : Reply (Unit {0})). leaves a (recordOf n (advanced p x)) w) reply;
+          }

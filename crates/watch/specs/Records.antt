@@ -1,16 +1,20 @@
--- A record as its head and the list of its places, which are lent apart; what the code knows of them; and where an event's thread stands.
-use Prim.Native.Nat.{ℕ, _/_, _%_, _≤_}
+-- A record as its head and the list of its places; what the code knows of them; where an event's thread stands; and what an event changes of a record, as a value.
+use Prim.Native.Nat.{ℕ, _/_, _%_, _≤_, _<_}
 use mathlib.Core.List.{List}
 use mathlib.Core.Path.{_≡_}
 use lib.Dec.{T}
 use lib.ListN.{length, set}
 use Rattle.definitions.specs.Answers.{passesAll}
 use Rattle.definitions.specs.Bounds.{mostThreads}
-use Rattle.definitions.specs.Watch.{recordTests}
+use Rattle.definitions.specs.PlainLock.{Pair, placesIn}
+use Rattle.definitions.specs.Watch.{recordTests, watchedReply, eventReply, eventRecord}
+use Rattle.definitions.specs.declared.Refusal.{Refusal}
+use Rattle.definitions.specs.declared.Watched.the-variants.{Good, Refused}
 use Rattle.definitions.specs.declared.Watcher.{Watcher}
 use Rattle.history.specs.Counts.{writer, total}
 use Rattle.history.specs.declared.Standing.{Standing}
 use Rattle.watch.specs.declared.Head.{Head}
+use Rattle.watch.specs.declared.Update.{Update}
 
 -- the record of a head and a list of places
 abbrev pub held : Head → List ℕ → Watcher
@@ -30,10 +34,22 @@ pub record Tested (w : Watcher) : Type 0 where
 abbrev pub standingAt : Head → ℕ → Standing
 standingAt head place = record { place = place; inside = total (head .shared) (head .exclusive) }
 
--- the head of so many threads, with the totals that an event left
-abbrev pub headAfter : ℕ → Standing → Head
-headAfter threads after = record { threads = threads; shared = after .inside % writer; exclusive = after .inside / writer % writer }
+-- ---- what an event changes
 
--- the record with its thread where an event left it
-abbrev pub movedTo : Watcher → ℕ → Standing → Watcher
-movedTo w thread after = held (headAfter (w .threads) after) (set (w .places) thread (after .place))
+-- of one that fits: its thread's entry, and the totals that it left
+abbrev pub changed : ℕ → Standing → Update
+changed at after = record { at = at; place = after .place; shared = after .inside % writer; exclusive = after .inside / writer % writer; answer = Good }
+
+-- of one that is turned down: the first entry and the totals, as they stand
+abbrev pub kept : Watcher → Refusal → Update
+kept w refusal = record { at = 0; place = placesIn (w .places) 0; shared = w .shared; exclusive = w .exclusive; answer = Refused refusal }
+
+-- the record in which a change is stored
+abbrev pub updated : Watcher → Update → Watcher
+updated w u = record { threads = w .threads; shared = u .shared; exclusive = u .exclusive; places = set (w .places) (u .at) (u .place) }
+
+-- what is right for an event: its entry is one of the record's, the answer is the event's, and stored it leaves the event's record
+pub record Updates (w : Watcher) (x : Pair) (u : Update) : Type 0 where
+  pub entry : u .at < mostThreads
+  pub reply : watchedReply (u .answer) ≡ eventReply w x
+  pub left : updated w u ≡ eventRecord w x

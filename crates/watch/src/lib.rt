@@ -1,52 +1,46 @@
-// The watcher of 02 §2. What is decided is decided by value: one pass over a record's places tests it, `history::judge` judges
-// the event from its thread's place and the total of the two, as it does for the check, and `after_event` gives the two after it.
-// The places are lent as a slice, so that a record is tested and changed where it is kept, whoever keeps it; nothing here knows
-// of a record as a whole.
+// The watcher of 02 §2, by value: a record comes in as a value, and what an event changes of it goes out as one. One pass over
+// a record's places tests it, `history::judge` judges the event from its thread's place and the total of the two, as it does
+// for the check, and `carried_out` takes the total after it apart again. A record's places are lent as a slice to what looks at them, so that
+// they are copied once, by whoever hands the record over.
 use definitions::Inside;
 use definitions::MOST_THREADS;
 use definitions::Refusal;
 use definitions::Watched;
+use definitions::Watcher;
 use definitions::count_fits;
 use history::Standing;
 use history::Verdict;
 use history::WRITER;
 use history::judge;
 ghost use mathlib.Core.Path.{_≡_};
-ghost use lib.ListN.{length, replicate};
+ghost use lib.ListN.{length};
 ghost use Rattle.definitions.specs.Answers.{answered};
 ghost use Rattle.definitions.specs.Bounds.{mostThreads};
 ghost use Rattle.definitions.specs.PlainLock.{placesIn};
-ghost use Rattle.definitions.specs.declared.Watched.the-variants.{Good, Refused};
-ghost use Rattle.definitions.specs.Watch.{consistent, watchedReply, insideReply, startReply, startRecord, recordTests, eventReply, eventRecord, questionReply};
+ghost use Rattle.definitions.specs.Watch.{consistent, watchedReply, insideReply, startReply, startRecord, recordTests, questionReply};
 ghost use Rattle.watch.specs.Pass.{Room, withPlace, foundIn, emptyUpTo, foundFits};
-ghost use Rattle.watch.specs.Records.{held, Small, standingAt, Tested, headAfter};
+ghost use Rattle.watch.specs.Records.{held, Small, standingAt, Tested, changed, kept, Updates};
 
 // A record but for its places: N and the two totals.
-pub struct Head {
-    pub threads: u8,
-    pub shared: u8,
-    pub exclusive: u8,
+struct Head {
+    threads: u8,
+    shared: u8,
+    exclusive: u8,
 }
 
-// What is left of it, and what is answered.
+// What an event changes of a record, the entry at one place and the two totals, and what is answered.
 pub struct Update {
-    pub head: Head,
+    pub at: usize,
+    pub place: u8,
+    pub shared: u8,
+    pub exclusive: u8,
     pub answer: Watched,
 }
 
-// A request that is turned down leaves the head as it was.
-fn turned_down(head: Head, refusal: Refusal) -> Update
-    ensures { λ r. ⌜ r ≡ record { head = head; answer = Refused refusal } ⌝ }
-{
-    let answer = Watched::Refused(refusal);
-    Update { head, answer }
-}
-
-fn carried_out(head: Head) -> Update
-    ensures { λ r. ⌜ r ≡ record { head = head; answer = Good } ⌝ }
-{
-    let answer = Watched::Good;
-    Update { head, answer }
+// The record of a start, and what is answered.
+pub struct Begun {
+    pub watcher: Watcher,
+    pub answer: Watched,
 }
 
 // What a pass finds of the threads: how many are at 2 and at 6, and whether every place is one of a round.
@@ -164,24 +158,42 @@ fn standing(head: Head, place: u8) -> Standing
     Standing { place, inside }
 }
 
-// The head after an event that fits: the total of those inside is taken apart again.
-fn after_event(head: Head, after: Standing) -> Head
-    ensures { λ r. ⌜ r ≡ headAfter (head .threads) after ⌝ }
+// What an event that fits changes.
+fn carried_out(at: usize, after: Standing) -> Update
+    ensures { λ r. ⌜ r ≡ changed at after ⌝ }
 {
     let readers = (after.inside % WRITER) as u8;
     let writers = (after.inside / WRITER % WRITER) as u8;
-    Head {
-        threads: head.threads,
+    let answer = Watched::Good;
+    Update {
+        at,
+        place: after.place,
         shared: readers,
         exclusive: writers,
+        answer,
+    }
+}
+
+// A request that is turned down puts back what stands there, at the first entry.
+fn turned_down(head: Head, places: &[u8], refusal: Refusal) -> Update
+    requires { ⌜ length (now places) ≡ mostThreads ⌝ }
+    ensures { λ r. ⌜ r ≡ kept (held head (now (places .entry))) refusal ⌝ }
+{
+    let first = places[0];
+    let answer = Watched::Refused(refusal);
+    Update {
+        at: 0,
+        place: first,
+        shared: head.shared,
+        exclusive: head.exclusive,
+        answer,
     }
 }
 
 // Refusals 9, 10 and 11 of an event, put to a record that passed its tests.
-fn judged(head: Head, places: &mut [u8], thread: u16, event: u16) -> Update
+fn judged(head: Head, places: &[u8], thread: u16, event: u16) -> Update
     requires { ⌜ Tested (held head (now places)) ⌝ }
-    ensures { λ r. ⌜ watchedReply (r .answer) ≡ eventReply (held head (now (places .entry))) (record { thread = thread; event = event }) ⌝ }
-    ensures { λ r. ⌜ held (r .head) (now (places .exit)) ≡ eventRecord (held head (now (places .entry))) (record { thread = thread; event = event }) ⌝ }
+    ensures { λ r. ⌜ Updates (held head (now (places .entry))) (record { thread = thread; event = event }) r ⌝ }
 {
     let place = place_of(places, thread);
     let before = standing(head, place);
@@ -189,59 +201,60 @@ fn judged(head: Head, places: &mut [u8], thread: u16, event: u16) -> Update
     let verdict = judge(threads, thread, event, before);
     match verdict {
         Verdict::Fits(after) => {
-            let t = thread as usize;
-            places[t] = after.place;
-            let left = after_event(head, after);
-            carried_out(left)
+            let at = thread as usize;
+            carried_out(at, after)
         }
-        Verdict::Bad(refusal) => turned_down(head, refusal),
+        Verdict::Bad(refusal) => turned_down(head, places, refusal),
     }
-}
-
-// Every place 0.
-fn clear(places: &mut [u8])
-    requires { ⌜ length (now places) ≡ mostThreads ⌝ }
-    ensures { λ _. ⌜ now (places .exit) ≡ replicate mostThreads 0 ⌝ }
-{
-    for at in 0..MOST_THREADS as usize {
-        places[at] = 0;
-    }
-}
-
-// A watch starts: refusal 1.
-pub fn start(count: u16, head: Head, places: &mut [u8]) -> Update
-    requires { ⌜ length (now places) ≡ mostThreads ⌝ }
-    ensures { λ r. ⌜ watchedReply (r .answer) ≡ startReply count ⌝ }
-    ensures { λ r. ⌜ held (r .head) (now (places .exit)) ≡ startRecord count (held head (now (places .entry))) ⌝ }
-{
-    let wanted = count as usize;
-    if !count_fits(wanted) {
-        return turned_down(head, Refusal::BadSize);
-    }
-    let threads = count as u8;
-    clear(places);
-    carried_out(Head {
-        threads,
-        shared: 0,
-        exclusive: 0,
-    })
 }
 
 // One event: refusals 1 and 13 of the record, then 9, 10 and 11.
-pub fn watch_event(head: Head, places: &mut [u8], thread: u16, event: u16) -> Update
+fn update_of(head: Head, places: &[u8], thread: u16, event: u16) -> Update
     requires { ⌜ length (now places) ≡ mostThreads ⌝ }
-    ensures { λ r. ⌜ watchedReply (r .answer) ≡ eventReply (held head (now (places .entry))) (record { thread = thread; event = event }) ⌝ }
-    ensures { λ r. ⌜ held (r .head) (now (places .exit)) ≡ eventRecord (held head (now (places .entry))) (record { thread = thread; event = event }) ⌝ }
+    ensures { λ r. ⌜ Updates (held head (now (places .entry))) (record { thread = thread; event = event }) r ⌝ }
 {
     let tested = test_record(head, places);
     match tested {
         Watched::Good => judged(head, places, thread, event),
-        Watched::Refused(refusal) => turned_down(head, refusal),
+        Watched::Refused(refusal) => turned_down(head, places, refusal),
     }
 }
 
-// "Is anybody inside?": refusals 1 and 13.
-pub fn anybody_inside(head: Head, places: &[u8]) -> Inside
+// The same of a record by value.
+pub fn watch_event(watcher: Watcher, thread: u16, event: u16) -> Update
+    ensures { λ r. ⌜ Updates watcher (record { thread = thread; event = event }) r ⌝ }
+{
+    let head = Head {
+        threads: watcher.threads,
+        shared: watcher.shared,
+        exclusive: watcher.exclusive,
+    };
+    update_of(head, &watcher.places, thread, event)
+}
+
+// A watch starts: refusal 1.
+pub fn start(count: u16, watcher: Watcher) -> Begun
+    ensures { λ r. ⌜ watchedReply (r .answer) ≡ startReply count ⌝ }
+    ensures { λ r. ⌜ r .watcher ≡ startRecord count watcher ⌝ }
+{
+    let wanted = count as usize;
+    if !count_fits(wanted) {
+        let answer = Watched::Refused(Refusal::BadSize);
+        return Begun { watcher, answer };
+    }
+    let threads = count as u8;
+    let answer = Watched::Good;
+    let watcher = Watcher {
+        threads,
+        shared: 0,
+        exclusive: 0,
+        places: [0; MOST_THREADS as usize],
+    };
+    Begun { watcher, answer }
+}
+
+// Whether anybody is inside, by the two totals: refusals 1 and 13.
+fn inside_of(head: Head, places: &[u8]) -> Inside
     requires { ⌜ length (now places) ≡ mostThreads ⌝ }
     ensures { λ r. ⌜ insideReply r ≡ questionReply (held head (now (places .entry))) ⌝ }
 {
@@ -255,4 +268,16 @@ pub fn anybody_inside(head: Head, places: &[u8]) -> Inside
         }
         Watched::Refused(refusal) => Inside::Refused(refusal),
     }
+}
+
+// "Is anybody inside?"
+pub fn anybody_inside(watcher: Watcher) -> Inside
+    ensures { λ r. ⌜ insideReply r ≡ questionReply watcher ⌝ }
+{
+    let head = Head {
+        threads: watcher.threads,
+        shared: watcher.shared,
+        exclusive: watcher.exclusive,
+    };
+    inside_of(head, &watcher.places)
 }

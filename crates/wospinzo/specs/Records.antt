@@ -1,12 +1,20 @@
--- A watcher's record of its four parts, which are lent apart.
-use Prim.Native.Nat.{ℕ}
-use mathlib.Core.List.{List}
+-- What an event changes of a watcher's record, stored; and what is right for it.
+use Prim.Native.Nat.{_<_}
+use mathlib.Core.Path.{_≡_}
+use lib.ListN.{set}
+use Rattle.definitions.specs.Bounds.{mostThreads}
+use Rattle.definitions.specs.PlainLock.{Pair}
+use Rattle.definitions.specs.Watch.{eventReply, eventRecord}
 use Rattle.definitions.specs.declared.Watcher.{Watcher}
+use Rattle.answer_numbers.specs.Encoding.{watchNumber}
 use Rattle.wospinzo.specs.declared.Renewed.{Renewed}
 
-abbrev pub recordWith : ℕ → ℕ → ℕ → List ℕ → Watcher
-recordWith threads shared exclusive places = record { threads = threads; shared = shared; exclusive = exclusive; places = places }
+-- the record with the entry and the two totals stored
+abbrev pub stored : Watcher → Renewed → Watcher
+stored w r = record { threads = w .threads; shared = r .shared; exclusive = r .exclusive; places = set (w .places) (r .at) (r .place) }
 
--- the record that is left, given its head and the list of its places
-abbrev pub left : Renewed → List ℕ → Watcher
-left r places = recordWith (r .threads) (r .shared) (r .exclusive) places
+-- the entry is one of the record's, the number is the event's answer, and stored it leaves the event's record
+pub record Renews (w : Watcher) (x : Pair) (r : Renewed) : Type 0 where
+  pub entry : r .at < mostThreads
+  pub number : r .number ≡ watchNumber (eventReply w x)
+  pub left : stored w r ≡ eventRecord w x

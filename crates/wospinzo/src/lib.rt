@@ -10,11 +10,8 @@ use answer_numbers::running_number;
 use answer_numbers::watch_number;
 use definitions::Request;
 use definitions::Watcher;
-use watch::Head;
 ghost use mathlib.Core.Path.{_≡_};
-ghost use lib.ListN.{length};
 ghost use Rattle.definitions.specs.Answers.{deliveryReply, deliveryOutput};
-ghost use Rattle.definitions.specs.Bounds.{mostThreads};
 ghost use Rattle.definitions.specs.Dispatch.{dispatchReply, dispatchTable};
 ghost use Rattle.definitions.specs.Moves.{ask, moveReply, moveTable};
 ghost use Rattle.definitions.specs.Nodes.{nodesEntry};
@@ -26,7 +23,7 @@ ghost use Rattle.definitions.specs.Scripts.{writeEntry, readEntry};
 ghost use Rattle.definitions.specs.Table.{freshEntry};
 ghost use Rattle.definitions.specs.Watch.{startReply, startRecord, eventReply, eventRecord, questionReply};
 ghost use Rattle.answer_numbers.specs.Encoding.{moveNumber, turnNumber, runNumber, countNumber, watchNumber, insideNumber, readNumber, held};
-ghost use Rattle.wospinzo.specs.Records.{recordWith, left};
+ghost use Rattle.wospinzo.specs.Records.{Renews};
 ghost use Rattle.wospinzo.specs.Version.{version};
 
 // The part's version: major, minor and patch number. docs/CHANGELOG.md says what each of them promises.
@@ -145,84 +142,53 @@ pub extern "C" fn wospinzo_read_script(script: &[u8], out: &mut [u8]) -> u64
     reading_number(answer)
 }
 
-// What is left of a watcher's record but for its places, and the number that is answered.
+// What a start leaves of a watcher's record, and the number that is answered.
+struct Started {
+    watcher: Watcher,
+    number: u64,
+}
+
+fn start_record(count: u16, watcher: Watcher) -> Started
+    ensures { λ r. ⌜ r ≡ record { watcher = startRecord count watcher; number = watchNumber (startReply count) } ⌝ }
+{
+    let start = watch::start(count, watcher);
+    let answer = start.answer;
+    let number = watch_number(answer);
+    let left = start.watcher;
+    Started {
+        watcher: left,
+        number,
+    }
+}
+
+// What an event changes of a watcher's record, and the number that is answered.
 struct Renewed {
-    threads: u8,
+    at: usize,
+    place: u8,
     shared: u8,
     exclusive: u8,
     number: u64,
 }
 
-fn start_record(count: u16, threads: u8, shared: u8, exclusive: u8, places: &mut [u8]) -> Renewed
-    requires { ⌜ length (now places) ≡ mostThreads ⌝ }
-    ensures { λ r. ⌜ r .number ≡ watchNumber (startReply count) ⌝ }
-    ensures { λ r. ⌜ left r (now (places .exit)) ≡ startRecord count (recordWith threads shared exclusive (now (places .entry))) ⌝ }
+fn update_record(watcher: Watcher, thread: u16, event: u16) -> Renewed
+    ensures { λ r. ⌜ Renews watcher (record { thread = thread; event = event }) r ⌝ }
 {
-    let update = watch::start(
-        count,
-        Head {
-            threads,
-            shared,
-            exclusive,
-        },
-        places,
-    );
-    let head = update.head;
+    let update = watch::watch_event(watcher, thread, event);
     let answer = update.answer;
     let number = watch_number(answer);
     Renewed {
-        threads: head.threads,
-        shared: head.shared,
-        exclusive: head.exclusive,
+        at: update.at,
+        place: update.place,
+        shared: update.shared,
+        exclusive: update.exclusive,
         number,
     }
 }
 
-fn update_record(
-    threads: u8,
-    shared: u8,
-    exclusive: u8,
-    places: &mut [u8],
-    thread: u16,
-    event: u16,
-) -> Renewed
-    requires { ⌜ length (now places) ≡ mostThreads ⌝ }
-    ensures { λ r. ⌜ r .number ≡ watchNumber (eventReply (recordWith threads shared exclusive (now (places .entry))) (record { thread = thread; event = event })) ⌝ }
-    ensures { λ r. ⌜ left r (now (places .exit)) ≡ eventRecord (recordWith threads shared exclusive (now (places .entry))) (record { thread = thread; event = event }) ⌝ }
+fn ask_record(watcher: Watcher) -> u64
+    ensures { λ r. ⌜ r ≡ insideNumber (questionReply watcher) ⌝ }
 {
-    let update = watch::watch_event(
-        Head {
-            threads,
-            shared,
-            exclusive,
-        },
-        places,
-        thread,
-        event,
-    );
-    let head = update.head;
-    let answer = update.answer;
-    let number = watch_number(answer);
-    Renewed {
-        threads: head.threads,
-        shared: head.shared,
-        exclusive: head.exclusive,
-        number,
-    }
-}
-
-fn ask_record(threads: u8, shared: u8, exclusive: u8, places: &[u8]) -> u64
-    requires { ⌜ length (now places) ≡ mostThreads ⌝ }
-    ensures { λ r. ⌜ r ≡ insideNumber (questionReply (recordWith threads shared exclusive (now (places .entry)))) ⌝ }
-{
-    let answer = watch::anybody_inside(
-        Head {
-            threads,
-            shared,
-            exclusive,
-        },
-        places,
-    );
+    let answer = watch::anybody_inside(watcher);
     inside_number(answer)
 }
 
@@ -232,16 +198,8 @@ pub extern "C" fn wospinzo_watch_start(threads: u16, watcher: &mut Watcher) -> u
     ensures { λ r. ⌜ r ≡ watchNumber (startReply threads) ⌝ }
     ensures { λ r. ⌜ now (watcher .exit) ≡ startRecord threads (now (watcher .entry)) ⌝ }
 {
-    let made = start_record(
-        threads,
-        watcher.threads,
-        watcher.shared,
-        watcher.exclusive,
-        &mut watcher.places,
-    );
-    watcher.threads = made.threads;
-    watcher.shared = made.shared;
-    watcher.exclusive = made.exclusive;
+    let made = start_record(threads, *watcher);
+    *watcher = made.watcher;
     made.number
 }
 
@@ -251,15 +209,9 @@ pub extern "C" fn wospinzo_watch_event(watcher: &mut Watcher, thread: u16, event
     ensures { λ r. ⌜ r ≡ watchNumber (eventReply (now (watcher .entry)) (record { thread = thread; event = event })) ⌝ }
     ensures { λ r. ⌜ now (watcher .exit) ≡ eventRecord (now (watcher .entry)) (record { thread = thread; event = event }) ⌝ }
 {
-    let made = update_record(
-        watcher.threads,
-        watcher.shared,
-        watcher.exclusive,
-        &mut watcher.places,
-        thread,
-        event,
-    );
-    watcher.threads = made.threads;
+    let made = update_record(*watcher, thread, event);
+    let at = made.at;
+    watcher.places[at] = made.place;
     watcher.shared = made.shared;
     watcher.exclusive = made.exclusive;
     made.number
@@ -270,12 +222,7 @@ pub extern "C" fn wospinzo_watch_event(watcher: &mut Watcher, thread: u16, event
 pub extern "C" fn wospinzo_watch_inside(watcher: &Watcher) -> u64
     ensures { λ r. ⌜ r ≡ insideNumber (questionReply (now (watcher .entry))) ⌝ }
 {
-    ask_record(
-        watcher.threads,
-        watcher.shared,
-        watcher.exclusive,
-        &watcher.places,
-    )
+    ask_record(*watcher)
 }
 
 // The version, for a maker's program to compare with the header's that it was built with.

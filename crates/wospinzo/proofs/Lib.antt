@@ -1,2 +1,0 @@
--- What is left of a watcher's record whose head is stored back.
-pub mod RenewedLaws
