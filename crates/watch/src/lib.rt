@@ -28,7 +28,7 @@ struct Head {
     exclusive: u8,
 }
 
-// What an event changes of a record, the entry at one place and the two totals, and what is answered.
+// What an event changes of a record, one entry and the two totals, and what is answered.
 pub struct Update {
     pub at: usize,
     pub place: u8,
@@ -37,7 +37,7 @@ pub struct Update {
     pub answer: Watched,
 }
 
-// The record of a start, and what is answered.
+// The record that a start leaves, and what is answered.
 pub struct Begun {
     pub watcher: Watcher,
     pub answer: Watched,
@@ -208,7 +208,7 @@ fn judged(head: Head, places: &[u8], thread: u16, event: u16) -> Update
     }
 }
 
-// One event: refusals 1 and 13 of the record, then 9, 10 and 11.
+// Refusals 1 and 13 of the record, then 9, 10 and 11 of the event.
 fn update_of(head: Head, places: &[u8], thread: u16, event: u16) -> Update
     requires { ⌜ length (now places) ≡ mostThreads ⌝ }
     ensures { λ r. ⌜ Updates (held head (now (places .entry))) (record { thread = thread; event = event }) r ⌝ }
@@ -220,7 +220,7 @@ fn update_of(head: Head, places: &[u8], thread: u16, event: u16) -> Update
     }
 }
 
-// The same of a record by value.
+// One event, put to a record.
 pub fn watch_event(watcher: Watcher, thread: u16, event: u16) -> Update
     ensures { λ r. ⌜ Updates watcher (record { thread = thread; event = event }) r ⌝ }
 {
@@ -243,17 +243,20 @@ pub fn start(count: u16, watcher: Watcher) -> Begun
         return Begun { watcher, answer };
     }
     let threads = count as u8;
-    let answer = Watched::Good;
     let watcher = Watcher {
         threads,
         shared: 0,
         exclusive: 0,
         places: [0; MOST_THREADS as usize],
     };
-    Begun { watcher, answer }
+    let good = Watched::Good;
+    Begun {
+        watcher,
+        answer: good,
+    }
 }
 
-// Whether anybody is inside, by the two totals: refusals 1 and 13.
+// Refusals 1 and 13 of the record, then whether anybody is inside, by the two totals.
 fn inside_of(head: Head, places: &[u8]) -> Inside
     requires { ⌜ length (now places) ≡ mostThreads ⌝ }
     ensures { λ r. ⌜ insideReply r ≡ questionReply (held head (now (places .entry))) ⌝ }
@@ -270,7 +273,7 @@ fn inside_of(head: Head, places: &[u8]) -> Inside
     }
 }
 
-// "Is anybody inside?"
+// "Is anybody inside?", put to a record.
 pub fn anybody_inside(watcher: Watcher) -> Inside
     ensures { λ r. ⌜ insideReply r ≡ questionReply watcher ⌝ }
 {

@@ -21,7 +21,7 @@ use contract.Running.{givenOf, tables, tablesOf}
 use types.Kit.{Given, ‵, raw, _⊛_, _$_, _∵_, !, qed, by, move, keep, drop, use0, split, join, rewrite, fsplit, fsplit3, fjoin, fjoin3, feqI, suffices, frame, done}
 use types.Run.{look, look-raw, init, store, forget, stop, hop, fld, from, load, bin, addr, of-opd, and-then, no-more}
 use types.Run.{assigns, land, returns, enter, alloc1, alloc0, params1, pass1, pass0, free1, free0}
-use types.Part.{whole, sub, look-in, store-in}
+use types.Part.{whole, sub, store-in}
 use types.SemTy.{Body}
 use sound.WpLaws.{FmC, fmOf, WpFn-mono}
 use denote.RattleType.{RattleType, owns}
@@ -47,7 +47,7 @@ use Rattle.definitions.specs.declared.Watcher.{Watcher}
 use Rattle.definitions.proofs.Watcher as T
 use Rattle.definitions.proofs.Watcher.Laws as T′
 use Rattle.lent_record.proofs.Lent.{Holds, typed, value-is, borrowed, restored}
-use Rattle.lent_record.proofs.Calls.{uint-owned, answered, says-both}
+use Rattle.lent_record.proofs.Calls.{uint-owned, answered, load-field, says-both}
 use Rattle.lent_record.proofs.ArrayFields.{AreBytes, entries-out, entries-in}
 use Rattle.wospinzo.specs.Records.{stored, Renews}
 use Rattle.wospinzo.specs.declared.Renewed.{Renewed}
@@ -173,7 +173,7 @@ module _ {M : Type 1} (𝓤 : URA M) (H : Heap 𝓤) (A : Atoms 𝓤) (W : Given
         -- [all as before the call]
         land ! (from ! (stop !)) (init ! 14 refl (typed D.the-type D′.the-laws 𝓤 H A W r (v ∷ []) is′ .0)) $
         rewrite ! 14 (λ (u : Val). ‵ (fat fullShare D′.mir l₄ 0 u)) (value-is D.the-type D′.the-laws r v is′) refl $
-        assigns ! (of-opd ! (load ! (from ! (fld ! refl (stop !))) (look-in ! 14 (sub ! 0 refl (whole !))))) (from ! (stop !)) (init ! 12 refl (tt, record { fits = fits-of r v is′ .at })) $
+        assigns ! (of-opd ! (load-field ! 14 refl refl refl)) (from ! (stop !)) (init ! 12 refl (tt, record { fits = fits-of r v is′ .at })) $
         -- the pointer to the entries, and to the entry
         assigns ! (addr ! (from ! (hop ! (look ! 20 refl) (fld ! refl (stop !))))) (from ! (stop !)) (init ! 8 refl (tt, tt)) $
         assigns ! (bin ! (load ! (from ! (stop !)) (look ! 8 refl)) (load ! (from ! (stop !)) (look ! 12 refl)) tt) (from ! (stop !)) (init ! 6 refl (tt, tt)) $
@@ -182,18 +182,18 @@ module _ {M : Type 1} (𝓤 : URA M) (H : Heap 𝓤) (A : Atoms 𝓤) (W : Given
         rewrite ! 0 (λ (ys : List ℕ). ‵ (row u8 fullShare ys b (o + 3))) (map-id (h .places)) refl $
         elem-out ! u8 (Is u8) (shows 𝓤 H A u8) (uint-vals w8) (uint-tells w8) fullShare (h .places) (r .at) 0 b (o + 3) (within h is r (s .entry)) (λ _.
         -- [the entry; what it owns; the others; the way back to the record's cell; the open borrow; and on; _8 at 9; …; each three further; …]
-        assigns ! (of-opd ! (load ! (from ! (fld ! refl (stop !))) (look-in ! 17 (sub ! 1 refl (whole !))))) (from ! (hop ! (look ! 9 refl) (stop !)))
+        assigns ! (of-opd ! (load-field ! 17 refl refl refl)) (from ! (hop ! (look ! 9 refl) (stop !)))
         (store ! 0 refl (tt, record { fits = fits-of r v is′ .place })) $ move ! (1 ∷ []) $ drop ! $ uint-owned ! w8 (r .place) (fits-of r v is′ .place) $ move ! (1 ∷ 0 ∷ []) $
         elem-put ! u8 fullShare (h .places) (r .at) (r .place) (vint w8 (r .place) ∷ []) b (o + 3) (within h is r (s .entry)) $
         rewrite ! 0 (λ (ys : List ℕ). ‵ (row u8 fullShare ys b (o + 3))) (sym (map-id (stored h r .places))) refl $
         entries-in ! 200 fullShare (entries (stored h r .places)) b (o + 3) _
         (length-map (stored h r .places) (λ (place : ℕ). place) ∙ (length-set (h .places) (r .at) (r .place) ∙ long-of h is)) (λ are.
         -- [the record's cell, with the entry stored; and all as before]
-        assigns ! (of-opd ! (load ! (from ! (fld ! refl (stop !))) (look-in ! 14 (sub ! 2 refl (whole !))))) (from ! (hop ! (look ! 20 refl) (fld ! refl (stop !))))
+        assigns ! (of-opd ! (load-field ! 14 refl refl refl)) (from ! (hop ! (look ! 20 refl) (fld ! refl (stop !))))
         (store-in ! 0 (sub ! 1 refl (whole !)) (tt, record { fits = fits-of r v is′ .shared })) $
-        assigns ! (of-opd ! (load ! (from ! (fld ! refl (stop !))) (look-in ! 14 (sub ! 3 refl (whole !))))) (from ! (hop ! (look ! 20 refl) (fld ! refl (stop !))))
+        assigns ! (of-opd ! (load-field ! 14 refl refl refl)) (from ! (hop ! (look ! 20 refl) (fld ! refl (stop !))))
         (store-in ! 0 (sub ! 2 refl (whole !)) (tt, record { fits = fits-of r v is′ .exclusive })) $
-        assigns ! (of-opd ! (load ! (from ! (fld ! refl (stop !))) (look-in ! 14 (sub ! 4 refl (whole !))))) (from ! (stop !)) (init ! 22 refl (tt, record { fits = fits-of r v is′ .number })) $
+        assigns ! (of-opd ! (load-field ! 14 refl refl refl)) (from ! (stop !)) (init ! 22 refl (tt, record { fits = fits-of r v is′ .number })) $
         restored T.the-type T′.the-laws ! tt T′.the-plain (stored h r) (stored-holds h is r (fits-of r v is′) are) b o $
         -- [obs; the borrow; the token; true; what the numbers own; _8 at 5; …; _0 at 21; …]
         returns ! (look ! 21 refl) $ forget ! 5 refl $ forget ! 7 refl $ forget ! 9 refl $ forget ! 11 refl $ forget ! 13 refl $

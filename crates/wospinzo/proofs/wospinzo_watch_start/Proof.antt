@@ -18,8 +18,7 @@ use ghost.Atoms.{Atoms, sem}
 use contract.Monad.{Fun, fact}
 use contract.Running.{givenOf, tables, tablesOf}
 use types.Kit.{Given, ‵, raw, _⊛_, _$_, _∵_, !, qed, by, move, keep, drop, use0, split, join, rewrite, fsplit, fsplit3, fjoin, fjoin3, feqI, suffices, frame, done}
-use types.Run.{look, look-raw, init, store-raw, forget, stop, hop, fld, from, load, of-opd, and-then, no-more, assigns, land, returns, enter, alloc1, alloc0, params1, pass1, pass0, free1, free0}
-use types.Part.{whole, sub, look-in}
+use types.Run.{look, look-raw, init, store-raw, forget, stop, hop, from, load, of-opd, and-then, no-more, assigns, land, returns, enter, alloc1, alloc0, params1, pass1, pass0, free1, free0}
 use types.SemTy.{Body}
 use sound.WpLaws.{FmC, fmOf, WpFn-mono}
 use denote.RattleType.{RattleType, owns}
@@ -45,7 +44,7 @@ use Rattle.definitions.proofs.Watcher as T
 use Rattle.definitions.proofs.Watcher.Laws as T′
 use Rattle.answer_numbers.specs.Encoding.{watchNumber}
 use Rattle.lent_record.proofs.Lent.{Holds, typed, value-is, borrowed, restored}
-use Rattle.lent_record.proofs.Calls.{uint-owned, answered, says-both}
+use Rattle.lent_record.proofs.Calls.{uint-owned, answered, load-field, says-both}
 use Rattle.wospinzo.specs.declared.Started.{Started}
 use Rattle.wospinzo.proofs.Started as D
 use Rattle.wospinzo.proofs.Started.Laws as D′
@@ -143,9 +142,9 @@ module _ {M : Type 1} (𝓤 : URA M) (H : Heap 𝓤) (A : Atoms 𝓤) (W : Given
         -- [all as before the call]
         land ! (from ! (stop !)) (init ! 8 refl (typed D.the-type D′.the-laws 𝓤 H A W r (v ∷ []) is′ .0)) $
         rewrite ! 8 (λ (u : Val). ‵ (fat fullShare D′.mir l₃ 0 u)) (value-is D.the-type D′.the-laws r v is′) refl $
-        assigns ! (of-opd ! (load ! (from ! (fld ! refl (stop !))) (look-in ! 8 (sub ! 0 refl (whole !))))) (from ! (hop ! (look ! 10 refl) (stop !)))
+        assigns ! (of-opd ! (load-field ! 8 refl refl refl)) (from ! (hop ! (look ! 10 refl) (stop !)))
         (store-raw ! 0 refl (typed T.the-type T′.the-laws 𝓤 H A W (r .watcher) (vals (r .watcher)) (left-holds r v is′) .0)) $
-        assigns ! (of-opd ! (load ! (from ! (fld ! refl (stop !))) (look-in ! 8 (sub ! 1 refl (whole !))))) (from ! (stop !)) (init ! 14 refl (tt, record { fits = number-fits r v is′ })) $
+        assigns ! (of-opd ! (load-field ! 8 refl refl refl)) (from ! (stop !)) (init ! 14 refl (tt, record { fits = number-fits r v is′ })) $
         restored T.the-type T′.the-laws ! tt T′.the-plain (r .watcher) (left-holds r v is′) b o $
         -- [obs; the borrow; the token; true; true; _4 at 5; …; _0 at 13; …]
         returns ! (look ! 13 refl) $ forget ! 5 refl $ forget ! 7 refl $ forget ! 9 refl $ forget ! 11 refl $ forget ! 13 refl $
