@@ -6,7 +6,7 @@
 
 A formula stands in the manual's table as code, `a + b*N`: N tasks, E events, M moves that are planned, written or read, B
 bytes of the script.
-What the host's memset takes is not counted.
+What the host's memset and memcpy take is not counted.
 """
 import re
 import subprocess
