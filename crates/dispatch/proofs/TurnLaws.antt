@@ -16,7 +16,7 @@ use Rattle.definitions.specs.declared.Outcome.the-variants as outcome
 use Rattle.definitions.specs.declared.Refusal.{Refusal}
 use Rattle.definitions.specs.declared.Request.{Request}
 use Rattle.apply.specs.MoveMade.{MoveTried, TestedTable}
-use Rattle.apply.specs.declared.Made.{Made}
+use Rattle.moving.specs.declared.Made.{Made}
 use Rattle.choice.specs.Choosing.{choiceOf}
 use Rattle.choice.specs.declared.request.Choice.{Choice}
 use Rattle.choice.specs.declared.request.Choice.the-variants.{Nobody, Makes}

@@ -12,7 +12,7 @@ use Rattle.theory.proofs.Quantifiers.{every-same}
 use Rattle.theory.proofs.Tests.{and-l, and-r, and-i, ne-T, T-ne, same-test}
 use Rattle.watch.specs.Pass.{inRound, foundIn, emptyUpTo, foundFits}
 use Rattle.watch.specs.Records.{held}
-use Rattle.watch.specs.declared.Head.{Head}
+use Rattle.watch.specs.declared.Totals.{Totals}
 use Rattle.watch.proofs.RecordLaws.{round-e, round-i}
 
 -- the test of one place
@@ -22,18 +22,18 @@ same-round place =
     (λ t. round-i place (leb→le place 7 (and-l (leb place 7) (not (eqb place 4)) t)) (T-ne place 4 (and-r (leb place 7) (not (eqb place 4)) t)))
     (λ t. let r = round-e place t in and-i (leb place 7) (not (eqb place 4)) (le→leb place 7 (r .0)) (ne-T place 4 (r .1)))
 
-module _ (head : Head) (places : List ℕ) where
+module _ (totals : Totals) (places : List ℕ) where
   abbrev n : ℕ
-  n = head .threads
+  n = totals .threads
 
   abbrev p : Places
   p = placesIn places
 
   abbrev readers : Bool
-  readers = eqb (head .shared) (howManyAt n p 2)
+  readers = eqb (totals .shared) (howManyAt n p 2)
 
   abbrev writers : Bool
-  writers = eqb (head .exclusive) (howManyAt n p 6)
+  writers = eqb (totals .exclusive) (howManyAt n p 6)
 
   abbrev empty : Bool
   empty = emptyUpTo n places mostThreads
@@ -44,7 +44,7 @@ module _ (head : Head) (places : List ℕ) where
   abbrev apart : Bool
   apart = eqb (howManyAt n p 6) 0 || eqb (howManyAt n p 2) 0
 
-  pub one-pass : foundFits head (foundIn places n) empty ≡ consistent (held head places)
+  pub one-pass : foundFits totals (foundIn places n) empty ≡ consistent (held totals places)
   unfolding consistent placesFit allOf
   one-pass =
       and-assoc readers writers (empty && (every n (λ t. inRound (p t)) && (alone && apart)))

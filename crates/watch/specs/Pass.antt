@@ -7,7 +7,7 @@ use Rattle.definitions.specs.Bounds.{mostThreads}
 use Rattle.definitions.specs.PlainLock.{placesIn, howManyAt}
 use Rattle.definitions.specs.Threads.{every, implies}
 use Rattle.watch.specs.declared.Found.{Found}
-use Rattle.watch.specs.declared.Head.{Head}
+use Rattle.watch.specs.declared.Totals.{Totals}
 
 -- a place of a round: 0, 1, 2, 3, 5, 6 or 7
 abbrev pub inRound : ℕ → Bool
@@ -41,7 +41,7 @@ abbrev pub emptyUpTo : ℕ → List ℕ → ℕ → Bool
 emptyUpTo n places k = every k (λ t. implies (leb n t) (eqb (placesIn places t) 0))
 
 -- the record's totals are those found, and nobody is inside beside a thread in exclusive
-abbrev pub foundFits : Head → Found → Bool → Bool
-foundFits head found empty =
-    (eqb (head .shared) (found .shared) && eqb (head .exclusive) (found .exclusive))
+abbrev pub foundFits : Totals → Found → Bool → Bool
+foundFits totals found empty =
+    (eqb (totals .shared) (found .shared) && eqb (totals .exclusive) (found .exclusive))
     && (empty && (found .rounds && (leb (found .exclusive) 1 && (eqb (found .exclusive) 0 || eqb (found .shared) 0))))

@@ -1,4 +1,4 @@
--- A record as its head and the list of its places; what the code knows of them; where an event's thread stands; and what an event changes of a record, as a value.
+-- A record as its totals and the list of its places; what the code knows of them; where an event's thread stands; and what an event changes of a record, as a value.
 use Prim.Native.Nat.{ℕ, _/_, _%_, _≤_, _<_}
 use mathlib.Core.List.{List}
 use mathlib.Core.Path.{_≡_}
@@ -13,12 +13,12 @@ use Rattle.definitions.specs.declared.Watched.the-variants.{Good, Refused}
 use Rattle.definitions.specs.declared.Watcher.{Watcher}
 use Rattle.history.specs.Counts.{writer, total}
 use Rattle.history.specs.declared.Standing.{Standing}
-use Rattle.watch.specs.declared.Head.{Head}
+use Rattle.watch.specs.declared.Totals.{Totals}
 use Rattle.watch.specs.declared.Update.{Update}
 
--- the record of a head and a list of places
-abbrev pub held : Head → List ℕ → Watcher
-held head places = record { threads = head .threads; shared = head .shared; exclusive = head .exclusive; places = places }
+-- the record of a totals and a list of places
+abbrev pub held : Totals → List ℕ → Watcher
+held totals places = record { threads = totals .threads; shared = totals .shared; exclusive = totals .exclusive; places = places }
 
 -- 200 places, and no more threads than these
 pub record Small (threads : ℕ) (places : List ℕ) : Type 0 where
@@ -31,8 +31,8 @@ pub record Tested (w : Watcher) : Type 0 where
   pub passed : T (passesAll (recordTests w))
 
 -- a thread at a place, with the totals of a record
-abbrev pub standingAt : Head → ℕ → Standing
-standingAt head place = record { place = place; inside = total (head .shared) (head .exclusive) }
+abbrev pub standingAt : Totals → ℕ → Standing
+standingAt totals place = record { place = place; inside = total (totals .shared) (totals .exclusive) }
 
 -- ---- what an event changes
 

@@ -22,7 +22,7 @@ ghost use Rattle.watch.specs.Pass.{Room, withPlace, foundIn, emptyUpTo, 
 ghost use Rattle.watch.specs.Records.{held, Small, standingAt, Tested, changed, kept, Updates};
 
 // A record but for its places: N and the two totals.
-struct Head {
+struct Totals {
     threads: u8,
     shared: u8,
     exclusive: u8,
@@ -103,34 +103,34 @@ fn rest_is_empty(threads: u8, places: &[u8]) -> bool
 }
 
 // Whether a record's totals are what the pass found, and nobody is inside beside a thread in exclusive.
-fn found_fits(head: Head, found: Found, empty: bool) -> bool
-    ensures { λ r. ⌜ r ≡ foundFits head found empty ⌝ }
+fn found_fits(totals: Totals, found: Found, empty: bool) -> bool
+    ensures { λ r. ⌜ r ≡ foundFits totals found empty ⌝ }
 {
-    let totals = (head.shared == found.shared) & (head.exclusive == found.exclusive);
+    let same = (totals.shared == found.shared) & (totals.exclusive == found.exclusive);
     let apart = (found.exclusive <= 1) & ((found.exclusive == 0) | (found.shared == 0));
-    totals & (empty & (found.rounds & apart))
+    same & (empty & (found.rounds & apart))
 }
 
 // One pass over the 200 entries.
-fn is_consistent(head: Head, places: &[u8]) -> bool
-    requires { ⌜ Small (head .threads) (now places) ⌝ }
-    ensures { λ r. ⌜ r ≡ consistent (held head (now (places .entry))) ⌝ }
+fn is_consistent(totals: Totals, places: &[u8]) -> bool
+    requires { ⌜ Small (totals .threads) (now places) ⌝ }
+    ensures { λ r. ⌜ r ≡ consistent (held totals (now (places .entry))) ⌝ }
 {
-    let found = find(head.threads, places);
-    let empty = rest_is_empty(head.threads, places);
-    found_fits(head, found, empty)
+    let found = find(totals.threads, places);
+    let empty = rest_is_empty(totals.threads, places);
+    found_fits(totals, found, empty)
 }
 
 // Refusals 1 and 13.
-fn test_record(head: Head, places: &[u8]) -> Watched
+fn test_record(totals: Totals, places: &[u8]) -> Watched
     requires { ⌜ length (now places) ≡ mostThreads ⌝ }
-    ensures { λ r. ⌜ watchedReply r ≡ answered (recordTests (held head (now (places .entry)))) tt ⌝ }
+    ensures { λ r. ⌜ watchedReply r ≡ answered (recordTests (held totals (now (places .entry)))) tt ⌝ }
 {
-    let count = head.threads as usize;
+    let count = totals.threads as usize;
     if !count_fits(count) {
         return Watched::Refused(Refusal::BadSize);
     }
-    if !is_consistent(head, places) {
+    if !is_consistent(totals, places) {
         return Watched::Refused(Refusal::Inconsistent);
     }
     Watched::Good
@@ -149,11 +149,11 @@ fn place_of(places: &[u8], thread: u16) -> u8
 }
 
 // Where a thread stands: the two totals of a record make one of those inside.
-fn standing(head: Head, place: u8) -> Standing
-    ensures { λ r. ⌜ r ≡ standingAt head place ⌝ }
+fn standing(totals: Totals, place: u8) -> Standing
+    ensures { λ r. ⌜ r ≡ standingAt totals place ⌝ }
 {
-    let shared = head.shared as u32;
-    let exclusive = head.exclusive as u32;
+    let shared = totals.shared as u32;
+    let exclusive = totals.exclusive as u32;
     let inside = shared + WRITER * exclusive;
     Standing { place, inside }
 }
@@ -175,48 +175,48 @@ fn carried_out(at: usize, after: Standing) -> Update
 }
 
 // A request that is turned down puts back what stands there, at the first entry.
-fn turned_down(head: Head, places: &[u8], refusal: Refusal) -> Update
+fn turned_down(totals: Totals, places: &[u8], refusal: Refusal) -> Update
     requires { ⌜ length (now places) ≡ mostThreads ⌝ }
-    ensures { λ r. ⌜ r ≡ kept (held head (now (places .entry))) refusal ⌝ }
+    ensures { λ r. ⌜ r ≡ kept (held totals (now (places .entry))) refusal ⌝ }
 {
     let first = places[0];
     let answer = Watched::Refused(refusal);
     Update {
         at: 0,
         place: first,
-        shared: head.shared,
-        exclusive: head.exclusive,
+        shared: totals.shared,
+        exclusive: totals.exclusive,
         answer,
     }
 }
 
 // Refusals 9, 10 and 11 of an event, put to a record that passed its tests.
-fn judged(head: Head, places: &[u8], thread: u16, event: u16) -> Update
-    requires { ⌜ Tested (held head (now places)) ⌝ }
-    ensures { λ r. ⌜ Updates (held head (now (places .entry))) (record { thread = thread; event = event }) r ⌝ }
+fn judged(totals: Totals, places: &[u8], thread: u16, event: u16) -> Update
+    requires { ⌜ Tested (held totals (now places)) ⌝ }
+    ensures { λ r. ⌜ Updates (held totals (now (places .entry))) (record { thread = thread; event = event }) r ⌝ }
 {
     let place = place_of(places, thread);
-    let before = standing(head, place);
-    let threads = head.threads as u16;
+    let before = standing(totals, place);
+    let threads = totals.threads as u16;
     let verdict = judge(threads, thread, event, before);
     match verdict {
         Verdict::Fits(after) => {
             let at = thread as usize;
             carried_out(at, after)
         }
-        Verdict::Bad(refusal) => turned_down(head, places, refusal),
+        Verdict::Bad(refusal) => turned_down(totals, places, refusal),
     }
 }
 
 // Refusals 1 and 13 of the record, then 9, 10 and 11 of the event.
-fn update_of(head: Head, places: &[u8], thread: u16, event: u16) -> Update
+fn update_of(totals: Totals, places: &[u8], thread: u16, event: u16) -> Update
     requires { ⌜ length (now places) ≡ mostThreads ⌝ }
-    ensures { λ r. ⌜ Updates (held head (now (places .entry))) (record { thread = thread; event = event }) r ⌝ }
+    ensures { λ r. ⌜ Updates (held totals (now (places .entry))) (record { thread = thread; event = event }) r ⌝ }
 {
-    let tested = test_record(head, places);
+    let tested = test_record(totals, places);
     match tested {
-        Watched::Good => judged(head, places, thread, event),
-        Watched::Refused(refusal) => turned_down(head, places, refusal),
+        Watched::Good => judged(totals, places, thread, event),
+        Watched::Refused(refusal) => turned_down(totals, places, refusal),
     }
 }
 
@@ -224,12 +224,12 @@ fn update_of(head: Head, places: &[u8], thread: u16, event: u16) -> Update
 pub fn watch_event(watcher: Watcher, thread: u16, event: u16) -> Update
     ensures { λ r. ⌜ Updates watcher (record { thread = thread; event = event }) r ⌝ }
 {
-    let head = Head {
+    let totals = Totals {
         threads: watcher.threads,
         shared: watcher.shared,
         exclusive: watcher.exclusive,
     };
-    update_of(head, &watcher.places, thread, event)
+    update_of(totals, &watcher.places, thread, event)
 }
 
 // A watch starts: refusal 1.
@@ -257,14 +257,14 @@ pub fn start(count: u16, watcher: Watcher) -> Begun
 }
 
 // Refusals 1 and 13 of the record, then whether anybody is inside, by the two totals.
-fn inside_of(head: Head, places: &[u8]) -> Inside
+fn inside_of(totals: Totals, places: &[u8]) -> Inside
     requires { ⌜ length (now places) ≡ mostThreads ⌝ }
-    ensures { λ r. ⌜ insideReply r ≡ questionReply (held head (now (places .entry))) ⌝ }
+    ensures { λ r. ⌜ insideReply r ≡ questionReply (held totals (now (places .entry))) ⌝ }
 {
-    let tested = test_record(head, places);
+    let tested = test_record(totals, places);
     match tested {
         Watched::Good => {
-            if (head.shared != 0) | (head.exclusive != 0) {
+            if (totals.shared != 0) | (totals.exclusive != 0) {
                 return Inside::Somebody;
             }
             Inside::Nobody
@@ -277,10 +277,10 @@ fn inside_of(head: Head, places: &[u8]) -> Inside
 pub fn anybody_inside(watcher: Watcher) -> Inside
     ensures { λ r. ⌜ insideReply r ≡ questionReply watcher ⌝ }
 {
-    let head = Head {
+    let totals = Totals {
         threads: watcher.threads,
         shared: watcher.shared,
         exclusive: watcher.exclusive,
     };
-    inside_of(head, &watcher.places)
+    inside_of(totals, &watcher.places)
 }

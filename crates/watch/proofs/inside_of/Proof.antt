@@ -15,13 +15,13 @@ inside-of-spec =
     (λ c.
     let tested = c .before .before .before .before .before in
     let a = tested .before .before .args in
-    question-answered (held (a .head) (a .places .now)) true (rw (c .before .before .before .enum-told .given .1) at (tested .test-record .ensures)) (c .if1 .taken))
+    question-answered (held (a .totals) (a .places .now)) true (rw (c .before .before .before .enum-told .given .1) at (tested .test-record .ensures)) (c .if1 .taken))
     (λ c. search needs)
     (λ c.
     let tested = c .before .before .before .before .before in
     let a = tested .before .before .args in
-    question-answered (held (a .head) (a .places .now)) false (rw (c .before .before .before .enum-told .given .1) at (tested .test-record .ensures)) (c .if1 .left))
+    question-answered (held (a .totals) (a .places .now)) false (rw (c .before .before .before .enum-told .given .1) at (tested .test-record .ensures)) (c .if1 .left))
     (λ c.
     let tested = c .before .before .before in
     let a = tested .before .before .args in
-    question-refused (held (a .head) (a .places .now)) _ (rw (c .before .tested .given .1) at (tested .test-record .ensures))))
+    question-refused (held (a .totals) (a .places .now)) _ (rw (c .before .tested .given .1) at (tested .test-record .ensures))))

@@ -23,8 +23,8 @@ returns c =
     let a = passed .before .before .args in
     let places = a .places .now in
     c .found-fits .ensures
-    ∙ (ap (λ (f : Found). foundFits (a .head) f (rest .rest-is-empty .result)) (passed .find .ensures)
-    ∙ (ap (foundFits (a .head) (foundIn places (a .head .threads))) (rest .rest-is-empty .ensures) ∙ one-pass (a .head) places))
+    ∙ (ap (λ (f : Found). foundFits (a .totals) f (rest .rest-is-empty .result)) (passed .find .ensures)
+    ∙ (ap (foundFits (a .totals) (foundIn places (a .totals .threads))) (rest .rest-is-empty .ensures) ∙ one-pass (a .totals) places))
 
 pub is-consistent-spec : {M : Type 1} → statement M
 is-consistent-spec = tie.close (tie.spec find-requires rest-is-empty-requires found-fits-requires returns)

@@ -7,24 +7,24 @@ use Rattle.definitions.specs.PlainLock.{Pair, placesIn}
 use Rattle.definitions.specs.declared.Watcher.{Watcher}
 use Rattle.history.specs.declared.Standing.{Standing}
 use Rattle.watch.specs.Records.{held, standingAt, Updates}
-use Rattle.watch.specs.declared.Head.{Head}
+use Rattle.watch.specs.declared.Totals.{Totals}
 use Rattle.watch.proofs.EventLaws.{counted, bad, fits}
 use Rattle.watch.proofs.judged.Statement.{statement}
 use Rattle.watch.proofs.judged.Tie as tie
 
 -- the thread's place is the one that was looked up
-stands : (head : Head) (places : List ℕ) (thread place : ℕ) (s : Standing) → place ≡ placesIn places thread → s ≡ standingAt head place → s ≡ standingAt head (placesIn places thread)
-stands head places thread place s e f = f ∙ ap (standingAt head) e
+stands : (totals : Totals) (places : List ℕ) (thread place : ℕ) (s : Standing) → place ≡ placesIn places thread → s ≡ standingAt totals place → s ≡ standingAt totals (placesIn places thread)
+stands totals places thread place s e f = f ∙ ap (standingAt totals) e
 
 -- the record that the event is put to, the event, and where its thread stands
 abbrev recordAt : tie.After-place-of → Watcher
-recordAt c = let a = c .before .before .args in held (a .head) (a .places .now)
+recordAt c = let a = c .before .before .args in held (a .totals) (a .places .now)
 
 abbrev eventAt : tie.After-place-of → Pair
 eventAt c = let a = c .before .before .args in record { thread = a .thread; event = a .event }
 
-stood : (c : tie.After-standing) → c .standing .result ≡ standingAt (c .before .before .before .args .head) (placesIn (recordAt (c .before) .places) (eventAt (c .before) .thread))
-stood c = let a = c .before .before .before .args in stands (a .head) (a .places .now) (a .thread) _ _ (c .before .place-of .ensures) (c .standing .ensures)
+stood : (c : tie.After-standing) → c .standing .result ≡ standingAt (c .before .before .before .args .totals) (placesIn (recordAt (c .before) .places) (eventAt (c .before) .thread))
+stood c = let a = c .before .before .before .args in stands (a .totals) (a .places .now) (a .thread) _ _ (c .before .place-of .ensures) (c .standing .ensures)
 
 pub judged-spec : {M : Type 1} → statement M
 judged-spec =

@@ -18,10 +18,10 @@ count-fits-requires c κs = search needs
 returns : tie.Need-returns
 returns c =
     let a = c .before .before .before .before .args in
-    record-size (held (a .head) (a .places .now)) tt (sym (c .before .count-fits .ensures) ∙ not-true _ (c .if1 .taken))
+    record-size (held (a .totals) (a .places .now)) tt (sym (c .before .count-fits .ensures) ∙ not-true _ (c .if1 .taken))
 
 -- the count fits
-fits : (c : tie.Else1) → countFits (c .before .before .before .before .args .head .threads) ≡ true
+fits : (c : tie.Else1) → countFits (c .before .before .before .before .args .totals .threads) ≡ true
 fits c = sym (c .before .count-fits .ensures) ∙ not-false _ (c .if1 .left)
 
 is-consistent-requires : tie.Need-is-consistent-requires
@@ -31,13 +31,13 @@ returns-2 : tie.Need-returns-2
 returns-2 c =
     let first = c .before .before in
     let a = first .before .before .before .before .args in
-    record-bad (held (a .head) (a .places .now)) tt (fits first) (sym (c .before .is-consistent .ensures) ∙ not-true _ (c .if2 .taken))
+    record-bad (held (a .totals) (a .places .now)) tt (fits first) (sym (c .before .is-consistent .ensures) ∙ not-true _ (c .if2 .taken))
 
 returns-3 : tie.Need-returns-3
 returns-3 c =
     let first = c .before .before in
     let a = first .before .before .before .before .args in
-    record-good (held (a .head) (a .places .now)) tt (fits first) (sym (c .before .is-consistent .ensures) ∙ not-false _ (c .if2 .left))
+    record-good (held (a .totals) (a .places .now)) tt (fits first) (sym (c .before .is-consistent .ensures) ∙ not-false _ (c .if2 .left))
 
 pub test-record-spec : {M : Type 1} → statement M
 test-record-spec =
