@@ -2,6 +2,6 @@
 mod moves;
 mod request;
 
-pub use moving::Made;
 pub use moves::make_move;
 pub use moves::try_move;
+pub use moving::Made;

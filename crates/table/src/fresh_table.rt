@@ -1,11 +1,11 @@
 // A fresh table: "A fresh table has mutex 0, target 255, all else 0."
-use layout::TARGET_AT;
-use layout::THREADS_AT;
-use layout::size_of;
 use definitions::Answer;
 use definitions::NO_TARGET;
 use definitions::Refusal;
 use definitions::count_fits;
+use layout::TARGET_AT;
+use layout::THREADS_AT;
+use layout::size_of;
 ghost use Prim.Native.Nat.{_≤_};
 ghost use mathlib.Core.Path.{_≡_};
 ghost use lib.ListN.{length};

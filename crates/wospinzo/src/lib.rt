@@ -31,7 +31,7 @@ const MAJOR: u32 = 1;
 
 const MINOR: u32 = 7;
 
-const PATCH: u32 = 0;
+const PATCH: u32 = 1;
 
 // A fresh table for N threads.
 #[no_mangle]
