@@ -13,12 +13,13 @@ abbrev μ-loop : tie.MeasureT-loop
 μ-loop out₀ history pairs at₀ k₀ out at k = pairs - k
 
 put-event-requires : tie.Need-put-event-requires Inv-loop μ-loop
-put-event-requires c κs = let test = c .before .before .before in parts-room (test .before .loop .inv) (test .loop-test .taken)
+put-event-requires c κs = parts-room (c .before .before .before .before .loop .inv) (omega arith)
 
 loop-again : tie.Need-loop-again Inv-loop μ-loop
-loop-again c =
-    let test = c .before .before .before .before .before .before in
-    parts-more (test .before .loop .inv) (test .loop-test .taken) (c .before .before .put-event .ensures)
+loop-again c = parts-more (c .before .before .before .before .before .before .before .loop .inv) (omega arith) (c .before .before .put-event .ensures)
+
+returns : tie.Need-returns Inv-loop μ-loop
+returns c = parts-all (c .before .loop .inv) (c .loop-test .left)
 
 pub put-events-spec : {M : Type 1} → statement M
 put-events-spec =
@@ -36,4 +37,4 @@ put-events-spec =
     (λ c. omega arith)
     loop-again
     (λ c. c .before .loop .inv .put .size)
-    (λ c. parts-all (c .before .loop .inv) (c .loop-test .left)))
+    returns)
