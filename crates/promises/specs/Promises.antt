@@ -115,7 +115,7 @@ pub record Promises (M : Type 1) : Type 2 where
   pub read-low : (script out : List ℕ) → Below retryUnit listedValue (deliveryReply (readEntry script) out)
   pub read-byte : (script out : List ℕ) → Below 256 (λ l. l .threads) (deliveryReply (readEntry script) out)
   pub run-low : (script out : List ℕ) → Below retryUnit (λ c. c .bytes) (deliveryReply (runEntry script) out)
-  -- Of a list of triples whose indices stand beside a refusal's number, which all are that a memory of 64-bit addresses holds, writing's answer is the reply itself.
+  -- Of a list of triples whose indices stand beside a refusal's number, at most 3 × 2^55 bytes, writing's answer is the reply itself.
   pub write-held : (n : ℕ) (triples out : List ℕ) → length triples ≤ 3 * valueBound → held (deliveryReply (writeEntry n triples) out) ≡ deliveryReply (writeEntry n triples) out
   -- A refused move leaves every byte of the table.
   pub refused-keeps : (table : List ℕ) (r : Request) → T (not (acceptsIn byteTable table r)) → moveTable table r ≡ table

@@ -73,7 +73,7 @@ pub record AllMade (first : Form) (ls : List Line) (rs : List Request) (last : L
   pub says : last ≡ stepsLine (length rs)
 
 -- "At the first line turned down it prints `(refused R L)`, R the number .., L the line from 1, and stops"; a script without a line has a bad form in line 1
-pub record TurnedDown (first : Form) (ls : List Line) (rs : List Request) (last : List ℕ) : Type 0 where
+pub record StoppedAt (first : Form) (ls : List Line) (rs : List Request) (last : List ℕ) : Type 0 where
   pub index : ℕ
   pub within : index ≤ length ls
   pub goes-on : (k : ℕ) → k < index → GoesOn (turnAt first ls k)
@@ -84,4 +84,4 @@ pub record TurnedDown (first : Form) (ls : List Line) (rs : List Request) (last 
 
 -- the moves of a run, and the last line of its output
 abbrev pub Closes : Form → List Line → List Request → List ℕ → Type 0
-Closes first ls rs last = AllMade first ls rs last ⊎ TurnedDown first ls rs last
+Closes first ls rs last = AllMade first ls rs last ⊎ StoppedAt first ls rs last

@@ -1,4 +1,4 @@
--- Laws of `every`, `some`, `howMany` and `first` over the threads below n: what they say of each thread, how to show them, and how a count changes with one thread. For every n.
+-- Laws of `every`, `some` and `howMany` over the threads below n: what they say of each thread, how to show them, and how a count changes with one thread. For every n.
 use Prim.Native.Nat.{ℕ, zero, suc, _+_, _≤_, _<_}
 use native.Mathlib.Nat.{add-zero, not-suc-le-zero, le-of-suc-le-suc}
 use native.Mathlib.Numerals.{add-one}

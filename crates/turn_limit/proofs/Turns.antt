@@ -17,14 +17,14 @@ use Rattle.definitions.specs.Table.{Table}
 use Rattle.dispatching.proofs.WaitingMeans.{no-turn-means}
 use Rattle.theory.proofs.Soundness.{All, Sound, sound-e}
 use Rattle.theory.proofs.Tests.{decided}
-use Rattle.turn_limit.specs.AnyOrder.{Turn, afterTurnsBy, WaitsAfterBy}
+use Rattle.turn_limit.specs.AnyOrder.{Dispatcher, afterTurnsBy, WaitsAfterBy}
 use Rattle.turn_limit.specs.TurnLimit.{mostTurns}
 use Rattle.turn_limit.proofs.AllStopped.{none-left}
 use Rattle.turn_limit.proofs.OneRequest.{request-lowers, Made}
 use Rattle.turn_limit.proofs.TurnsLeft.{turnsLeft, left-most}
 
 -- of every x that is good, whose table then is sound
-pub record Dispatches {X : Type 0} (turn : Turn X) (table : X → Table) (Good : X → Type 0) : Type 0 where
+pub record Dispatches {X : Type 0} (turn : Dispatcher X) (table : X → Table) (Good : X → Type 0) : Type 0 where
   pub is-sound : (x : X) → Good x → T (sound (table x))
   pub waits : (x : X) → Good x → T (isWaiting (table x)) → turn .Waits x × (turn .leaves x ≡ x)
   pub moves : (x : X) → Good x → T (not (isWaiting (table x))) → turn .Moves x × Good (turn .leaves x) × Made (table x) (table (turn .leaves x))
@@ -34,7 +34,7 @@ later : (P : ℕ → Type 0) (k : ℕ) → ((j : ℕ) → k ≤ j → P (suc j))
 later P k f zero l = absurd (not-suc-le-zero l)
 later P k f (suc j) l = f j (omega arith)
 
-module _ {X : Type 0} (turn : Turn X) (table : X → Table) (Good : X → Type 0) (d : Dispatches turn table Good) where
+module _ {X : Type 0} (turn : Dispatcher X) (table : X → Table) (Good : X → Type 0) (d : Dispatches turn table Good) where
   abbrev after : ℕ → X → X
   after = afterTurnsBy turn
 

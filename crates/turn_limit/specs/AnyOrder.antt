@@ -23,13 +23,13 @@ dispatchesAll = dispatchesAllIn byteTable
 
 -- ---- turns one after the other
 
--- a kind of turn of what X stores: what it leaves, whether it makes a move, and whether it says waiting
-pub record Turn (X : Type 0) : Type 1 where
+-- a dispatcher of what X stores: what its turn leaves, when it makes a move, and when it says waiting
+pub record Dispatcher (X : Type 0) : Type 1 where
   pub leaves : X → X
   pub Moves : X → Type 0
   pub Waits : X → Type 0
 
-module _ {X : Type 0} (turn : Turn X) where
+module _ {X : Type 0} (turn : Dispatcher X) where
   -- what k turns leave, "with the host making no moves between"
   unfoldable pub afterTurnsBy : ℕ → X → X
   afterTurnsBy zero x = x
@@ -57,7 +57,7 @@ module _ {Q B : Type 0} (rule : Rule Q) (storage : Storage B) where
   abbrev pub requestBy : Q → B → Request
   requestBy q b = requestOf (storage .table b) (rule .mover q (storage .table b))
 
-  abbrev pub turnBy : Turn (Q × B)
+  abbrev pub turnBy : Dispatcher (Q × B)
   turnBy =
       record {
         leaves = λ (q, b). cond (isWaiting (storage .table b)) (q, b) (rule .keeps q (storage .table b), stepIn storage b (requestBy q b));

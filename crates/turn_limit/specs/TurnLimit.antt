@@ -8,14 +8,14 @@ use Rattle.definitions.specs.Table.{Storage, byteTable}
 use Rattle.definitions.specs.declared.Request.{Request}
 use Rattle.completeness.specs.Reached.{Reached}
 use Rattle.theory.specs.Tables.{SoundBytes}
-use Rattle.turn_limit.specs.AnyOrder.{Turn, afterTurnsBy, WaitsAfterBy}
+use Rattle.turn_limit.specs.AnyOrder.{Dispatcher, afterTurnsBy, WaitsAfterBy}
 
 -- "waiting comes after at most 6N - 2 turns"
 abbrev pub mostTurns : ℕ → ℕ
 mostTurns n = 6 * n - 2
 
 -- a turn of the dispatcher: what it leaves, that it makes a move, and that it says waiting
-abbrev pub dispatcherIn : {B : Type 0} → Storage B → Turn B
+abbrev pub dispatcherIn : {B : Type 0} → Storage B → Dispatcher B
 dispatcherIn storage =
     record {
       leaves = dispatchIn storage;

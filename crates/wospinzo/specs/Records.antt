@@ -1,4 +1,4 @@
--- What an event changes of a watcher's record, stored; and what is right for it.
+-- What an event changes of a watcher's record, put into it; and what is right for it.
 use Prim.Native.Nat.{_<_}
 use mathlib.Core.Path.{_≡_}
 use lib.ListN.{set}
@@ -9,12 +9,12 @@ use Rattle.definitions.specs.declared.Watcher.{Watcher}
 use Rattle.answer_numbers.specs.Encoding.{watchNumber}
 use Rattle.wospinzo.specs.declared.Renewed.{Renewed}
 
--- the record with the entry and the two totals stored
-abbrev pub stored : Watcher → Renewed → Watcher
-stored w r = record { threads = w .threads; shared = r .shared; exclusive = r .exclusive; places = set (w .places) (r .at) (r .place) }
+-- the record with the entry and the two totals put into it
+abbrev pub renewedBy : Watcher → Renewed → Watcher
+renewedBy w r = record { threads = w .threads; shared = r .shared; exclusive = r .exclusive; places = set (w .places) (r .at) (r .place) }
 
--- the entry is one of the record's, the number is the event's answer, and stored it leaves the event's record
+-- the entry is one of the record's, the number is the event's answer, and put into the record it leaves the event's
 pub record Renews (w : Watcher) (x : Pair) (r : Renewed) : Type 0 where
   pub entry : r .at < mostThreads
   pub number : r .number ≡ watchNumber (eventReply w x)
-  pub left : stored w r ≡ eventRecord w x
+  pub left : renewedBy w r ≡ eventRecord w x

@@ -49,7 +49,7 @@ use Rattle.definitions.proofs.Watcher.Laws as T′
 use Rattle.lent_record.proofs.Lent.{Holds, typed, value-is, borrowed, restored}
 use Rattle.lent_record.proofs.Calls.{uint-owned, answered, load-field, says-both}
 use Rattle.lent_record.proofs.ArrayFields.{AreBytes, entries-out, entries-in}
-use Rattle.wospinzo.specs.Records.{stored, Renews}
+use Rattle.wospinzo.specs.Records.{renewedBy, Renews}
 use Rattle.wospinzo.specs.declared.Renewed.{Renewed}
 use Rattle.wospinzo.proofs.Renewed as D
 use Rattle.wospinzo.proofs.Renewed.Laws as D′
@@ -117,9 +117,9 @@ within : (h : Watcher) → Holds T.the-type T′.the-laws h → (r : Renewed) �
 within h is r l = subst (λ (n : ℕ). r .at < n) (sym (long-of h is)) l
 
 -- the facts of the record with the entry and the totals stored
-stored-holds : (h : Watcher) → Holds T.the-type T′.the-laws h → (r : Renewed) → Fits r → AreBytes 200 (entries (stored h r .places)) → Holds T.the-type T′.the-laws (stored h r)
-stored-holds h is r fit are =
-    LL.owes T.the-type T′.the-laws (stored h r) (LL.owed T.the-type T′.the-laws h (vals h) is .0, ((refl, fit .shared), ((refl, fit .exclusive), (are, tt))))
+renewed-holds : (h : Watcher) → Holds T.the-type T′.the-laws h → (r : Renewed) → Fits r → AreBytes 200 (entries (renewedBy h r .places)) → Holds T.the-type T′.the-laws (renewedBy h r)
+renewed-holds h is r fit are =
+    LL.owes T.the-type T′.the-laws (renewedBy h r) (LL.owed T.the-type T′.the-laws h (vals h) is .0, ((refl, fit .shared), ((refl, fit .exclusive), (are, tt))))
 
 module _ {M : Type 1} (𝓤 : URA M) (H : Heap 𝓤) (A : Atoms 𝓤) (W : Given 𝓤 H A) (at-mem : Memory → SProp 𝓤) (run : Routine → Fun 𝓤)
     (κ : Lft) (q : Share) (b o : ℕ) (γ : GName) (h : Watcher) (t e : ℕ) (t-fits : t < 2 ^ 16) (e-fits : e < 2 ^ 16) where
@@ -133,11 +133,11 @@ module _ {M : Type 1} (𝓤 : URA M) (H : Heap 𝓤) (A : Atoms 𝓤) (W : Given
   Post = walkOf 𝓤 H A entry.ended stayed (entry.clauses 𝓤 H A at-mem run) .post (((κ, tt), (q, tt), tt, x, at), tt)
 
   exits : (r : Renewed) → r .number < 2 ^ 64 → Renews h (event t e) r
-      → ent 𝓤 (sep 𝓤 (A .obs γ (R .coded .code (stored h r))) (sep 𝓤 (A .bor κ (Body (mem R) b o γ)) (A .lft κ q))) (Post (vint w64 (r .number)))
+      → ent 𝓤 (sep 𝓤 (A .obs γ (R .coded .code (renewedBy h r))) (sep 𝓤 (A .bor κ (Body (mem R) b o γ)) (A .lft κ q))) (Post (vint w64 (r .number)))
   exits r fits s =
-      qed W (‵ (fobs γ (R .coded .code (stored h r))) ∷ ‵ (fbor κ (Body (mem R) b o γ)) ∷ ‵ (flft κ q) ∷ []) ∵
+      qed W (‵ (fobs γ (R .coded .code (renewedBy h r))) ∷ ‵ (fbor κ (Body (mem R) b o γ)) ∷ ‵ (flft κ q) ∷ []) ∵
       suffices ! _ (ends-at 𝓤 H A entry.ended stayed (entry.clauses 𝓤 H A at-mem run) W (((κ, tt), (q, tt), tt, x, at), tt)
-      (vint w64 (r .number)) (r .number) (stored h r, (tt, (tt, tt))) (tt, (tt, (tt, tt)))) $ says-both ! (s .number) (s .left) $
+      (vint w64 (r .number)) (r .number) (renewedBy h r, (tt, (tt, tt))) (tt, (tt, (tt, tt)))) $ says-both ! (s .number) (s .left) $
       nothing ! $ move ! (3 ∷ 0 ∷ []) $ join ! $ frame ! $ feqI ! (List Val) (vptr b o ∷ []) (vptr b o ∷ []) refl $ fjoin3 ! $
       -- [what the reference owns]
       nothing ! $ uint-owned ! w16 e e-fits $ fjoin ! $ uint-owned ! w16 t t-fits $ fjoin ! $ move ! (1 ∷ 0 ∷ []) $ fjoin ! $ frame ! $ uint-owned ! w64 (r .number) fits $ done !
@@ -185,16 +185,16 @@ module _ {M : Type 1} (𝓤 : URA M) (H : Heap 𝓤) (A : Atoms 𝓤) (W : Given
         assigns ! (of-opd ! (load-field ! 17 refl refl refl)) (from ! (hop ! (look ! 9 refl) (stop !)))
         (store ! 0 refl (tt, record { fits = fits-of r v is′ .place })) $ move ! (1 ∷ []) $ drop ! $ uint-owned ! w8 (r .place) (fits-of r v is′ .place) $ move ! (1 ∷ 0 ∷ []) $
         elem-put ! u8 fullShare (h .places) (r .at) (r .place) (vint w8 (r .place) ∷ []) b (o + 3) (within h is r (s .entry)) $
-        rewrite ! 0 (λ (ys : List ℕ). ‵ (row u8 fullShare ys b (o + 3))) (sym (map-id (stored h r .places))) refl $
-        entries-in ! 200 fullShare (entries (stored h r .places)) b (o + 3) _
-        (length-map (stored h r .places) (λ (place : ℕ). place) ∙ (length-set (h .places) (r .at) (r .place) ∙ long-of h is)) (λ are.
+        rewrite ! 0 (λ (ys : List ℕ). ‵ (row u8 fullShare ys b (o + 3))) (sym (map-id (renewedBy h r .places))) refl $
+        entries-in ! 200 fullShare (entries (renewedBy h r .places)) b (o + 3) _
+        (length-map (renewedBy h r .places) (λ (place : ℕ). place) ∙ (length-set (h .places) (r .at) (r .place) ∙ long-of h is)) (λ are.
         -- [the record's cell, with the entry stored; and all as before]
         assigns ! (of-opd ! (load-field ! 14 refl refl refl)) (from ! (hop ! (look ! 20 refl) (fld ! refl (stop !))))
         (store-in ! 0 (sub ! 1 refl (whole !)) (tt, record { fits = fits-of r v is′ .shared })) $
         assigns ! (of-opd ! (load-field ! 14 refl refl refl)) (from ! (hop ! (look ! 20 refl) (fld ! refl (stop !))))
         (store-in ! 0 (sub ! 2 refl (whole !)) (tt, record { fits = fits-of r v is′ .exclusive })) $
         assigns ! (of-opd ! (load-field ! 14 refl refl refl)) (from ! (stop !)) (init ! 22 refl (tt, record { fits = fits-of r v is′ .number })) $
-        restored T.the-type T′.the-laws ! tt T′.the-plain (stored h r) (stored-holds h is r (fits-of r v is′) are) b o $
+        restored T.the-type T′.the-laws ! tt T′.the-plain (renewedBy h r) (renewed-holds h is r (fits-of r v is′) are) b o $
         -- [obs; the borrow; the token; true; what the numbers own; _8 at 5; …; _0 at 21; …]
         returns ! (look ! 21 refl) $ forget ! 5 refl $ forget ! 7 refl $ forget ! 9 refl $ forget ! 11 refl $ forget ! 13 refl $
         forget ! 15 refl $ forget ! 17 refl $ forget ! 19 refl $ forget ! 21 refl $
