@@ -42,6 +42,11 @@ pub const MOST_HISTORY: usize = 60_000;
 // "the script breaks its form or exceeds 30,000 bytes"
 pub const MOST_SCRIPT: usize = 30_000;
 
+// The bytes of the shortest line of a move, `(0 (go))` with its line feed, and so the most moves that a script can have.
+pub const SHORTEST_MOVE: usize = 9;
+
+pub const MOST_MOVES: usize = MOST_SCRIPT / SHORTEST_MOVE;
+
 // "the run's output, for which 65,536 bytes always suffice"
 pub const ENOUGH_OUTPUT: usize = 65_536;
 

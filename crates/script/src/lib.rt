@@ -1,6 +1,7 @@
 // The run of a script. One pass over its lines makes the moves, counts the retries among them and keeps the history that they
 // show, byte pairs, thread then event; the output is printed from it.
 use definitions::Answer;
+use definitions::MOST_MOVES;
 use definitions::MOST_SCRIPT;
 use definitions::Refusal;
 use definitions::Running;
@@ -23,11 +24,8 @@ ghost use Rattle.definitions.specs.Texts.{linesOf};
 ghost use Rattle.theory.specs.Outputs.{Delivered};
 ghost use Rattle.script.specs.Records.{Roomy, Begun, RecordedLines, RecordedFirst, RecordedRun};
 
-// The bytes of the shortest line that makes a move, `(0 (go))` with its line feed.
-const SHORTEST_MOVE: usize = 9;
-
 // A history of so many bytes has room for an event of every move that a script can make.
-const MOST_SHOWN: usize = 2 * (MOST_SCRIPT / SHORTEST_MOVE);
+const MOST_SHOWN: usize = 2 * MOST_MOVES;
 
 // A run that has ended: how many bytes its history has, how many of its moves were retries, and how it ended.
 struct Ran {

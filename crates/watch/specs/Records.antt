@@ -16,7 +16,7 @@ use Rattle.history.specs.declared.Standing.{Standing}
 use Rattle.watch.specs.declared.Totals.{Totals}
 use Rattle.watch.specs.declared.Update.{Update}
 
--- the record of a totals and a list of places
+-- the record of N and the totals, and a list of places
 abbrev pub held : Totals → List ℕ → Watcher
 held totals places = record { threads = totals .threads; shared = totals .shared; exclusive = totals .exclusive; places = places }
 

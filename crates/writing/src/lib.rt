@@ -1,5 +1,6 @@
 // Scripts written out: N and a list of moves, byte triples of thread, move and target, become the lines that a run reads.
 use definitions::Answer;
+use definitions::MOST_MOVES;
 use definitions::MOST_SCRIPT;
 use definitions::Refusal;
 use definitions::Request;
@@ -18,11 +19,6 @@ ghost use Rattle.definitions.specs.Chains.{requestsOf};
 ghost use Rattle.definitions.specs.Moves.{ask};
 ghost use Rattle.definitions.specs.Scripts.{movesText, scriptOf, triplesTests, writeEntry};
 ghost use Rattle.theory.specs.Outputs.{RoomAt, PutAt, Delivered};
-
-// The bytes of the shortest line of a move, `(0 (go))` with its line feed. A list of more moves than this leaves has a script that is too long.
-const SHORTEST_MOVE: usize = 9;
-
-const MOST_MOVES: usize = MOST_SCRIPT / SHORTEST_MOVE;
 
 // The request of a triple.
 fn request_of(thread: u8, mv: u8, target: u8) -> Request
