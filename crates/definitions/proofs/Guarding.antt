@@ -1,11 +1,12 @@
--- Examples of Figure 1's guards and of the reader in LOE against the definitions: in which nodes a thread keeps an arrow from being taken, and that a reader counts as one from LOE on.
+-- Examples of Figure 1's guards and of the reader in LOE against the definitions: in which nodes a thread keeps an arrow from being taken, that a reader counts as one from LOE on,
+-- and how many arrows without an event may follow one another.
 -- Every line computes.
 use Prim.Native.Nat.{ℕ}
-use mathlib.Core.Bool.{Bool, true, false, not, _&&_, _||_}
+use mathlib.Core.Bool.{Bool, true, false, cond, not, _&&_, _||_}
 use mathlib.Core.List.{List, [], _∷_}
 use mathlib.Core.Path.{_≡_, refl}
 use lib.Dec.{eqb}
-use Rattle.definitions.specs.Answers.{passesAll}
+use Rattle.definitions.specs.Answers.{Seen, shown, quiet, passesAll}
 use Rattle.definitions.specs.Codes.{Free, ES, LOE, Shared, LS, EE, SAF, LOS, Exclusive, LE, OE}
 use Rattle.definitions.specs.Nodes.{Arrow, arrows, anyIn}
 use Rattle.definitions.specs.Phases.{rows}
@@ -20,6 +21,18 @@ met (a ∷ rest) from to nodes = eqb (a .from) from && (eqb (a .to) to && not (a
 
 abbrev mayGo : ℕ → ℕ → List ℕ → Bool
 mayGo = met arrows
+
+-- the nodes to which arrows that show nothing lead from some nodes
+abbrev isQuiet : Seen → Bool
+isQuiet (shown e) = false
+isQuiet quiet = true
+
+abbrev silently : List Arrow → List ℕ → List ℕ
+silently [] nodes = []
+silently (a ∷ rest) nodes = cond (among (a .from) nodes && isQuiet (a .shows)) (a .to ∷ silently rest nodes) (silently rest nodes)
+
+abbrev allNodes : List ℕ
+allNodes = Free ∷ ES ∷ LOE ∷ Shared ∷ LS ∷ EE ∷ SAF ∷ LOS ∷ Exclusive ∷ LE ∷ OE ∷ []
 
 -- a table passes the tests 1 and 2
 abbrev passes : List ℕ → Bool
@@ -44,6 +57,9 @@ pub record GuardingExamples : Type 0 where
   pub writer-LOE : mayGo SAF LOS (SAF ∷ LOE ∷ []) ≡ false
   pub writer-Shared : mayGo SAF LOS (SAF ∷ Shared ∷ []) ≡ false
   pub writer-others : mayGo SAF LOS (SAF ∷ Free ∷ ES ∷ LS ∷ EE ∷ LOS ∷ Exclusive ∷ LE ∷ OE ∷ []) ≡ true
+  -- no three arrows that show nothing follow one another, and two of them lead to LOS
+  pub silent-two : silently arrows (silently arrows allNodes) ≡ LOS ∷ []
+  pub silent-three : silently arrows (silently arrows (silently arrows allNodes)) ≡ []
   -- "busy is 1 exactly in phases 2, 3, 5, 6, 7": the writer finds a reader in LOE busy
   pub busy-in-LOE : (passes (beside 1 0 10 0) ≡ true) × (passes (beside 0 0 10 0) ≡ false)
   -- "no thread with forbidden 1 is in 5 to 7" beside 10, "no thread is in 5 to 7" beside 13 and 14; beside 15 one may be
@@ -65,6 +81,8 @@ guarding-examples =
       writer-LOE = refl;
       writer-Shared = refl;
       writer-others = refl;
+      silent-two = refl;
+      silent-three = refl;
       busy-in-LOE = (refl, refl);
       reader-in-LOE = (refl, refl);
       none-in-LOE = (refl, refl, refl);
