@@ -1,4 +1,5 @@
--- Examples of 02 §7, was that move a retry, against the definitions: each kind of retry beside the same move that isn't one, retries that may repeat for ever, and the retries of a run. Every line computes.
+-- Examples of 02 §7, was that move a retry, against the definitions: each kind of retry beside the same move that isn't one, retries that may repeat for ever, and the retries of a run.
+-- Every line computes.
 use Prim.Native.Nat.{ℕ}
 use mathlib.Core.Bool.{Bool, true, false}
 use mathlib.Core.List.{List, [], _∷_}
