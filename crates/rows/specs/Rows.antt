@@ -66,6 +66,10 @@ high = 16_711_392
 abbrev pub fewAt : Table → ℕ → Bool
 fewAt s i = fewBits (s .phase i) (s .busy i) (s .forbidden i)
 
+-- a thread's bytes, with any number above them
+abbrev pub threadWord : Table → ℕ → ℕ → ℕ
+threadWord s i above = wordOf (s .phase i) (s .busy i) (s .forbidden i) above
+
 abbrev pub threadRow : Table → ℕ → ℕ
 threadRow s i = rowFor (s .phase i) (s .busy i) (s .forbidden i)
 

@@ -1,3 +1,2 @@
--- What the answers of `examine` mean; the pass over the words of threads.
+-- What the answers of `examine` mean.
 pub mod TableTests
-pub mod Collected

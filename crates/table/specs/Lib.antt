@@ -1,3 +1,2 @@
--- The definitions that this crate's contracts cite besides those of the crates definitions, theory, soundness and rows.
+-- The definitions that this crate's contracts cite besides those of the crates definitions, theory and soundness.
 pub mod TableTests
-pub mod Words

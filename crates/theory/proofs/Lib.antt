@@ -22,6 +22,7 @@ pub mod Parts
 pub mod Writes
 pub mod Columns
 pub mod Sums
+pub mod EachOnce
 pub mod FlagCounts
 pub mod Places
 pub mod Bytes

@@ -1,4 +1,5 @@
 -- What contracts of several crates cite besides the definitions of the scope paper, and the words of the theorems' statements.
 pub mod Outputs
+pub mod EachOnce
 pub mod Tables
 pub mod Statements

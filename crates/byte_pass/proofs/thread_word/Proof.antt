@@ -5,9 +5,10 @@ use mathlib.Core.List.{List}
 use mathlib.Core.Path.{_≡_, _∙_}
 use borrow.Author.Needs.{needs}
 use Rattle.definitions.specs.Table.{tableOf, phaseAt}
-use Rattle.table.specs.Words.{wordFrom, threadWord}
-use Rattle.table.proofs.tests.thread_word.Statement.{statement}
-use Rattle.table.proofs.tests.thread_word.Tie as tie
+use Rattle.rows.specs.Rows.{threadWord}
+use Rattle.byte_pass.specs.Words.{wordFrom}
+use Rattle.byte_pass.proofs.thread_word.Statement.{statement}
+use Rattle.byte_pass.proofs.thread_word.Tie as tie
 
 word-is : (l : List ℕ) (i at : ℕ) → at ≡ phaseAt i → wordFrom l at ≡ threadWord (tableOf l) i (tableOf l .phase (i + 1))
 word-is l i at e =

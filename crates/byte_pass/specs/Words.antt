@@ -5,15 +5,11 @@ use mathlib.Core.List.{List}
 use lib.Dec.{eqb}
 use lib.ListN.{getD}
 use Rattle.definitions.specs.Table.{Table}
-use Rattle.rows.specs.Rows.{wordOf}
+use Rattle.rows.specs.Rows.{wordOf, threadWord}
 
 -- four bytes, the lowest first
 abbrev pub wordFrom : List ℕ → ℕ → ℕ
 wordFrom bytes at = wordOf (getD bytes at 0) (getD bytes (at + 1) 0) (getD bytes (at + 2) 0) (getD bytes (at + 3) 0)
-
--- a thread's bytes, with a byte above them
-abbrev pub threadWord : Table → ℕ → ℕ → ℕ
-threadWord s i above = wordOf (s .phase i) (s .busy i) (s .forbidden i) above
 
 -- the last thread but one, where the threads before the last are odd in number; else 0
 unfoldable pub oddWord : Table → ℕ → ℕ

@@ -1,4 +1,4 @@
--- `found` meets its contract. The loops' invariant: with the two words at hand, the words of the threads passed and of those read first are collected.
+-- `found` meets its contract. The loops' invariant: with the two words at hand, those of the threads passed and of those read first are collected.
 use Prim.Native.Nat.{ℕ, suc, _+_, _-_, _*_, _/_, _^_, _≤_, _<_}
 use native.Mathlib.Omega.{arith}
 use mathlib.Core.List.{List}
@@ -7,14 +7,14 @@ use lib.Bits.{bitOr}
 use lib.ListN.{getD}
 use Rattle.definitions.specs.Bounds.{mostThreads}
 use Rattle.definitions.specs.Table.{Table, tableOf, phaseAt, busyAt, forbiddenAt}
-use Rattle.rows.specs.Rows.{rowAt, stateIn, foundBy}
+use Rattle.rows.specs.Rows.{rowAt, stateIn, threadWord, foundBy}
 use Rattle.soundness.specs.Pass.{foundOf}
 use Rattle.soundness.specs.declared.Found.{Found}
-use Rattle.table.specs.Words.{threadWord, oddWord}
-use Rattle.rows.proofs.RowBounds.{row-most}
-use Rattle.table.proofs.Collected.{Bytes, Collected, begun, gone-on, ended}
-use Rattle.table.proofs.tests.found.Statement.{statement}
-use Rattle.table.proofs.tests.found.Tie as tie
+use Rattle.byte_pass.specs.Words.{oddWord}
+use Rattle.rows.proofs.Collected.{Bytes}
+use Rattle.byte_pass.proofs.Passing.{AtHand, rows-most, begun, gone-on, ended-all}
+use Rattle.byte_pass.proofs.found.Statement.{statement}
+use Rattle.byte_pass.proofs.found.Tie as tie
 
 -- every byte of a table is one
 bytes-at : (l : List ℕ) → ((k : ℕ) → getD l k 0 < 2 ^ 8) → (i : ℕ) → Bytes (tableOf l) i
@@ -24,38 +24,38 @@ module _ (l : List ℕ) (known : (k : ℕ) → getD l k 0 < 2 ^ 8) (last : ℕ) 
   abbrev s : Table
   s = tableOf l
 
-  first-words : (first second : ℕ) → first ≡ threadWord s last 0 → second ≡ oddWord s last → Collected s last 0 0 0 first second
+  first-words : (first second : ℕ) → first ≡ threadWord s last 0 → second ≡ oddWord s last → AtHand s last 0 0 0 first second
   first-words first second e f = rw (e, f) (begun s last (bytes-at l known last) (bytes-at l known (last - 1)))
 
-  module _ (k total seen first second rows : ℕ) (c : Collected s last k total seen first second) (added : rows ≡ rowAt (stateIn first) + rowAt (stateIn second)) where
+  module _ (k total seen first second rows : ℕ) (c : AtHand s last k total seen first second) (added : rows ≡ rowAt (stateIn first) + rowAt (stateIn second)) where
     rows-fit : k ≤ mostThreads → total + rows < 2 ^ 64
-    rows-fit most = omega (arith, c .most, row-most (stateIn first), row-most (stateIn second))
+    rows-fit most = omega (arith, rows-most s last c)
 
     next-words : (k′ i first′ second′ : ℕ) → k′ ≡ k + 2 → i ≡ k + 1 → first′ ≡ threadWord s k (s .phase (k + 1)) → second′ ≡ threadWord s i (s .phase (i + 1))
-        → Collected s last k′ (total + rows) (bitOr seen (bitOr first second)) first′ second′
+        → AtHand s last k′ (total + rows) (bitOr seen (bitOr first second)) first′ second′
     next-words k′ i first′ second′ e f w w′ =
         let two : k′ ≡ suc (suc k) = omega arith in
         let one : i ≡ suc k = omega arith in
         rw (two, added, w, w′ ∙ ap (λ (j : ℕ). threadWord s j (s .phase (i + 1))) one)
-        (gone-on s last k total seen first second c _ _ (bytes-at l known k) (bytes-at l known (suc k)) (known (phaseAt (k + 1))) (known (phaseAt (i + 1))))
+        (gone-on s last c _ _ (bytes-at l known k) (bytes-at l known (suc k)) (known (phaseAt (k + 1))) (known (phaseAt (i + 1))))
 
     all-words : (n : ℕ) (r : Found) → k ≡ 2 * (last / 2) → n ≡ suc last → n ≤ mostThreads → r ≡ foundBy (total + rows) (bitOr seen (bitOr first second)) → r ≡ foundOf s n
     all-words n r even is most e =
-        e ∙ (ap (λ (x : ℕ). foundBy (total + x) (bitOr seen (bitOr first second))) added ∙ ended s last k total seen first second c n even is most)
+        e ∙ (ap (λ (x : ℕ). foundBy (total + x) (bitOr seen (bitOr first second))) added ∙ ended-all s last c n even is most)
 
-same-passed : {s : Table} {last k k′ total seen first second : ℕ} → k ≡ k′ → Collected s last k total seen first second → Collected s last k′ total seen first second
-same-passed {s} {last} {k} {k′} {total} {seen} {first} {second} e c = subst (λ (j : ℕ). Collected s last j total seen first second) e c
+same-passed : {s : Table} {last k k′ total seen first second : ℕ} → k ≡ k′ → AtHand s last k total seen first second → AtHand s last k′ total seen first second
+same-passed {s} {last} {k} {k′} {total} {seen} {first} {second} e c = subst (λ (j : ℕ). AtHand s last j total seen first second) e c
 
 abbrev Inv-loop2 : tie.InvT-loop2
 Inv-loop2 table threads last left first₀ second₀ next total₀ seen₀ j₀ first second total seen j =
-    (j ≤ 4) × (j ≤ left) × Collected (tableOf table) last (next + 2 * j) total seen first second
+    (j ≤ 4) × (j ≤ left) × AtHand (tableOf table) last (next + 2 * j) total seen first second
 
 abbrev μ-loop2 : tie.MeasureT-loop2
 μ-loop2 table threads last left first₀ second₀ next total₀ seen₀ j₀ first second total seen j = 4 - j
 
 abbrev Inv-loop : tie.InvT-loop
 Inv-loop table threads last left₀ first₀ second₀ next₀ total₀ seen₀ left first second next total seen =
-    (next + 2 * left ≡ 2 * (last / 2)) × Collected (tableOf table) last next total seen first second
+    (next + 2 * left ≡ 2 * (last / 2)) × AtHand (tableOf table) last next total seen first second
 
 abbrev μ-loop : tie.MeasureT-loop
 μ-loop table threads last left₀ first₀ second₀ next₀ total₀ seen₀ left first second next total seen = left
@@ -99,7 +99,7 @@ module _ (c : tie.In-loop2 Inv-loop2 μ-loop2 Inv-loop μ-loop) where
   abbrev passed : ℕ
   passed = turn .loop .next + 2 * at .loop2 .j
 
-  collected : Collected (tableOf bytes) last passed (at .loop2 .total) (at .loop2 .seen) (at .loop2 .first) (at .loop2 .second)
+  collected : AtHand (tableOf bytes) last passed (at .loop2 .total) (at .loop2 .seen) (at .loop2 .first) (at .loop2 .second)
   collected = at .loop2 .inv .2
 
   -- the threads passed stand in front of the last one or two

@@ -2,9 +2,9 @@
 use Prim.Native.Nat.{_%_}
 use borrow.Author.Needs.{needs}
 use borrow.Author.Tests.{eq-eqb, ne-eqb}
-use Rattle.table.specs.Words.{oddWord}
-use Rattle.table.proofs.tests.odd_word.Statement.{statement}
-use Rattle.table.proofs.tests.odd_word.Tie as tie
+use Rattle.byte_pass.specs.Words.{oddWord}
+use Rattle.byte_pass.proofs.odd_word.Statement.{statement}
+use Rattle.byte_pass.proofs.odd_word.Tie as tie
 
 returns : tie.Need-returns
 unfolding oddWord

@@ -3,8 +3,8 @@ use Prim.Native.Nat.{ℕ, _+_, _<_}
 use native.Mathlib.Omega.{arith}
 use borrow.Author.Needs.{needs}
 use lib.ListN.{getD}
-use Rattle.table.proofs.tests.word_at.Statement.{statement}
-use Rattle.table.proofs.tests.word_at.Tie as tie
+use Rattle.byte_pass.proofs.word_at.Statement.{statement}
+use Rattle.byte_pass.proofs.word_at.Tie as tie
 
 shared-slice-read-a : tie.Need-shared-slice-read-a
 shared-slice-read-a c = search needs

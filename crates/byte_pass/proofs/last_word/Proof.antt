@@ -6,9 +6,10 @@ use mathlib.Core.Path.{_≡_}
 use borrow.Author.Needs.{needs}
 use lib.ListN.{getD}
 use Rattle.definitions.specs.Table.{tableOf, phaseAt}
-use Rattle.table.specs.Words.{wordFrom, threadWord}
-use Rattle.table.proofs.tests.last_word.Statement.{statement}
-use Rattle.table.proofs.tests.last_word.Tie as tie
+use Rattle.rows.specs.Rows.{threadWord}
+use Rattle.byte_pass.specs.Words.{wordFrom}
+use Rattle.byte_pass.proofs.last_word.Statement.{statement}
+use Rattle.byte_pass.proofs.last_word.Tie as tie
 
 word-is : (l : List ℕ) (i at word : ℕ) → at ≡ phaseAt i → word ≡ wordFrom l (at - 1) → getD l (at - 1) 0 < 256 → word / 256 ≡ threadWord (tableOf l) i 0
 word-is l i at word e w byte =

@@ -1,0 +1,2 @@
+-- The words in which the pass reads a table.
+pub mod Words
