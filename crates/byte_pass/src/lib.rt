@@ -68,7 +68,7 @@ pub fn found(table: &[u8], threads: usize) -> Found
     loop {
         for j in 0..4 {
             seen = seen | (first | second);
-            total += rows::two_rows(first, second);
+            total += byte_rows::two_rows(first, second);
             if left == j {
                 return rows::found_of(total, seen);
             }

@@ -4,10 +4,10 @@ use native.Mathlib.Numerals.{add-one}
 use native.Mathlib.Omega.{arith}
 use mathlib.Core.Path.{_≡_, refl, sym, subst, ap, _∙_}
 use Rattle.definitions.specs.Threads.{sumOf}
 use Rattle.rows.specs.Rows.{oneBad, rowAt, stateIn}
 use Rattle.rows.proofs.RowBounds.{row-most}
-use Rattle.rows.proofs.two_rows.Statement.{statement}
-use Rattle.rows.proofs.two_rows.Tie as tie
+use Rattle.byte_rows.proofs.two_rows.Statement.{statement}
+use Rattle.byte_rows.proofs.two_rows.Tie as tie
 
 abbrev wordAt : ℕ → ℕ → ℕ → ℕ
 wordAt first second zero = first
