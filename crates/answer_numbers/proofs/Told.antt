@@ -7,7 +7,7 @@ use mathlib.Core.Path.{_≡_, refl, sym, subst, ap, _∙_}
 use lib.Dec.{T}
 use Rattle.definitions.specs.Answers.{Reply, accepted, isAccepted, Seen, MoveAnswer, deliveryReply}
 use Rattle.definitions.specs.Chains.{retryFor}
-use Rattle.definitions.specs.Dispatch.{DispatchAnswer, made, waiting, dispatchAnswer, dispatchReplyIn, dispatchReply}
+use Rattle.definitions.specs.Dispatch.{moverIn, DispatchAnswer, made, waiting, turnAnswer, turnReplyIn, dispatchReply}
 use Rattle.definitions.specs.Moves.{isRetry, moveAnswer, replyIn, moveReply}
 use Rattle.definitions.specs.Nodes.{Arrow, arrows, Figure1}
 use Rattle.definitions.specs.Run.{runEntry}
@@ -61,7 +61,7 @@ move-low table r = low MoveFits (λ x. seenValue (x .seen)) retryUnit (λ a f. o
 made-fits : (table : List ℕ) (d : DispatchAnswer) → dispatchReply table ≡ accepted d → TurnFits d
 made-fits table waiting e = tt
 made-fits table (made r a) e =
-    let m = turn-is-move table r a e in
+    let m = turn-is-move table r a e .turn in
     let n = m .numbers in
     let ok = subst (λ (x : Reply MoveAnswer). T (isAccepted x)) (sym (m .reply)) tt in
     record {
@@ -73,8 +73,8 @@ made-fits table (made r a) e =
     }
 
 turn-fits : (table : List ℕ) → Fits TurnFits (dispatchReply table)
-unfolding dispatchReplyIn
-turn-fits table = fits-answer TurnFits _ (dispatchAnswer (tableOf table)) (omega arith) (λ p. made-fits table (dispatchAnswer (tableOf table)) (all-passed (dispatchAnswer (tableOf table)) _ p))
+unfolding turnReplyIn
+turn-fits table = fits-answer TurnFits _ (turnAnswer moverIn (tableOf table)) (omega arith) (λ p. made-fits table (turnAnswer moverIn (tableOf table)) (all-passed (turnAnswer moverIn (tableOf table)) _ p))
 
 pub turn-told : (a b : List ℕ) → turnNumber (dispatchReply a) ≡ turnNumber (dispatchReply b) → dispatchReply a ≡ dispatchReply b
 turn-told a b e = told TurnFits turnValue turn-tells (dispatchReply a) (dispatchReply b) (turn-fits a) (turn-fits b) e

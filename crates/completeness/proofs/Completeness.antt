@@ -12,7 +12,7 @@ use lib.Dec.{T}
 use Rattle.definitions.specs.Answers.{Reply, accepted, refused, Test, test, answered, deliveryReply}
 use Rattle.definitions.specs.Bounds.{mostThreads}
 use Rattle.definitions.specs.Chains.{tableAfter, afterIn}
-use Rattle.definitions.specs.Dispatch.{dispatchAnswer, dispatchReplyIn, dispatchReply}
+use Rattle.definitions.specs.Dispatch.{moverIn, turnAnswer, turnReplyIn, dispatchReply}
 use Rattle.definitions.specs.Moves.{requestTests, moveAnswer, replyIn, moveReply, moveTable}
 use Rattle.definitions.specs.Nodes.{nodesEntry}
 use Rattle.definitions.specs.OpenMoves.{openEntry}
@@ -128,5 +128,5 @@ module _ (bytes : List ℕ) where
   open-refused thread out = refused-2 _ _ ((λ e. omega arith), ((λ e. omega arith), tt))
 
   pub dispatch-refused : (dispatchReply bytes ≡ refused 2 0) ↔ (T (sized bytes) × (Reached (tableOf bytes .threads) bytes → ⊥))
-  unfolding dispatchReplyIn
-  dispatch-refused = refused-2 (dispatchAnswer (tableOf bytes)) [] tt
+  unfolding turnReplyIn
+  dispatch-refused = refused-2 (turnAnswer moverIn (tableOf bytes)) [] tt

@@ -6,7 +6,7 @@ use mathlib.Core.Path.{_≡_, refl}
 use Rattle.definitions.specs.Answers.{accepted, refused, Seen, shown, quiet, moved, answered, passesAll}
 use Rattle.definitions.specs.Codes.{go, setMove, clearMove}
 use Rattle.definitions.specs.Dispatch.{mayDispatch, hasTurnBy, hasTurn, moverIn, moveFor, targetFor, isWaiting}
-use Rattle.definitions.specs.Dispatch.{made, waiting, dispatchAnswer, dispatchReplyIn, dispatchIn, dispatchReply, dispatchTable}
+use Rattle.definitions.specs.Dispatch.{made, waiting, turnAnswer, turnReplyIn, turnIn, dispatchReply, dispatchTable}
 use Rattle.definitions.specs.Moves.{ask, goEffect, setEffect, clearEffect, effect, isRetry, stepReply, replyIn, stepIn}
 use Rattle.definitions.specs.Phases.{rows}
 use Rattle.definitions.specs.Sound.{phaseRule, flagRule, busyRule, holderRule, mutexRule, targetRule, openRule, rule10, rule11, rule13, rule15, elsewhereRule, sound}
@@ -47,7 +47,7 @@ pub record DispatchingExamples : Type 0 where
   pub refusals : (dispatchReply (2 ∷ 0 ∷ 255 ∷ []) ≡ refused 1 0) × (dispatchTable (2 ∷ 0 ∷ 255 ∷ []) ≡ 2 ∷ 0 ∷ 255 ∷ []) × (dispatchReply (two 1 255 0 0 0 0 0 0) ≡ refused 2 0)
 
 pub dispatching-examples : DispatchingExamples
-unfolding every some howMany lowest among allOf passesAll answered sized stored rows sound phaseRule flagRule busyRule holderRule mutexRule targetRule openRule rule10 rule11 rule13 rule15 elsewhereRule goEffect setEffect clearEffect effect isRetry stepReply replyIn stepIn mayDispatch hasTurnBy hasTurn moverIn moveFor targetFor isWaiting dispatchAnswer dispatchReplyIn dispatchIn
+unfolding every some howMany lowest among allOf passesAll answered sized stored rows sound phaseRule flagRule busyRule holderRule mutexRule targetRule openRule rule10 rule11 rule13 rule15 elsewhereRule goEffect setEffect clearEffect effect isRetry stepReply replyIn stepIn mayDispatch hasTurnBy hasTurn moverIn moveFor targetFor isWaiting turnAnswer turnReplyIn turnIn
 dispatching-examples =
     record {
       lowest-first = (refl, refl);

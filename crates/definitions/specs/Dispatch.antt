@@ -71,18 +71,27 @@ pub data DispatchAnswer : Type 0 where
   made : Request → MoveAnswer → DispatchAnswer
   waiting : DispatchAnswer
 
-unfoldable pub dispatchAnswer : Table → DispatchAnswer
-dispatchAnswer s = cond (isWaiting s) waiting (made (chosen s) (moveAnswer s (chosen s)))
+-- of the thread that a choice names
+unfoldable pub turnAnswer : (Table → ℕ) → Table → DispatchAnswer
+turnAnswer choice s = let r = requestOf s (choice s) in cond (isWaiting s) waiting (made r (moveAnswer s r))
 
 -- through a storage, refusal 1 first; "(Only 1 and 2 can occur.)"
-module _ {B : Type 0} (storage : Storage B) where
-  unfoldable pub dispatchReplyIn : B → Reply DispatchAnswer
-  dispatchReplyIn b = answered (test 1 (storage .fits b) ∷ test 2 (sound (storage .table b)) ∷ []) (dispatchAnswer (storage .table b))
+module _ (choice : Table → ℕ) {B : Type 0} (storage : Storage B) where
+  unfoldable pub turnReplyIn : B → Reply DispatchAnswer
+  turnReplyIn b = answered (test 1 (storage .fits b) ∷ test 2 (sound (storage .table b)) ∷ []) (turnAnswer choice (storage .table b))
 
   -- what that request leaves; "it says waiting and changes nothing"
-  unfoldable pub dispatchIn : B → B
-  dispatchIn b =
-      leaves (dispatchReplyIn b) (cond (isWaiting (storage .table b)) b (stepIn storage b (chosen (storage .table b)))) b
+  unfoldable pub turnIn : B → B
+  turnIn b =
+      leaves (turnReplyIn b) (cond (isWaiting (storage .table b)) b (stepIn storage b (requestOf (storage .table b) (choice (storage .table b))))) b
+
+-- the dispatcher's choice is the lowest-numbered thread that has a turn
+module _ {B : Type 0} (storage : Storage B) where
+  abbrev pub dispatchReplyIn : B → Reply DispatchAnswer
+  dispatchReplyIn = turnReplyIn moverIn storage
+
+  abbrev pub dispatchIn : B → B
+  dispatchIn = turnIn moverIn storage
 
 -- on the byte table
 abbrev pub dispatchReply : List ℕ → Reply DispatchAnswer

@@ -6,7 +6,7 @@ use mathlib.Core.Logic.{_⊎_, inl, inr}
 use mathlib.Core.Path.{_≡_, sym, subst, ap, _∙_}
 use lib.Dec.{T}
 use Rattle.definitions.specs.Answers.{Reply, accepted, refused, numberOf, isAccepted, quiet, MoveAnswer, moved, outcomeReply}
-use Rattle.definitions.specs.Dispatch.{mayDispatch, moverIn, moveFor, targetFor, chosen, isWaiting, DispatchAnswer, made, dispatchAnswer, eventSeen, dispatchReplyIn, dispatchReply}
+use Rattle.definitions.specs.Dispatch.{mayDispatch, moverIn, moveFor, targetFor, chosen, isWaiting, DispatchAnswer, made, turnAnswer, eventSeen, turnReplyIn, dispatchReply}
 use Rattle.definitions.specs.Moves.{ask, isRetry, moveAnswer, moveTable}
 use Rattle.definitions.specs.Table.{Table, tableOf, byteTable}
 use Rattle.definitions.specs.declared.Dispatched.the-variants as dispatched
@@ -78,7 +78,7 @@ module _ (bytes : List ℕ) (k : ℕ) (h : TestedTable bytes k) where
 
   pub nobody-turn : choiceOf s ≡ Nobody → TurnTaken bytes bytes (record { answer = dispatched.Waiting; forbidden = k })
   nobody-turn e =
-      let (reply, left) = waits byteTable bytes (h .tested .is-sized) (h .tested .is-sound) (nobody-e s e) in
+      let (reply, left) = waits moverIn byteTable bytes (h .tested .is-sized) (h .tested .is-sound) (nobody-e s e) in
       record { turned = record { reply = sym reply; table = sym left }; count = h .count }
 
   module _ (i mv t : ℕ) (e : choiceOf s ≡ Makes i mv t) where
@@ -97,7 +97,7 @@ module _ (bytes : List ℕ) (k : ℕ) (h : TestedTable bytes k) where
     pub made-turn : (after : List ℕ) (m : Made) (event : MoveEvent) → MoveTried bytes r after m → event ≡ eventIn (m .outcome)
         → TurnTaken bytes after (record { answer = dispatched.Moved i mv t event; forbidden = m .forbidden })
     made-turn after m event tried f =
-        let (reply, left) = moves byteTable bytes (h .tested .is-sized) (h .tested .is-sound) someone in
+        let (reply, left) = moves moverIn byteTable bytes (h .tested .is-sized) (h .tested .is-sound) someone in
         let answer : outcomeReply (m .outcome) ≡ accepted (moveAnswer s r) =
         tried .made .reply ∙ accepted-reply byteTable bytes r (accepts-i byteTable bytes r (h .tested .is-sized) (may .accepted)) in
         let seen = event-is (m .outcome) (moveAnswer s r) answer (T-false (isRetry s r) (may .no-retry)) in
@@ -115,10 +115,10 @@ module _ (bytes : List ℕ) (k : ℕ) (h : TestedTable bytes k) where
 -- ---- the tests
 
 pub table-refused : (bytes : List ℕ) (x : Refusal) → examinedOf bytes ≡ examined.Refused x → Turned bytes bytes (dispatched.Refused x)
-unfolding dispatchReplyIn
+unfolding turnReplyIn
 table-refused bytes x e =
-    let d : dispatchReply bytes ≡ refused (numberOf x) 0 = refusal-is (dispatchAnswer (tableOf bytes)) bytes x e in
-    record { reply = sym d; table = sym (refused-keeps byteTable bytes (subst (λ (y : Reply DispatchAnswer). T (not (isAccepted y))) (sym d) tt)) }
+    let d : dispatchReply bytes ≡ refused (numberOf x) 0 = refusal-is (turnAnswer moverIn (tableOf bytes)) bytes x e in
+    record { reply = sym d; table = sym (refused-keeps moverIn byteTable bytes (subst (λ (y : Reply DispatchAnswer). T (not (isAccepted y))) (sym d) tt)) }
 
 pub found-sound : (bytes : List ℕ) (n k : ℕ) → examinedOf bytes ≡ examined.Sound n k → TurnTable bytes n k
 found-sound bytes n k e =

@@ -1,6 +1,6 @@
 -- The dispatcher's move is a move (02 §8): where it answers a request and an answer, the move accepts that request with that answer, and the table left is the move's.
--- The request is no call, no retry and no leaving; the thread has none by another move, nor with a lower target; and no thread below has such a request. For every table.
--- All but the last words on the threads below holds of every thread that has a turn (`turn-made`).
+-- The request is no call, no retry and no leaving; and the thread has none by another move, nor with a lower target. For every table.
+-- That holds of a turn by any choice that names a thread which has a turn (`turn-by`). The dispatcher's does (`mover-names`), and no thread below the one it names has such a request.
 use Prim.Native.Nat.{ℕ, _<_}
 use native.Mathlib.Omega.{arith}
 use mathlib.Core.List.{List}
@@ -8,7 +8,7 @@ use mathlib.Core.Logic.{_⊎_, ⊎-elim}
 use mathlib.Core.Path.{_≡_, sym, subst, ap, _∙_}
 use lib.Dec.{T, eqb}
 use Rattle.definitions.specs.Answers.{accepted, MoveAnswer}
-use Rattle.definitions.specs.Dispatch.{mayDispatch, hasTurn, moverIn, targetFor, requestOf, chosen, made, dispatchReply, dispatchTable}
+use Rattle.definitions.specs.Dispatch.{mayDispatch, hasTurn, moverIn, targetFor, requestOf, made, dispatchReply}
 use Rattle.definitions.specs.Moves.{ask, moveAnswer, moveTable}
 use Rattle.definitions.specs.Sound.{sound}
 use Rattle.definitions.specs.Table.{Table, tableOf, sized, byteTable}
@@ -22,7 +22,7 @@ use Rattle.theory.proofs.Storages.{accepts-i, accepted-reply}
 use Rattle.theory.proofs.Tests.{no-both, same?, ne-T, eq-T, cond-no}
 use Rattle.theory.proofs.Ways.{accepted-e}
 use Rattle.dispatching.specs.Ready.{moveBy}
-use Rattle.dispatching.specs.Turns.{TurnMade}
+use Rattle.dispatching.specs.Turns.{turnReply, turnTable, NamesTurn, TurnBy, TurnMade}
 use Rattle.dispatching.proofs.Choice.{turn-move, turn-may, mover-turn, lower-none}
 use Rattle.dispatching.proofs.TurnKinds.{may-e, kind}
 use Rattle.dispatching.proofs.TurnReplies.{reply-e, made-e, moves}
@@ -45,43 +45,51 @@ module _ (s : Table) (z : Sound s) (i mv t : ℕ) (below : t < targetFor s i) (u
       (same? (s .phase i) 15))
       (same? (s .phase i) 10)
 
--- the request of any thread that has a turn, where the table left is the request's, and the threads below have no turn
-module _ (table : List ℕ) (fits : T (sized table)) (is-sound : T (sound (tableOf table))) (i : ℕ) (turn : T (hasTurn (tableOf table) i)) where
-  abbrev s : Table
-  s = tableOf table
+-- a turn by any choice that names a thread which has a turn
+pub turn-by : (choice : Table → ℕ) → NamesTurn choice → (table : List ℕ) (r : Request) (a : MoveAnswer) → turnReply choice table ≡ accepted (made r a) → TurnBy choice table r a
+turn-by choice names table r a e =
+    let s = tableOf table in
+    let (fits, is-sound, answer) = reply-e choice byteTable table (made r a) e in
+    let (t, request, own) = made-e choice s r a answer in
+    let its = turn-made table fits is-sound (choice s) (names s is-sound t) (moves choice byteTable table fits is-sound t .1) in
+    subst (TurnBy choice table r) own (subst (λ (q : Request). TurnBy choice table q (moveAnswer s (requestOf s (choice s)))) request its)
+  where
+    turn-made : (bytes : List ℕ) → T (sized bytes) → T (sound (tableOf bytes)) → (i : ℕ) → T (hasTurn (tableOf bytes) i) → let q = requestOf (tableOf bytes) i in
+        turnTable choice bytes ≡ moveTable bytes q → TurnBy choice bytes q (moveAnswer (tableOf bytes) q)
+    turn-made bytes fits is-sound i turn left =
+        let s = tableOf bytes in
+        let q = requestOf s i in
+        let z = sound-e s is-sound in
+        let m = may-e s q (turn-may s z i turn) in
+        let a = accepted-e s q (m .accepted) in
+        record {
+          reply = accepted-reply byteTable bytes q (accepts-i byteTable bytes q fits (m .accepted));
+          left = left;
+          numbers =
+              record {
+                few = sized-e bytes fits .most;
+                thread = a .thread-fits;
+                mv = a .move-fits;
+                target = target-below (s .threads) (s .threads) (q .mv) (q .target) (omega arith) (omega arith) (a .target-fits);
+              };
+          no-call = m .no-call;
+          no-retry = m .no-retry;
+          no-leaving = m .no-leaving;
+          one-move = λ x same v. kind s z x (may-e s x v) .move-is ∙ (ap (λ (j : ℕ). moveBy (s .phase j)) same ∙ sym (turn-move s z i turn));
+          lowest-target = λ k below v. not-lower s z i (q .mv) k below v;
+        }
 
-  abbrev r : Request
-  r = requestOf s i
+-- the dispatcher's names one
+pub mover-names : NamesTurn moverIn
+mover-names s is-sound t = mover-turn s (sound-e s is-sound) t
 
-  pub turn-made : dispatchTable table ≡ moveTable table r → ((q : Request) → q .thread < i → T (mayDispatch s q) → ⊥) → TurnMade table r (moveAnswer s r)
-  turn-made left lower =
-      let z = sound-e s is-sound in
-      let m = may-e s r (turn-may s z i turn) in
-      let a = accepted-e s r (m .accepted) in
-      record {
-        reply = accepted-reply byteTable table r (accepts-i byteTable table r fits (m .accepted));
-        left = left;
-        numbers =
-            record {
-              few = sized-e table fits .most;
-              thread = a .thread-fits;
-              mv = a .move-fits;
-              target = target-below (s .threads) (s .threads) (r .mv) (r .target) (omega arith) (omega arith) (a .target-fits);
-            };
-        no-call = m .no-call;
-        no-retry = m .no-retry;
-        no-leaving = m .no-leaving;
-        lower-none = lower;
-        one-move = λ q same v. kind s z q (may-e s q v) .move-is ∙ (ap (λ (j : ℕ). moveBy (s .phase j)) same ∙ sym (turn-move s z i turn));
-        lowest-target = λ k below v. not-lower s z i (r .mv) k below v;
-      }
-
--- the one that is chosen
+-- and no thread below it has a turn
 pub turn-is-move : (table : List ℕ) (r : Request) (a : MoveAnswer) → dispatchReply table ≡ accepted (made r a) → TurnMade table r a
 turn-is-move table r a e =
     let s = tableOf table in
-    let (fits, is-sound, answer) = reply-e byteTable table (made r a) e in
-    let (t, request, own) = made-e s r a answer in
-    let z = sound-e s is-sound in
-    let its = turn-made table fits is-sound (moverIn s) (mover-turn s z t) (moves byteTable table fits is-sound t .1) (lower-none s z) in
-    subst (TurnMade table r) own (subst (λ (q : Request). TurnMade table q (moveAnswer s (chosen s))) request its)
+    let (fits, is-sound, answer) = reply-e moverIn byteTable table (made r a) e in
+    let same = made-e moverIn s r a answer .1 in
+    record {
+      turn = turn-by moverIn mover-names table r a e;
+      lower-none = subst (λ (q : Request). (x : Request) → x .thread < q .thread → T (mayDispatch s x) → ⊥) same (lower-none s (sound-e s is-sound));
+    }

@@ -6,8 +6,8 @@ use Rattle.arrows.proofs.EveryArrow.{every-arrow}
 use Rattle.arrows.proofs.FigureExact.{figure-exact}
 use Rattle.completeness.proofs.Completeness as completeness
 use Rattle.dispatched_orders.proofs.StepsSafe.{as-requests, steps-safe}
-use Rattle.dispatching.proofs.TurnIsMove.{turn-is-move}
-use Rattle.dispatching.proofs.WaitingExactly.{waiting-exactly, waiting-stays, refused-so}
+use Rattle.dispatching.proofs.TurnIsMove.{turn-by, mover-names, turn-is-move}
+use Rattle.dispatching.proofs.WaitingExactly.{waiting-any, refused-any, waiting-exactly, waiting-stays, refused-so}
 use Rattle.dispatching.proofs.WaitingMeans.{waiting-means, waiting-holder, waiting-host}
 use Rattle.forms.proofs.Spelling as spelled
 use Rattle.orders.proofs.EveryOrder as orders
@@ -188,7 +188,10 @@ proved =
       every-arrow = every-arrow;
       figure-exact = figure-exact;
       turn-is-move = turn-is-move;
+      turn-by = turn-by;
       waiting-exactly = waiting-exactly;
+      waiting-any = waiting-any;
+      refused-any = refused-any;
       waiting-stays = waiting-stays;
       turn-refused = refused-so;
       waiting-means = waiting-means;
@@ -202,4 +205,5 @@ proved =
       turns-any-rule = turns-any-rule;
       as-requests = as-requests;
       steps-safe = steps-safe;
+      mover-names = mover-names;
     }

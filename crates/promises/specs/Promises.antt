@@ -13,7 +13,7 @@ use Rattle.definitions.specs.Answers.{accepted, refused, quiet, MoveAnswer, mov
 use Rattle.definitions.specs.Bounds.{mostThreads, mostScript, enoughOutput}
 use Rattle.definitions.specs.Chains.{historyIn, history, retries, tableAfter, acceptsAll, requestsOf}
 use Rattle.definitions.specs.Codes.{Free, LOE, Shared, LOS, Exclusive}
-use Rattle.definitions.specs.Dispatch.{made, waiting, dispatchReply, dispatchTable}
+use Rattle.definitions.specs.Dispatch.{moverIn, made, waiting, dispatchReply, dispatchTable}
 use Rattle.definitions.specs.Forms.{threads, request, note, noteFits, formOf, firstForm, threadsLine, spelled}
 use Rattle.definitions.specs.Moves.{ask, effect, isRetry, stepReply, step, accepts, replyIn, stepIn, acceptsIn, moveReply, moveTable}
 use Rattle.definitions.specs.Nodes.{nodesOf, nodesEntry, Arrow, arrows}
@@ -31,8 +31,8 @@ use Rattle.definitions.specs.declared.Request.{Request}
 use Rattle.definitions.specs.declared.Watcher.{Watcher}
 use Rattle.arrows.specs.Arrows.{Enabled, CanTake}
 use Rattle.completeness.specs.Reached.{Reached}
-use Rattle.dispatched_orders.specs.Steps.{Step, shownBy, AsRequests}
-use Rattle.dispatching.specs.Turns.{TurnMade, TurnRefused, NoTurn, WaitsThere, HostMoves}
+use Rattle.dispatched_orders.specs.Steps.{Step, NameTurns, shownBy, AsRequests}
+use Rattle.dispatching.specs.Turns.{turnReply, NamesTurn, TurnBy, TurnMade, TurnRefusedBy, TurnRefused, NoTurn, WaitsThere, HostMoves}
 use Rattle.forms.specs.Grammar.{numberBound, Spellable, Spells}
 use Rattle.history.specs.Permitted.{permittedFrom}
 use Rattle.orders.specs.Histories.{mostEvents, pairOf, historyBytes, AllBytes, Passes, FirstBad, Makes}
@@ -329,9 +329,14 @@ pub record Promises (M : Type 1) : Type 2 where
   -- ---- 8. The dispatcher
 
   -- A turn that makes a move makes an accepted request, with the move's own answer and table: no call, no retry, no leaving, of the lowest thread that has one, with its lowest target.
+  -- A turn by any other choice that names a thread which has one does so of that thread.
   pub turn-is-move : (table : List ℕ) (r : Request) (a : MoveAnswer) → dispatchReply table ≡ accepted (made r a) → TurnMade table r a
+  pub turn-by : (choice : Table → ℕ) → NamesTurn choice → (table : List ℕ) (r : Request) (a : MoveAnswer) → turnReply choice table ≡ accepted (made r a) → TurnBy choice table r a
   -- It says waiting exactly if no such request is there, and then the table stays; it refuses by 1 exactly if the size is wrong, by 2 if that is right and the table isn't sound, and keeps it.
+  -- Waiting and refusals are the same by every choice.
   pub waiting-exactly : (table : List ℕ) → (dispatchReply table ≡ accepted waiting) ↔ (SoundBytes table × NoTurn table)
+  pub waiting-any : (choice : Table → ℕ) (table : List ℕ) → (turnReply choice table ≡ accepted waiting) ↔ (SoundBytes table × NoTurn table)
+  pub refused-any : (choice : Table → ℕ) (table : List ℕ) (number place : ℕ) → (turnReply choice table ≡ refused number place) ↔ TurnRefusedBy choice table number place
   pub waiting-stays : (table : List ℕ) → dispatchReply table ≡ accepted waiting → dispatchTable table ≡ table
   pub turn-refused : (table : List ℕ) (number place : ℕ) → (dispatchReply table ≡ refused number place) ↔ TurnRefused table number place
   -- What waiting means: a writer in 11 has a target in Shared, a thread in EE finds the mutex taken, and every thread is in 0, 4, 6, 9, 11 or 14.
@@ -351,7 +356,8 @@ pub record Promises (M : Type 1) : Type 2 where
   pub turns-any-order : (table : List ℕ) → SoundBytes table → (rs : List Request) → T (dispatchesAll table rs) → length rs ≤ mostTurns (tableOf table .threads)
   pub turns-any-rule : {Q : Type 0} (rule : Rule Q) → NamesTurns rule → (q : Q) (table : List ℕ) → SoundBytes table
       → (k : ℕ) × (k ≤ mostTurns (tableOf table .threads)) × WaitsAfterBy (turnBy rule byteTable) (q, table) k
-  -- Demand 3 with the dispatcher: requests of the host and turns, in any order, show and leave what `requestsBy` does, the host's requests with each turn's move in its place.
-  -- So what they show from a fresh table is permitted.
-  pub as-requests : (table : List ℕ) (xs : List Step) → AsRequests table xs
-  pub steps-safe : (n : ℕ) → 1 ≤ n → n ≤ mostThreads → (xs : List Step) → T (permitted n (shownBy (fresh n) xs))
+  -- Demand 3 with a dispatcher: requests of the host and turns, in any order and each by a choice of its own that names a thread which has a turn, show and leave what `requestsBy` does,
+  -- the host's requests with each turn's move in its place. So what they show from a fresh table is permitted. The dispatcher's own choice, `moverIn`, names one.
+  pub as-requests : (table : List ℕ) (xs : List Step) → NameTurns xs → AsRequests table xs
+  pub steps-safe : (n : ℕ) → 1 ≤ n → n ≤ mostThreads → (xs : List Step) → NameTurns xs → T (permitted n (shownBy (fresh n) xs))
+  pub mover-names : NamesTurn moverIn

@@ -5,7 +5,7 @@ use native.Mathlib.Omega.{arith}
 use mathlib.Core.List.{List}
 use mathlib.Core.Path.{_≡_}
 use Rattle.definitions.specs.Answers.{accepted}
-use Rattle.definitions.specs.Dispatch.{chosen, waiting, dispatchIn, dispatchReply}
+use Rattle.definitions.specs.Dispatch.{moverIn, chosen, waiting, dispatchIn, dispatchReply}
 use Rattle.definitions.specs.Table.{Storage, tableOf, byteTable}
 use Rattle.dispatching.proofs.Choice.{chosen-may}
 use Rattle.dispatching.proofs.TurnReplies.{waits, moves}
@@ -20,10 +20,10 @@ pub by-lowest : {B : Type 0} (S : Storage B) → Keeps S → Dispatches (dispatc
 by-lowest S kept =
     record {
       is-sound = λ b g. g .is-sound;
-      waits = λ b g t. waits S b (g .fits) (g .is-sound) t;
+      waits = λ b g t. waits moverIn S b (g .fits) (g .is-sound) t;
       moves = λ b g t.
           let s = S .table b in
-          let (reply, left) = moves S b (g .fits) (g .is-sound) t in
+          let (reply, left) = moves moverIn S b (g .fits) (g .is-sound) t in
           let (good, made) = made-by S kept b (chosen s) g (dispatchIn S b) (chosen-may s (sound-e s (g .is-sound)) t) left in ((_, _, reply), good, made);
     }
 

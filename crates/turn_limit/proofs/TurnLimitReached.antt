@@ -8,7 +8,7 @@ use mathlib.Core.Logic.{⊎-elim}
 use mathlib.Core.Path.{_≡_, refl, sym, subst, ap, _∙_}
 use lib.Dec.{T}
 use Rattle.definitions.specs.Bounds.{mostThreads, noTarget}
-use Rattle.definitions.specs.Dispatch.{chosen, isWaiting, dispatchTable}
+use Rattle.definitions.specs.Dispatch.{moverIn, chosen, isWaiting, dispatchTable}
 use Rattle.definitions.specs.Phases.{rows}
 use Rattle.definitions.specs.Sound.{sound}
 use Rattle.definitions.specs.Table.{Table, tableOf, sized, byteTable}
@@ -44,7 +44,7 @@ all-turns w table g o =
     kept b h t p =
         let s = tableOf b in
         let z = sound-e s (h .is-sound) in
-        let left = ap tableOf (moves byteTable b (h .fits) (h .is-sound) t .1) ∙ table-step byteTable byte-keeps b (chosen s) (h .fits) in
+        let left = ap tableOf (moves moverIn byteTable b (h .fits) (h .is-sound) t .1) ∙ table-step byteTable byte-keeps b (chosen s) (h .fits) in
         subst (InOrder w) (sym left) (in-order-kept w s z p (chosen s) (chosen-may s z t) (mover-low w s z p))
 
 -- by the record that is read off a table

@@ -1,14 +1,14 @@
 -- Requests that the dispatcher may make, in any order; rules of choice, which say whose request it makes; and turns one after the other, whatever a turn is.
 use Prim.Native.Nat.{ℕ, zero, suc, _≤_, _<_}
-use mathlib.Core.Bool.{Bool, true, cond, not, _&&_}
+use mathlib.Core.Bool.{Bool, true, cond, _&&_}
 use mathlib.Core.List.{List, [], _∷_}
 use mathlib.Core.Path.{_≡_}
 use lib.Dec.{T}
-use Rattle.definitions.specs.Dispatch.{mayDispatch, hasTurn, requestOf, isWaiting}
+use Rattle.definitions.specs.Dispatch.{mayDispatch, requestOf, isWaiting}
 use Rattle.definitions.specs.Moves.{stepIn}
-use Rattle.definitions.specs.Sound.{sound}
 use Rattle.definitions.specs.Table.{Table, Storage, byteTable}
 use Rattle.definitions.specs.declared.Request.{Request}
+use Rattle.dispatching.specs.Turns.{NamesTurn}
 
 -- ---- lists of requests
 
@@ -48,9 +48,9 @@ pub record Rule (Q : Type 0) : Type 0 where
   pub mover : Q → Table → ℕ
   pub keeps : Q → Table → Q
 
--- what is asked of a rule: where some thread of a sound table has a turn, it names one that has
+-- what is asked of a rule: whatever is kept, where some thread of a sound table has a turn, it names one that has
 abbrev pub NamesTurns : {Q : Type 0} → Rule Q → Type 0
-NamesTurns {Q} rule = (q : Q) (s : Table) → T (sound s) → T (not (isWaiting s)) → T (hasTurn s (rule .mover q s))
+NamesTurns {Q} rule = (q : Q) → NamesTurn (rule .mover q)
 
 -- a turn by a rule: the request of the thread that it names, with its lowest target; where no thread has a turn it says waiting and changes nothing
 module _ {Q B : Type 0} (rule : Rule Q) (storage : Storage B) where
