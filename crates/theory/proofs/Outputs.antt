@@ -1,15 +1,14 @@
 -- Laws of a text put into an output: two texts put one behind the other are their join put once; and of an entry that writes: its tests, then room, then its text whole.
 use Prim.Native.Nat.{ℕ, _+_, _≤_, _<_}
 use native.Mathlib.Nat.{add-zero, zero-add, add-assoc}
-use native.Mathlib.Numerals.{add-one}
 use native.Mathlib.Omega.{arith}
 use mathlib.Core.Bool.{Bool, true, false, cond}
 use mathlib.Core.List.{List, [], _∷_, _++_, append-assoc}
 use mathlib.Core.Path.{_≡_, refl, sym, ap, _∙_}
 use borrow.Author.Tests.{le-leb, lt-leb}
 use lib.Dec.{T, leb, leb→le}
-use lib.ListN.{length, take, drop, set, length-append, length-take, length-drop, take-append-drop}
-use lib.Seq.{take-at, drop-drop, drop-append-add, set-split, sets, sets-eq}
+use lib.ListN.{length, take, drop, length-append, length-take, length-drop, take-append-drop}
+use lib.Seq.{take-at, drop-drop, drop-append-add, sets, sets-eq}
 use Rattle.definitions.specs.Answers.{Reply, accepted, refused, leaves, Test, passesAll, answered, filled, Delivery, counted, roomTest, deliveryReply, deliveryOutput}
 use Rattle.theory.specs.Outputs.{answering, putAt, RoomAt, PutAt, Delivered}
 use Rattle.theory.proofs.Replies.{peel, behind, in-front}
@@ -24,10 +23,6 @@ length-put out at text h = simp (length-append, length-take, length-drop) (omega
 put-nil : (out : List ℕ) (at : ℕ) → putAt out at [] ≡ out
 unfolding putAt
 put-nil out at = rw (add-zero, take-append-drop)
-
-pub put-written : (out : List ℕ) (at b : ℕ) → RoomAt out at (b ∷ []) → set out at b ≡ putAt out at (b ∷ [])
-unfolding putAt
-put-written out at b r = rw (add-one, set-split out at b (omega arith))
 
 -- the front of the output, up to the end of the text
 pub put-front : (out : List ℕ) (at : ℕ) (text : List ℕ) → at + length text ≤ length out → take (at + length text) (putAt out at text) ≡ take at out ++ text

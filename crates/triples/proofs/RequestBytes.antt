@@ -1,14 +1,14 @@
--- The bytes of requests put into an output: no request; a text in parts whose turns are lists of requests; go, a list and go; and one list behind another.
+-- The bytes of requests put into an output: no request; a text in parts whose parts are lists of requests; and go, a list and go.
 use Prim.Native.Nat.{ℕ, _+_, _<_}
 use mathlib.Core.List.{List, [], _∷_, _++_}
-use mathlib.Core.Path.{_≡_, sym, subst, ap, _∙_}
+use mathlib.Core.Path.{_≡_, sym, ap, _∙_}
 use Rattle.definitions.specs.Codes.{go}
 use Rattle.definitions.specs.Moves.{ask}
 use Rattle.definitions.specs.Plan.{bytesOf}
 use Rattle.definitions.specs.Threads.{gather}
 use Rattle.definitions.specs.declared.Request.{Request}
 use Rattle.theory.specs.Outputs.{RoomAt, PutAt}
-use Rattle.theory.proofs.Outputs.{none, room-first, room-second, both}
+use Rattle.theory.proofs.Outputs.{none}
 use Rattle.theory.proofs.Parts.{room-as, put-as, Partly, no-part, room-part, part-put, last-part, Parts, gatherFrom, gather-start, gather-next, gather-end}
 use Rattle.theory.proofs.Triples.{bytes-append}
 
@@ -71,18 +71,3 @@ module _ (i : ℕ) (each : List Request) where
 
         pub all-put : {d : List ℕ} {k : ℕ} → PutAt c m (bytesOf (oneGo i)) d k → PutAt out at (bytesOf (oneGo i ++ (each ++ oneGo i))) d k
         all-put s = put-as (sym three) (last-part done s)
-
--- ---- one list behind another
-
-module _ {a : List ℕ} {at : ℕ} (xs ys : List Request) (r : RoomAt a at (bytesOf (xs ++ ys))) where
-  room-both : RoomAt a at (bytesOf xs ++ bytesOf ys)
-  room-both = subst (RoomAt a at) (bytes-append xs ys) r
-
-  pub room-front : RoomAt a at (bytesOf xs)
-  room-front = room-first (bytesOf xs) (bytesOf ys) room-both
-
-  pub room-behind : {b : List ℕ} {n : ℕ} → PutAt a at (bytesOf xs) b n → RoomAt b n (bytesOf ys)
-  room-behind p = room-second (bytesOf xs) (bytesOf ys) room-both p
-
-  pub put-both : {b : List ℕ} {n : ℕ} {c : List ℕ} {m : ℕ} → PutAt a at (bytesOf xs) b n → PutAt b n (bytesOf ys) c m → PutAt a at (bytesOf (xs ++ ys)) c m
-  put-both {b} {n} {c} {m} p q = subst (λ (text : List ℕ). PutAt a at text c m) (sym (bytes-append xs ys)) (both (bytesOf xs) (bytesOf ys) room-both p q)

@@ -1,10 +1,10 @@
--- `put_nodes` meets its contract. The loop's invariant: the nodes of the threads passed stand at the front of the output.
-use Prim.Native.Nat.{ℕ, _-_, _≤_, _<_}
+-- `put_nodes` meets its contract. The loop's invariant: the nodes of the threads passed are put.
+use Prim.Native.Nat.{ℕ, _+_, _-_, _≤_, _<_}
 use native.Mathlib.Omega.{arith}
-use mathlib.Core.List.{List}
-use mathlib.Core.Path.{_≡_, refl, sym, ap, _∙_}
+use mathlib.Core.List.{List, [], _∷_}
+use mathlib.Core.Path.{_≡_, sym, ap, _∙_}
 use borrow.Author.Needs.{needs}
-use lib.ListN.{length, getD, length-set}
+use lib.ListN.{length, getD, set}
 use Rattle.definitions.specs.Answers.{accepted, refused, filled}
 use Rattle.definitions.specs.Nodes.{nodesOf, nodesEntry}
 use Rattle.definitions.specs.Phases.{nodeOf}
@@ -15,8 +15,8 @@ use Rattle.theory.specs.Tables.{SoundBytes}
 use Rattle.table.proofs.TableTests.{sound-passes}
 use Rattle.theory.proofs.Bytes.{sized-e}
 use Rattle.theory.proofs.Lists.{length-listOf}
-use Rattle.theory.proofs.Outputs.{no-room, whole, delivered-as, none, filled-up}
-use Rattle.nodes.proofs.Writing.{entry-put}
+use Rattle.theory.proofs.Outputs.{no-room, whole, delivered-as, stored, filled-up}
+use Rattle.theory.proofs.Parts.{listed, put-as, PartsPut, parts-none, parts-room, parts-more, parts-all}
 use Rattle.nodes.proofs.put_nodes.Statement.{statement}
 use Rattle.nodes.proofs.put_nodes.Tie as tie
 
@@ -33,16 +33,18 @@ module _ (table out : List ℕ) (n : ℕ) (s : SoundBytes table) (threads : n �
   tight : length out < n → Delivered (nodesEntry table) out out (refused 12 0)
   tight l = no-room (nodesEntry table) out (sound-passes table s) (omega (arith, long))
 
-  written : n ≤ length out → (out′ : List ℕ) (i : ℕ) → PutAt out 0 (listOf i (nodeIn table)) out′ i → i ≡ n
-      → Delivered (nodesEntry table) out out′ (accepted n)
+  written : n ≤ length out → (out′ : List ℕ) (i : ℕ) → PutAt out 0 (listOf n (nodeIn table)) out′ i → Delivered (nodesEntry table) out out′ (accepted n)
   unfolding nodesOf
-  written l out′ i p e =
+  written l out′ i p =
       delivered-as (whole (nodesEntry table) out (sound-passes table s) (omega (arith, long)))
-      (filled-up p ∙ ap (λ (k : ℕ). filled out (listOf k (nodeIn table))) (e ∙ threads)) (ap accepted (sym long))
+      (filled-up p ∙ ap (λ (k : ℕ). filled out (listOf k (nodeIn table))) threads) (ap accepted (sym long))
+
+-- one more node
+one-more : (n : ℕ) (f : ℕ → ℕ) (out₀ out : List ℕ) (i v : ℕ) → PartsPut (listed n f) out₀ 0 i out i → i < n → v ≡ f i → PartsPut (listed n f) out₀ 0 (i + 1) (set out i v) (i + 1)
+one-more n f out₀ out i v w l e = parts-more w l (put-as (ap (λ (x : ℕ). x ∷ []) e) (stored (v ∷ []) record { ends = parts-room w l .ends }))
 
 abbrev Inv-loop : tie.InvT-loop
-Inv-loop table threads out₀ room i₀ out i =
-    (i ≤ threads) × (length out ≡ length out₀) × PutAt out₀ 0 (listOf i (nodeIn table)) out i
+Inv-loop table threads out₀ room i₀ out i = PartsPut (listed threads (nodeIn table)) out₀ 0 i out i
 
 abbrev μ-loop : tie.MeasureT-loop
 μ-loop table threads out₀ room i₀ out i = threads - i
@@ -53,21 +55,24 @@ returns c =
     tight (start .args .table .now) (start .args .out .now) (start .args .threads) (start .pre .0) (start .pre .1) (c .if1 .taken)
 
 loop-holds : tie.Need-loop-holds Inv-loop μ-loop
-unfolding listOf
-loop-holds c = (omega arith, refl, none _ 0)
+loop-holds c =
+    let a = c .before .before .before .args in
+    parts-none record { ends = omega (arith, length-listOf (a .threads) (nodeIn (a .table .now))) }
 
 loop-again : tie.Need-loop-again Inv-loop μ-loop
 loop-again c =
     let at = c .before .before .before .before in
-    let table = at .before .before .before .before .args .table .now in
+    let a = at .before .before .before .before .args in
+    let table = a .table .now in
     let node = c .node-of .ensures ∙ ap (λ (k : ℕ). nodeOf (getD table k 0)) (c .before .before .phase-at .ensures) in
-    (omega arith, simp length-set (at .loop .inv .1), entry-put (nodeIn table) _ (at .loop .out) (at .loop .i) _ (at .loop .inv .2) (omega arith) node)
+    one-more (a .threads) (nodeIn table) (a .out .now) (at .loop .out) (at .loop .i) _ (at .loop .inv) (omega arith) node
 
 returns-2 : tie.Need-returns-2 Inv-loop μ-loop
 returns-2 c =
     let at = c .before .loop in
     let start = c .before .before .before .before .before in
-    written (start .args .table .now) (start .args .out .now) (start .args .threads) (start .pre .0) (start .pre .1) (omega arith) (at .out) (at .i) (at .inv .2) (omega arith)
+    let a = start .args in
+    written (a .table .now) (a .out .now) (a .threads) (start .pre .0) (start .pre .1) (omega arith) (at .out) (at .i) (parts-all (at .inv) (omega arith))
 
 pub put-nodes-spec : {M : Type 1} → statement M
 put-nodes-spec =
@@ -84,5 +89,5 @@ put-nodes-spec =
     (λ c. omega arith)
     (λ c. omega arith)
     loop-again
-    (λ c. c .before .loop .inv .1)
+    (λ c. c .before .loop .inv .put .size)
     returns-2)

@@ -1,2 +1,0 @@
--- Bytes written one behind the other.
-pub mod Writing
