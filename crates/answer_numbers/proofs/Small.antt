@@ -1,6 +1,6 @@
 -- The values of every entry's answer are small, so that the answer fits 64 bits with its refusal's number beside it; where it is accepted, the value but for the retries has 32 bits.
 -- An answer's value is the place of one of the entry's tests, or what is answered where all are passed; a refusal's number is that of one of the tests.
-use Prim.Native.Nat.{ℕ, zero, suc, _+_, _-_, _*_, _%_, _≤_, _<_}
+use Prim.Native.Nat.{ℕ, zero, suc, _+_, _-_, _*_, _/_, _%_, _≤_, _<_}
 use native.Mathlib.Omega.{arith}
 use mathlib.Core.Bool.{Bool, true, false, cond, _&&_}
 use mathlib.Core.List.{List, [], _∷_, _++_}
@@ -151,7 +151,7 @@ check-fits n bytes = (omega arith, λ p. (omega arith, λ q. fits-gather valueBo
         each-fits valueBound (testsOf n (pairsOf bytes) k) (omega arith)
 
 -- what the check shows of a history
-checked : (n : ℕ) (bytes : List ℕ) → T (passesAll (checkTests n bytes)) → (n ≤ mostThreads) × (length (pairsOf bytes) ≤ 30_000)
+checked : (n : ℕ) (bytes : List ℕ) → T (passesAll (checkTests n bytes)) → (n ≤ mostThreads) × (length (pairsOf bytes) ≤ mostHistory / 2)
 checked n bytes p = let f = tests-e n bytes p .0 in (f .most, omega (arith, f .short, pairs-length bytes))
 
 pub check-small : (n : ℕ) (bytes : List ℕ) (r : Reply ℕ) → r ≡ checkReply n bytes → (valueIn r < valueBound) × Fits Few r

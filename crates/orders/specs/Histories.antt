@@ -1,5 +1,5 @@
 -- Histories and the requests that make them: the bytes of a list of pairs, what the check passes, what a first bad pair is, and a list of requests that shows a history.
-use Prim.Native.Nat.{ℕ, _*_, _≤_, _<_}
+use Prim.Native.Nat.{ℕ, _*_, _/_, _≤_, _<_}
 use mathlib.Core.List.{List, [], _∷_}
 use mathlib.Core.Path.{_≡_}
 use lib.Dec.{T}
@@ -13,7 +13,7 @@ use Rattle.definitions.specs.declared.Request.{Request}
 
 -- 60,000 bytes are this many pairs
 abbrev pub mostEvents : ℕ
-mostEvents = 30_000
+mostEvents = mostHistory / 2
 
 -- a thread's event
 abbrev pub pairOf : ℕ → ℕ → Pair

@@ -1,5 +1,5 @@
 -- What reading answers and leaves, by the tests in their order: too long, a bad first line, a bad N, a bad line, no room, read.
-use Prim.Native.Nat.{ℕ, _%_, _≤_, _<_}
+use Prim.Native.Nat.{ℕ, _*_, _%_, _≤_, _<_}
 use native.Mathlib.Nat.{zero-add, mul-mod-right}
 use native.Mathlib.Omega.{arith}
 use mathlib.Core.Bool.{true, false}
@@ -78,12 +78,12 @@ module _ (script out : List ℕ) where
           pub no-room-left : length out < size → Delivered (readEntry script) out out (refused 12 0)
           no-room-left l = no-room (readEntry script) out tested (omega (arith, size-is))
 
-          few : size ≤ 10_000
+          few : 3 * size ≤ length script
           few =
               let ls = linesOf (drop start script) in
               omega (arith, a .put .next, bytes-length (requestsIn ls), stated-few ls, lines-size (drop start script), length-drop start script)
 
-          module _ (long : length moves₀ ≡ 10_000) (kept : length moves ≡ length moves₀) where
+          module _ (long : length script ≤ 3 * length moves₀) (kept : length moves ≡ length moves₀) where
             pub within : size ≤ length moves
             within = omega (arith, few)
 

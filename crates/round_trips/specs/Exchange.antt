@@ -1,6 +1,6 @@
 -- The words of the theorems on scripts written out and read: lists that can be written, scripts that can be read, a script without its notes,
 -- what reading refuses, and where a run stops whose refusals 6 and 7 are set aside.
-use Prim.Native.Nat.{ℕ, suc, _≤_, _<_}
+use Prim.Native.Nat.{ℕ, suc, _*_, _-_, _/_, _≤_, _<_}
 use mathlib.Core.Bool.{Bool, true, false, cond, _||_}
 use mathlib.Core.List.{List, [], _∷_, _++_}
 use mathlib.Core.Logic.{_⊎_}
@@ -8,6 +8,7 @@ use mathlib.Core.Path.{_≡_}
 use lib.Dec.{T, eqb}
 use lib.ListN.{length, drop}
 use Rattle.definitions.specs.Answers.{Reply, accepted, refused, Test, passesAll, answered}
+use Rattle.definitions.specs.Bounds.{mostScript}
 use Rattle.definitions.specs.Forms.{Form, threads, request, note, bad, lineForm, firstForm, firstTests, threadsFirst}
 use Rattle.definitions.specs.Moves.{moveTable}
 use Rattle.definitions.specs.Run.{stops, passes, makes, turnOf}
@@ -15,6 +16,7 @@ use Rattle.definitions.specs.Scripts.{ended, scriptTests, writeTests, readEntry
 use Rattle.definitions.specs.Table.{fresh}
 use Rattle.definitions.specs.Texts.{Line, linesOf}
 use Rattle.definitions.specs.Threads.{among}
+use Rattle.theory.specs.ShortestLines.{shortestThreads, shortestMove}
 
 -- writing turns the list down by 12 at most
 abbrev pub Writable : ℕ → List ℕ → Type 0
@@ -23,6 +25,10 @@ Writable n triples = T (passesAll (writeTests n triples))
 -- and so does reading the script
 abbrev pub Readable : List ℕ → Type 0
 Readable script = T (passesAll (readEntry script .tests))
+
+-- the triples of every script that can be read have room in so many bytes: behind the shortest threads line, three bytes for each of the shortest lines
+abbrev pub enoughTriples : ℕ
+enoughTriples = 3 * ((mostScript - shortestThreads) / shortestMove)
 
 -- ---- notes left out
 

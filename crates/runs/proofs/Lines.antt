@@ -17,6 +17,7 @@ use Rattle.definitions.specs.Scripts.{requestsIn, moveLines, statedBy}
 use Rattle.definitions.specs.Texts.{bytes, same, starts, lineFeed, Line, inFront, linesOf, decimalWithin, decimal, NumberRead, numberRead}
 use Rattle.definitions.specs.Threads.{every, implies}
 use Rattle.definitions.specs.declared.Request.{Request}
+use Rattle.theory.specs.ShortestLines.{shortestMove}
 use Rattle.theory.proofs.Lengths.{bytes-length}
 use Rattle.theory.proofs.LineTurns.{numbers, request-either}
 use Rattle.theory.proofs.Numbers.{decimal-some}
@@ -150,14 +151,14 @@ line-long l = by (l .ended) (l .text)
 
 -- ---- the requests that lines state
 
-request-long : (size : ℕ) (f : Form) → Long size f → 9 * length (requestIn f) ≤ size
+request-long : (size : ℕ) (f : Form) → Long size f → shortestMove * length (requestIn f) ≤ size
 request-long size (threads n) w = omega arith
 request-long size (request r) w = omega (arith, w .plain, decimal-some (r .thread))
 request-long size note w = omega arith
 request-long size bad w = omega arith
 
--- a request takes nine bytes
-pub stated-few : (ls : List Line) → 9 * length (requestsIn ls) ≤ sizeOf ls
+-- a request takes as many bytes as the shortest line of a move
+pub stated-few : (ls : List Line) → shortestMove * length (requestsIn ls) ≤ sizeOf ls
 unfolding requestsIn
 stated-few [] = omega arith
 stated-few (l ∷ ls) =

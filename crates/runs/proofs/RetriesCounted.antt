@@ -15,6 +15,7 @@ use Rattle.definitions.specs.Scripts.{threadsOf}
 use Rattle.definitions.specs.Table.{countFits, fresh}
 use Rattle.definitions.specs.Texts.{Line, linesOf}
 use Rattle.runs.specs.Requests.{movesFrom, movesFirst, movesOf}
+use Rattle.theory.specs.ShortestLines.{shortestMove}
 use Rattle.theory.proofs.Numbers.{decimal-some}
 use Rattle.theory.proofs.Tests.{one-most}
 use Rattle.runs.proofs.Lines.{lineSize, sizeOf, behind-size, lines-size, Does, line-does}
@@ -46,13 +47,13 @@ from-lines table (l ∷ ls) = by (turnOf table (lineForm l)) (line-does table l)
         let rest = next (moveTable table r) in
         omega arith
 
-few-lines : (table : List ℕ) (ls : List Line) → 9 * retriesFrom table ls ≤ sizeOf ls
+few-lines : (table : List ℕ) (ls : List Line) → shortestMove * retriesFrom table ls ≤ sizeOf ls
 unfolding retriesFrom
 few-lines table [] = omega arith
 few-lines table (l ∷ ls) = by (turnOf table (lineForm l)) (line-does table l) (few-lines table ls) (λ after. few-lines after ls)
   where
-    by : (u : Turn) → Does table (lineSize l) u → 9 * retriesFrom table ls ≤ sizeOf ls → ((after : List ℕ) → 9 * retriesFrom after ls ≤ sizeOf ls)
-        → 9 * elim u [
+    by : (u : Turn) → Does table (lineSize l) u → shortestMove * retriesFrom table ls ≤ sizeOf ls → ((after : List ℕ) → shortestMove * retriesFrom after ls ≤ sizeOf ls)
+        → shortestMove * elim u [
           | stops number ↦ 0
           | passes ↦ retriesFrom table ls
           | makes r answer ↦ cond (answer .retry) 1 0 + retriesFrom (moveTable table r) ls
@@ -68,12 +69,12 @@ few-lines table (l ∷ ls) = by (turnOf table (lineForm l)) (line-does table l) 
 -- ---- the whole run
 
 -- a run of n threads over the lines behind the first
-first-lines : (f : Form) (ls : List Line) → (retriesFirst f ls ≡ retries (fresh (threadsFirst f)) (movesFirst f ls)) × (9 * retriesFirst f ls ≤ sizeOf ls)
+first-lines : (f : Form) (ls : List Line) → (retriesFirst f ls ≡ retries (fresh (threadsFirst f)) (movesFirst f ls)) × (shortestMove * retriesFirst f ls ≤ sizeOf ls)
 unfolding retriesFirst answered retriesIn
 first-lines (threads n) ls = by (countFits n)
   where
     by : (b : Bool) → let x : Reply ℕ = cond b (accepted n) (refused 1 1) in
-        (retriesFor x ls ≡ retries (fresh n) (cond b (movesFrom (fresh n) ls) [])) × (9 * retriesFor x ls ≤ sizeOf ls)
+        (retriesFor x ls ≡ retries (fresh n) (cond b (movesFrom (fresh n) ls) [])) × (shortestMove * retriesFor x ls ≤ sizeOf ls)
     by true = (from-lines (fresh n) ls, few-lines (fresh n) ls)
     by false = (refl, omega arith)
 first-lines (request r) ls = (refl, omega arith)

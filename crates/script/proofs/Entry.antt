@@ -14,7 +14,7 @@ use Rattle.definitions.specs.Bounds.{mostScript, mostThreads}
 use Rattle.definitions.specs.Forms as spec
 use Rattle.definitions.specs.PlainLock.{pairsOf}
 use Rattle.definitions.specs.Run.{eventLines, printed, printedFirst, refusedLine, runOutputOf, retriesFrom, retriesFirst, runRetries, RunCounts, runEntry}
-use Rattle.definitions.specs.Table.{countFits, fresh, freshEntry}
+use Rattle.definitions.specs.Table.{countFits, size, fresh, freshEntry}
 use Rattle.definitions.specs.Texts as texts
 use Rattle.definitions.specs.declared.Answer.{Answer}
 use Rattle.definitions.specs.declared.Answer.the-variants as answer
@@ -80,7 +80,7 @@ fresh-tested n e =
     }
 
 -- what the fresh entry leaves in a place that the largest table fits
-module _ (n : ℕ) {place place′ : List ℕ} (long : length place ≡ 603) {a : Reply ℕ} (made : Delivered (freshEntry n) place place′ a) where
+module _ (n : ℕ) {place place′ : List ℕ} (long : size mostThreads ≤ length place) {a : Reply ℕ} (made : Delivered (freshEntry n) place place′ a) where
   abbrev count-test : Test
   count-test = test 1 (countFits n)
 
@@ -108,8 +108,8 @@ module _ (n : ℕ) {place place′ : List ℕ} (long : length place ≡ 603) {a 
     good-size : size ≡ length (fresh n)
     good-size = let g = sym f ∙ (made .reply ∙ sym (when-good good-count .reply)) in cc
 
-    pub size-fits : size ≤ 603
-    size-fits = omega (arith, good-size, roomy good-count, long)
+    pub size-fits : size ≤ length place
+    size-fits = omega (arith, good-size, roomy good-count)
 
     pub table-front : take size place′ ≡ fresh n
     table-front =

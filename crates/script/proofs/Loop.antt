@@ -20,6 +20,7 @@ use Rattle.printing.specs.Output.{endingLine}
 use Rattle.printing.specs.declared.Ending.{Ending}
 use Rattle.printing.specs.declared.Ending.the-variants.{Steps, Refused}
 use Rattle.theory.specs.Outputs.{RoomAt}
+use Rattle.theory.specs.ShortestLines.{shortestMove}
 use Rattle.theory.specs.Tables.{SoundBytes}
 use Rattle.turns.specs.Steps.{pairBytes, added, tableBehind, movesMade, retriesMade, PassedOn, StoppedBy, Stepped}
 use Rattle.turns.specs.declared.Step.{Step}
@@ -40,7 +41,7 @@ pub record AtLine (script table₀ history₀ whole : List ℕ) (all : ℕ) (tab
   pub lines-few : line ≤ from + 2
   pub moves-few : steps ≤ from
   pub retries-few : retried ≤ from
-  pub shown-few : 9 * at ≤ 2 * from
+  pub shown-few : shortestMove * at ≤ 2 * from
   pub pairs : at % 2 ≡ 0
   pub tested : TestedTable table count
   pub prints : whole ≡ linesIn (take at history) ++ printed table line steps (linesOf (drop from script))
@@ -85,12 +86,12 @@ retried-most (stops number) = omega arith
 retried-most passes = omega arith
 retried-most (makes r answer) = one-most (answer .retry)
 
--- and it adds a pair or nothing, a pair only if it has nine bytes
+-- and it adds a pair or nothing, a pair only if it has as many bytes as the shortest line of a move
 record OnePair (size : ℕ) (bytes : List ℕ) : Type 0 where
   pub even : length bytes % 2 ≡ 0
-  pub few : 9 * length bytes ≤ 2 * size
+  pub few : shortestMove * length bytes ≤ 2 * size
 
-seen-pair : (size thread : ℕ) (seen : Seen) → 9 ≤ size → OnePair size (pairBytes thread seen)
+seen-pair : (size thread : ℕ) (seen : Seen) → shortestMove ≤ size → OnePair size (pairBytes thread seen)
 seen-pair size thread (shown event) h = record { even = refl; few = omega arith }
 seen-pair size thread quiet h = record { even = refl; few = omega arith }
 

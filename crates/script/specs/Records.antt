@@ -7,14 +7,15 @@ use Rattle.definitions.specs.Bounds.{mostScript}
 use Rattle.definitions.specs.Forms.{Form}
 use Rattle.definitions.specs.Run.{printed, printedFirst, runOutputOf, retriesFrom, retriesFirst, runRetries}
 use Rattle.definitions.specs.Texts.{Line, linesOf}
+use Rattle.theory.specs.ShortestLines.{shortestMove}
 use Rattle.apply.specs.MoveMade.{TestedTable}
 use Rattle.printing.specs.Output.{outputOf}
 use Rattle.script.specs.declared.Ran.{Ran}
 
--- the script isn't too long, and the history has room for a pair for every nine bytes of it
+-- the script isn't too long, and the history has room for a pair for every line of a move
 pub record Roomy (script history : List ℕ) : Type 0 where
   pub short : length script ≤ mostScript
-  pub pairs : 2 * length script < 9 * (length history + 1)
+  pub pairs : 2 * length script < shortestMove * (length history + 1)
 
 -- what the lines behind the first are run from: a tested table, no forbidden of which is 1
 pub record Begun (script : List ℕ) (start : ℕ) (table history : List ℕ) : Type 0 where

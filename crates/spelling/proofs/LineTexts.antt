@@ -10,6 +10,7 @@ use Rattle.definitions.specs.Moves.{ask}
 use Rattle.definitions.specs.Scripts.{ended}
 use Rattle.definitions.specs.Texts.{bytes, decimal}
 use Rattle.definitions.specs.Threads.{listOf}
+use Rattle.theory.specs.ShortestLines.{shortestMove}
 use Rattle.theory.proofs.Matches.{NoneOf, downFrom, above}
 use Rattle.theory.proofs.Numbers.{decimal-some, decimal-short}
 
@@ -68,5 +69,5 @@ act-least (suc (suc (suc (suc (suc (suc zero)))))) target h = omega arith
 act-least (suc (suc (suc (suc (suc (suc (suc mv))))))) target h = absurd (omega arith)
 
 -- `(0 (go))` with its line feed
-pub move-least : (thread mv target : ℕ) → mv ≤ lastMove → 9 ≤ length (ended (spelled (ask thread mv target)))
+pub move-least : (thread mv target : ℕ) → mv ≤ lastMove → shortestMove ≤ length (ended (spelled (ask thread mv target)))
 move-least thread mv target h = omega (arith, move-size thread mv target, decimal-some thread, act-least mv target h)

@@ -19,7 +19,7 @@ use Rattle.theory.proofs.MoveWrites.{Within, WithinOne, effect-within, 
 use Rattle.theory.proofs.Quantifiers.{howMany-change}
 use Rattle.theory.proofs.Tests.{same?}
 use Rattle.theory.proofs.Ways.{accepted-e}
-use Rattle.theory.proofs.Writes.{update-same, update-other, same-table, applied-keeps}
+use Rattle.theory.proofs.Writes.{update-same, update-other, same-table}
 
 -- ---- columns
 

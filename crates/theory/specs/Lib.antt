@@ -3,3 +3,4 @@ pub mod Outputs
 pub mod EachOnce
 pub mod Tables
 pub mod Statements
+pub mod ShortestLines

@@ -16,6 +16,7 @@ use Rattle.definitions.specs.declared.Answer.{Answer}
 use Rattle.definitions.specs.declared.Answer.the-variants.{Done, Refused}
 use Rattle.definitions.specs.declared.Refusal.{Refusal}
 use Rattle.theory.specs.Outputs.{PutAt, Delivered}
+use Rattle.theory.specs.ShortestLines.{mostScriptMoves}
 use Rattle.theory.proofs.Outputs.{turned-down, no-room, whole, delivered-as, filled-up}
 use Rattle.theory.proofs.Replies.{passed, failed, pass, no-test, behind, in-front}
 use Rattle.theory.proofs.TestLists.{answered-e, passes-join}
@@ -70,7 +71,7 @@ module _ (n : ℕ) (triples out : List ℕ) where
             turned-down (writeEntry n triples) out moves 8 0 (front moves ∙ (behind moves _ _ (good .0) ∙ f))
 
         -- which more moves than the shortest lines leave room for make too long
-        pub too-many : 3_333 < m → Delivered (writeEntry n triples) out out (refused 8 0)
+        pub too-many : mostScriptMoves < m → Delivered (writeEntry n triples) out out (refused 8 0)
         too-many l = too-long (omega (arith, script-long n (requestsOf triples) (good .0), triples-count triples, good .1))
 
         module _ (short : length text ≤ mostScript) where

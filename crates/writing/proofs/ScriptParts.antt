@@ -11,6 +11,7 @@ use Rattle.definitions.specs.Forms.{threadsLine, spelled}
 use Rattle.definitions.specs.Moves.{numberTests}
 use Rattle.definitions.specs.Scripts.{ended, movesText, scriptOf, triplesTests}
 use Rattle.definitions.specs.declared.Request.{Request}
+use Rattle.theory.specs.ShortestLines.{shortestMove}
 use Rattle.spelling.proofs.LineTexts.{move-least}
 use Rattle.theory.proofs.Parts.{Parts}
 use Rattle.theory.proofs.RequestNumbers.{numbers-e}
@@ -53,8 +54,8 @@ script-size n rs = length-append (ended (threadsLine n)) (movesText rs)
 
 -- ---- too many moves
 
--- every move that can be spelled takes nine bytes
-moves-long : (k n : ℕ) (rs : List Request) → T (passesAll (triplesTests k n rs)) → 9 * length rs ≤ length (movesText rs)
+-- every move that can be spelled takes as many bytes as the shortest line of a move
+moves-long : (k n : ℕ) (rs : List Request) → T (passesAll (triplesTests k n rs)) → shortestMove * length rs ≤ length (movesText rs)
 unfolding triplesTests movesText
 moves-long k n [] p = omega arith
 moves-long k n (r ∷ rs) p =
@@ -62,5 +63,5 @@ moves-long k n (r ∷ rs) p =
     let rest = moves-long (suc k) n rs (q .1) in
     omega (arith, move-least (r .thread) (r .mv) (r .target) (numbers-e k n r (q .0) .move-fits), length-append (ended (spelled r)) (movesText rs))
 
-pub script-long : (n : ℕ) (rs : List Request) → T (passesAll (triplesTests 0 n rs)) → 9 * length rs ≤ length (scriptOf n rs)
+pub script-long : (n : ℕ) (rs : List Request) → T (passesAll (triplesTests 0 n rs)) → shortestMove * length rs ≤ length (scriptOf n rs)
 script-long n rs p = omega (arith, moves-long 0 n rs p, script-size n rs)

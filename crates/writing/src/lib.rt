@@ -19,6 +19,7 @@ ghost use Rattle.definitions.specs.Chains.{requestsOf};
 ghost use Rattle.definitions.specs.Moves.{ask};
 ghost use Rattle.definitions.specs.Scripts.{movesText, scriptOf, triplesTests, writeEntry};
 ghost use Rattle.theory.specs.Outputs.{RoomAt, PutAt, Delivered};
+ghost use Rattle.theory.specs.ShortestLines.{mostScriptMoves};
 
 // The request of a triple.
 fn request_of(thread: u8, mv: u8, target: u8) -> Request
@@ -51,7 +52,7 @@ fn test_triples(threads: u16, triples: &[u8]) -> Answer
 
 // How many bytes the script has.
 fn script_length(threads: u16, triples: &[u8]) -> usize
-    requires { ⌜ length (now triples) / 3 ≤ 3333 ⌝ }
+    requires { ⌜ length (now triples) / 3 ≤ mostScriptMoves ⌝ }
     ensures { λ r. ⌜ r ≡ length (scriptOf threads (requestsOf (now (triples .entry)))) ⌝ }
 {
     let moves = triples.len() / 3;

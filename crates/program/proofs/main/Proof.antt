@@ -1,11 +1,12 @@
 -- `program::main` meets its contract: what was read is within the input's buffer, and what is handed on is the front of the output's, the program's output for what was read.
-use Prim.Native.Nat.{ℕ, _≤_}
+use Prim.Native.Nat.{ℕ, _+_, _≤_}
 use native.Mathlib.Omega.{arith}
 use mathlib.Core.List.{List}
 use mathlib.Core.Path.{_≡_, sym, subst, ap, _∙_}
 use borrow.Author.Needs.{needs}
 use lib.ListN.{length, take, drop, length-replicate}
 use lib.Seq.{length-take-le, take-at}
+use Rattle.definitions.specs.Bounds.{mostScript, enoughOutput}
 use Rattle.definitions.specs.Run.{programOutput}
 use Rattle.printout.specs.Buffer.{Printed}
 use Rattle.program.specs.Input.{WithinRoom}
@@ -24,25 +25,25 @@ printed-front : (input before after : List ℕ) (n : ℕ) → Printed input befo
 printed-front input before after n p =
     ap (take n) (p .output) ∙ take-at (programOutput input) (drop (length (programOutput input)) before) n (sym (p .count))
 
-printed-within : (input before after : List ℕ) (n : ℕ) → Printed input before after n → n ≤ 65_536
+printed-within : (input before after : List ℕ) (n : ℕ) → Printed input before after n → n ≤ enoughOutput
 printed-within input before after n p = omega (arith, p .count, output-fits input)
 
 -- what was read is within the input's buffer, as it is then
 was-read : (c : tie.After-known-told) → c .before .read .given .0 .0 ≤ length (c .before .before .before .before .read-input .last .0)
 was-read c =
     let call = c .before .before .before .before .read-input in
-    omega (arith, read-within _ _ _ (c .before .read .given .1) (call .ensures), call .kept, length-replicate {A = ℕ} 30_001 0)
+    omega (arith, read-within _ _ _ (c .before .read .given .1) (call .ensures), call .kept, length-replicate {A = ℕ} (mostScript + 1) 0)
 
 -- what was printed is within the output's
 was-printed : (c : tie.After-print-input) → c .print-input .result ≤ length (c .print-input .last .1 .0)
 was-printed c =
-    omega (arith, printed-within _ _ _ _ (c .print-input .ensures), c .print-input .kept, length-replicate {A = ℕ} 65_536 0)
+    omega (arith, printed-within _ _ _ _ (c .print-input .ensures), c .print-input .kept, length-replicate {A = ℕ} enoughOutput 0)
 
 slice-aggregate-read-input : tie.Need-slice-aggregate-read-input
 slice-aggregate-read-input c = search needs
 
 read-input-requires : tie.Need-read-input-requires
-read-input-requires c κs = omega (arith, length-replicate {A = ℕ} 30_001 0)
+read-input-requires c κs = omega (arith, length-replicate {A = ℕ} (mostScript + 1) 0)
 
 enum-known-read : tie.Need-enum-known-read
 enum-known-read c = search needs
@@ -69,7 +70,7 @@ slice-aggregate-print-input-2 : tie.Need-slice-aggregate-print-input-2
 slice-aggregate-print-input-2 c = search needs
 
 print-input-requires : tie.Need-print-input-requires
-print-input-requires c κs = omega (arith, length-replicate {A = ℕ} 65_536 0)
+print-input-requires c κs = omega (arith, length-replicate {A = ℕ} enoughOutput 0)
 
 array-share-prefix-input-2 : tie.Need-array-share-prefix-input-2
 array-share-prefix-input-2 c = was-read (c .before .before .before .before)

@@ -1,7 +1,8 @@
 -- `reading::read` meets its contract, by the tests in their order (proofs/EntryLaws).
-use Prim.Native.Nat.{ℕ, _≤_}
+use Prim.Native.Nat.{ℕ, _*_, _/_, _≤_}
 use native.Mathlib.Omega.{arith}
 use mathlib.Core.Bool.{true}
+use mathlib.Core.List.{List}
 use mathlib.Core.Path.{_≡_, sym, subst, _∙_}
 use borrow.Author.Needs.{needs}
 use borrow.Author.Tests.{not-true, not-false}
@@ -29,6 +30,10 @@ short c = c .before .before .before .before .if1 .left
 threads-at : (c : tie.After-known-told) → let g = c .before .first .given .0 in ThreadsAt (start c .args .script .now) (g .0) (g .1 .0)
 threads-at c = subst (FirstAt _) (c .before .first .given .1) (c .before .before .before .first-line .ensures)
 
+-- the place for the triples: a third of the longest script
+abbrev place : List ℕ
+place = replicate (mostScript / 3) 0
+
 -- and it fits
 counts : (c : tie.Else2) → countFits (c .before .before .before .first .given .0 .0) ≡ true
 counts c = sym (c .before .count-fits .ensures) ∙ not-false _ (c .if2 .left)
@@ -52,17 +57,17 @@ size c = c .before .taken2 .given .0 .0
 
 all-taken : (c : tie.After-known-told3) → let t = lines c in let k = known (fitting t) in
     AllTaken (linesTests 2 (k .before .first .given .0 .0) (linesOf (drop (k .before .first .given .0 .1 .0) (start k .args .script .now))))
-    (requestsIn (linesOf (drop (k .before .first .given .0 .1 .0) (start k .args .script .now)))) (replicate 10_000 0) 0 (t .take-lines .last .1 .1 .1 .0) (size c)
+    (requestsIn (linesOf (drop (k .before .first .given .0 .1 .0) (start k .args .script .now)))) place 0 (t .take-lines .last .1 .1 .1 .0) (size c)
 all-taken c = subst (Taken _ _ _ _ _) (c .before .taken2 .given .1) (lines c .take-lines .ensures)
 
-long : length (replicate {A = ℕ} 10_000 0) ≡ 10_000
-long = length-replicate {A = ℕ} 10_000 0
+long : (c : tie.After-known-told) → length (start c .args .script .now) ≤ 3 * length place
+long c = omega (arith, short c, length-replicate {A = ℕ} (mostScript / 3) 0)
 
 size-fits : (c : tie.After-known-told3) → size c ≤ length (lines c .take-lines .last .1 .1 .1 .0)
 size-fits c =
     let t = lines c in
     let k = known (fitting t) in
-    within _ (start k .args .out .now) (short k) _ _ (threads-at k) (counts (fitting t)) (all-taken c) long (t .take-lines .kept .1 .1 .1 .0)
+    within _ (start k .args .out .now) (short k) _ _ (threads-at k) (counts (fitting t)) (all-taken c) (long k) (t .take-lines .kept .1 .1 .1 .0)
 
 returns : tie.Need-returns
 returns c = too-long _ _ (c .if1 .taken)
@@ -83,7 +88,7 @@ cast-threads c = record { fits = omega (arith, most c) }
 take-lines-requires : tie.Need-take-lines-requires
 take-lines-requires c κs =
     let k = known (c .before) in
-    (threads-at k .within, record { short = short k; room = omega (arith, short k, long) })
+    (threads-at k .within, record { short = short k; room = long k })
 
 returns-4 : tie.Need-returns-4
 returns-4 c =
@@ -102,8 +107,8 @@ put-triples-requires c κs =
     let e = c .before .before in
     let t = lines (e .before) in
     let k = known (fitting t) in (
-      triples-room _ _ (short k) _ _ (threads-at k) (counts (fitting t)) (all-taken (e .before)) long (t .take-lines .kept .1 .1 .1 .0) (e .if3 .left),
-      triples-whole _ (start k .args .out .now) (short k) _ _ (threads-at k) (counts (fitting t)) (all-taken (e .before)) long (t .take-lines .kept .1 .1 .1 .0) (e .if3 .left),
+      triples-room _ _ (short k) _ _ (threads-at k) (counts (fitting t)) (all-taken (e .before)) (long k) (t .take-lines .kept .1 .1 .1 .0) (e .if3 .left),
+      triples-whole _ (start k .args .out .now) (short k) _ _ (threads-at k) (counts (fitting t)) (all-taken (e .before)) (long k) (t .take-lines .kept .1 .1 .1 .0) (e .if3 .left),
     )
 
 returns-5 : tie.Need-returns-5
@@ -119,7 +124,7 @@ returns-6 c =
     let e = w .before .before .before in
     let t = lines (e .before) in
     let k = known (fitting t) in
-    all-read _ _ (short k) _ _ (threads-at k) (counts (fitting t)) (all-taken (e .before)) long (t .take-lines .kept .1 .1 .1 .0) (e .if3 .left) _ _ (w .put-triples .ensures)
+    all-read _ _ (short k) _ _ (threads-at k) (counts (fitting t)) (all-taken (e .before)) (long k) (t .take-lines .kept .1 .1 .1 .0) (e .if3 .left) _ _ (w .put-triples .ensures)
 
 pub read-spec : {M : Type 1} → statement M
 read-spec =

@@ -1,19 +1,21 @@
 -- `script::run_from` meets its contract: the fresh entry turns a bad number of threads down, else the table's bytes are a fresh table (proofs/Entry).
-use Prim.Native.Nat.{ℕ}
+use Prim.Native.Nat.{ℕ, _≤_}
 use native.Mathlib.Omega.{arith}
 use mathlib.Core.Path.{_≡_, sym, ap}
 use borrow.Author.Needs.{needs}
 use lib.ListN.{length, replicate, length-replicate}
 use lib.Seq.{length-take-le}
 use Rattle.definitions.specs.Answers.{accepted, answerReply}
+use Rattle.definitions.specs.Bounds.{mostThreads}
+use Rattle.definitions.specs.Table.{size}
 use Rattle.definitions.specs.declared.Refusal.the-variants.{BadSize}
 use Rattle.script.proofs.Entry.{refused-count, good-count, size-fits, table-front, from-bad, from-fresh, begins-fresh, stopped-first, recorded-as}
 use Rattle.script.proofs.run_from.Statement.{statement}
 use Rattle.script.proofs.run_from.Tie as tie
 
--- the place for the table
-long : length (replicate {A = ℕ} 603 0) ≡ 603
-long = length-replicate {A = ℕ} 603 0
+-- the place for the table has the bytes of the largest
+long : size mostThreads ≤ length (replicate {A = ℕ} (size mostThreads) 0)
+long = omega (arith, length-replicate {A = ℕ} (size mostThreads) 0)
 
 -- a table was made
 abbrev start : tie.After-known-told → tie.Start
