@@ -1,7 +1,7 @@
 -- Bytes of which a task was written have the same size and as many threads.
 use Prim.Native.Nat.{ℕ, _<_}
 use mathlib.Core.List.{List}
-use mathlib.Core.Path.{_≡_, ap, sym, subst, _∙_}
+use mathlib.Core.Path.{ap, sym, subst, _∙_}
 use Rattle.definitions.specs.Table.{Table, tableOf, byteTable}
 use Rattle.definitions.specs.declared.Task.{Task}
 use Rattle.theory.specs.Tables.{Sized, taskWrites, putTask}

@@ -6,16 +6,17 @@ use mathlib.Core.List.{List}
 use mathlib.Core.Logic.{⊎-elim}
 use mathlib.Core.Path.{_≡_, sym, subst, ap, ap₂, _∙_}
 use lib.Dec.{T, leb, leb→le, le→leb}
-use lib.ListN.{getD}
 use Rattle.definitions.specs.Bounds.{lastPhase}
-use Rattle.definitions.specs.Table.{tableOf, phaseAt}
+use Rattle.definitions.specs.Table.{tableOf}
 use Rattle.definitions.specs.Threads.{lowest}
+use Rattle.definitions.specs.declared.Task.{Task}
 use Rattle.dispatching.specs.Ready.{ready}
 use Rattle.ready.proofs.ReadyBits.{ready-bit}
 use Rattle.requests.specs.RequestTests.{hasBit}
+use Rattle.theory.specs.Tables.{taskOf}
 use Rattle.theory.proofs.Lowest.{lowest-none, lowest-at, lowest-same}
 use Rattle.theory.proofs.Quantifiers.{below-suc, none-i}
-use Rattle.theory.proofs.Soundness.{sound-e}
+use Rattle.theory.proofs.Soundness.{task-fits}
 use Rattle.theory.proofs.Tests.{and-l, and-r, and-i, T-true, not-i, no-both}
 use Rattle.choice.specs.Choosing.{SearchedFor, lowestFrom}
 
@@ -49,14 +50,13 @@ module _ (from : ℕ) (f : ℕ → Bool) where
 pub of-all : (n : ℕ) (f : ℕ → Bool) → lowestFrom 0 n f ≡ lowest n f
 of-all n f = lowest-same n (λ t. leb 0 t && f t) f (λ j l. ap (λ (b : Bool). b && f j) (T-true (leb 0 j) (le→leb 0 j (omega arith))))
 
--- the phase of a thread, read at its place
-module _ (bytes : List ℕ) (to phases : ℕ) (h : SearchedFor bytes to phases) (i at : ℕ) (l : i < to) (e : at ≡ phaseAt i) where
-  below : tableOf bytes .phase i ≤ lastPhase
-  below = sound-e (tableOf bytes) (h .is-sound) .phases i (omega (arith, h .within))
+-- a thread's task that was read
+module _ (bytes : List ℕ) (to phases : ℕ) (h : SearchedFor bytes to phases) (i : ℕ) (l : i < to) {task : Task} (e : task ≡ taskOf (tableOf bytes) i) where
+  pub phase-fits : task .phase ≤ lastPhase
+  phase-fits = task-fits (tableOf bytes) (h .is-sound) i (omega (arith, h .within)) e
 
-  pub phase-fits : getD bytes at 0 ≤ lastPhase
-  phase-fits = subst (λ (k : ℕ). getD bytes k 0 ≤ lastPhase) (sym e) below
-
-  -- its bit says whether the thread is ready
-  pub ready-read : hasBit phases (getD bytes at 0) ≡ ready (tableOf bytes) i
-  ready-read = ap₂ hasBit (h .bits) (ap (λ (k : ℕ). getD bytes k 0) e) ∙ ready-bit (tableOf bytes .mutex) (tableOf bytes .busy (tableOf bytes .target)) (tableOf bytes .phase i) below
+  -- the bit of its phase says whether the thread is ready
+  pub ready-read : hasBit phases (task .phase) ≡ ready (tableOf bytes) i
+  ready-read =
+      let phase : task .phase ≡ tableOf bytes .phase i = ap (λ (t : Task). t .phase) e in
+      ap₂ hasBit (h .bits) phase ∙ ready-bit (tableOf bytes .mutex) (tableOf bytes .busy (tableOf bytes .target)) (tableOf bytes .phase i) (subst (λ (p : ℕ). p ≤ lastPhase) phase phase-fits)

@@ -1,12 +1,10 @@
 // The choice of a thread, and the request of that thread.
 use crate::searches::lowest_ready;
 use crate::searches::lowest_with;
+use layout::read_head;
+use layout::read_task;
 use ready::move_in;
 use ready::ready_phases;
-use table::MUTEX_AT;
-use table::TARGET_AT;
-use table::busy_at;
-use table::phase_at;
 ghost use Prim.Native.Nat.{ℕ, _<_};
 ghost use mathlib.Core.Path.{_≡_};
 ghost use Rattle.definitions.specs.Dispatch.{targetFor};
@@ -25,9 +23,11 @@ fn target_busy(table: &[u8], threads: usize) -> u8
     requires { ⌜ CountedFor (now table) threads ⌝ }
     ensures { λ r. ⌜ r ≡ tableOf (now (table .entry)) .busy (tableOf (now (table .entry)) .target) ⌝ }
 {
-    let target = table[TARGET_AT] as usize;
+    let head = read_head(table);
+    let target = head.target as usize;
     if target < threads {
-        return table[busy_at(target)];
+        let task = read_task(table, target);
+        return task.busy;
     }
     0
 }
@@ -37,9 +37,9 @@ fn phases_in(table: &[u8], threads: usize) -> u32
     requires { ⌜ CountedFor (now table) threads ⌝ }
     ensures { λ r. ⌜ r ≡ readyIn (tableOf (now (table .entry))) ⌝ }
 {
-    let mutex = table[MUTEX_AT];
+    let head = read_head(table);
     let busy = target_busy(table, threads);
-    ready_phases(mutex, busy)
+    ready_phases(head.mutex, busy)
 }
 
 // The target of a thread by its phase: "In 10 the target is the lowest thread with forbidden 0, in 15 the lowest with forbidden 1."
@@ -59,9 +59,9 @@ fn request_for(table: &[u8], threads: usize, thread: usize) -> Choice
     requires { ⌜ CountedFor (now table) threads × (thread < threads) ⌝ }
     ensures { λ r. ⌜ r ≡ requestFor (tableOf (now (table .entry))) thread ⌝ }
 {
-    let phase = table[phase_at(thread)];
-    let mv = move_in(phase);
-    let target = target_in(table, threads, phase);
+    let task = read_task(table, thread);
+    let mv = move_in(task.phase);
+    let target = target_in(table, threads, task.phase);
     Choice::Makes {
         thread: thread as u8,
         mv,

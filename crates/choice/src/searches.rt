@@ -1,7 +1,6 @@
 // Two searches over the threads, each from a lower number to a higher one.
+use layout::read_task;
 use ready::is_ready;
-use table::forbidden_at;
-use table::phase_at;
 ghost use mathlib.Core.Path.{_≡_};
 ghost use lib.Dec.{eqb};
 ghost use Rattle.definitions.specs.Table.{tableOf};
@@ -16,8 +15,8 @@ pub fn lowest_ready(table: &[u8], from: usize, to: usize, phases: u32) -> usize
 {
     let mut thread = from;
     while thread < to {
-        let phase = table[phase_at(thread)];
-        if is_ready(phases, phase) {
+        let task = read_task(table, thread);
+        if is_ready(phases, task.phase) {
             return thread;
         }
         thread += 1;
@@ -32,7 +31,8 @@ pub fn lowest_with(table: &[u8], threads: usize, flag: u8) -> usize
 {
     let mut thread: usize = 0;
     while thread < threads {
-        if table[forbidden_at(thread)] == flag {
+        let task = read_task(table, thread);
+        if task.forbidden == flag {
             return thread;
         }
         thread += 1;

@@ -2,9 +2,9 @@
 use definitions::Answer;
 use definitions::LAST_MOVE;
 use definitions::Refusal;
+use layout::read_head;
+use layout::read_task;
 use table::Examined;
-use table::MUTEX_AT;
-use table::phase_at;
 ghost use Prim.Native.Nat.{_≤_};
 ghost use mathlib.Core.List.{[]};
 ghost use mathlib.Core.Path.{_≡_};
@@ -103,14 +103,14 @@ pub fn open_moves(table: &[u8], thread: u16, out: &mut [u8]) -> Answer
             if threads <= i {
                 return Answer::Refused(Refusal::NoThread, 0);
             }
-            let mutex = table[MUTEX_AT];
-            let phase = table[phase_at(i)];
-            let moves = requests::moves_in(phase);
+            let head = read_head(table);
+            let task = read_task(table, i);
+            let moves = requests::moves_in(task.phase);
             let at = Mover {
                 threads,
-                phase,
+                phase: task.phase,
                 moves,
-                mutex,
+                mutex: head.mutex,
             };
             list_open(out, at)
         }

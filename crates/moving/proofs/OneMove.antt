@@ -4,18 +4,18 @@ use Prim.Native.Nat.{ℕ, _+_, _-_, _≤_, _<_}
 use native.Mathlib.Omega.{arith}
 use mathlib.Core.Bool.{Bool, cond}
 use mathlib.Core.Path.{_≡_, refl, sym, subst, subst⁻¹, ap, _∙_}
-use lib.Dec.{T, eqb}
+use lib.Dec.{eqb}
 use Rattle.definitions.specs.Answers.{accepted}
-use Rattle.definitions.specs.Moves.{effect, moveTests, moveAnswer, replyIn, stepIn}
+use Rattle.definitions.specs.Moves.{effect}
 use Rattle.definitions.specs.Table.{Table, Storage, applied}
 use Rattle.definitions.specs.declared.Request.{Request}
 use Rattle.arms.specs.View.{allForbiddenBut, othersBy, viewAt, viewOf, Decides}
 use Rattle.arms.specs.declared.Decided.{Decided}
 use Rattle.arms.specs.declared.View.{View}
 use Rattle.theory.specs.Statements.{subjectOf}
-use Rattle.theory.specs.Tables.{Keeps, Told, SoundIn, forbiddenCount, headOf, taskOf, putBack, headAfter, moverAfter, flagAfter}
+use Rattle.theory.specs.Tables.{Keeps, Told, forbiddenCount, headOf, taskOf, putBack, headAfter, moverAfter, flagAfter}
 use Rattle.moving.specs.Moved.{MoveTriedIn, TestedIn, AcceptingIn, viewBy}
-use Rattle.theory.proofs.MoveWrites.{subject-thread, writes-fit}
+use Rattle.theory.proofs.MoveWrites.{writes-fit}
 use Rattle.theory.proofs.Placed.{MadeBy, count-placed, store-law}
 use Rattle.theory.proofs.Quantifiers.{howMany-most}
 use Rattle.theory.proofs.Soundness.{sound-e}

@@ -1,8 +1,8 @@
 // The nodes of all threads.
 use definitions::Answer;
 use definitions::Refusal;
+use layout::read_task;
 use table::Examined;
-use table::phase_at;
 ghost use mathlib.Core.Path.{_≡_};
 ghost use Rattle.definitions.specs.Answers.{answerReply};
 ghost use Rattle.definitions.specs.Nodes.{nodesEntry};
@@ -63,8 +63,8 @@ fn put_nodes(table: &[u8], threads: usize, out: &mut [u8]) -> Answer
         return Answer::Refused(Refusal::NoRoom, 0);
     }
     for i in 0..threads {
-        let phase = table[phase_at(i)];
-        out[i] = node_of(phase);
+        let task = read_task(table, i);
+        out[i] = node_of(task.phase);
     }
     Answer::Done(threads)
 }

@@ -1,22 +1,19 @@
--- What the answers of `examine` mean to a caller: a refusal is that of the tests of a table, and a table found sound passes them and holds phases.
-use Prim.Native.Nat.{ℕ, _≤_, _<_}
+-- What the answers of `examine` mean to a caller: a refusal is that of the tests of a table, and a table found sound passes them.
+use Prim.Native.Nat.{ℕ}
 use native.Mathlib.Omega.{arith}
 use mathlib.Core.Bool.{Bool, true, false, cond}
 use mathlib.Core.List.{List}
-use mathlib.Core.Path.{_≡_, sym, subst, ap}
+use mathlib.Core.Path.{_≡_, ap}
 use lib.Dec.{T}
-use lib.ListN.{getD}
 use Rattle.definitions.specs.Answers.{accepted, refused, numberOf, answered, passesAll}
-use Rattle.definitions.specs.Bounds.{lastPhase}
 use Rattle.definitions.specs.Sound.{sound, tableTests}
-use Rattle.definitions.specs.Table.{phaseAt, tableOf, sized}
+use Rattle.definitions.specs.Table.{tableOf, sized}
 use Rattle.definitions.specs.declared.Refusal.{Refusal}
 use Rattle.definitions.specs.declared.Refusal.the-variants.{BadSize, Unsound}
 use Rattle.theory.specs.Tables.{SoundBytes, forbiddenCount}
 use Rattle.table.specs.TableTests.{examinedOf}
 use Rattle.table.specs.declared.tests.Examined.the-variants.{Sound, Refused}
 use Rattle.theory.proofs.Replies.{pass, no-test}
-use Rattle.theory.proofs.Soundness.{sound-e}
 
 -- whatever would be answered otherwise
 module _ {A : Type 0} (a : A) (n k : ℕ) (x : Refusal) where
@@ -56,7 +53,3 @@ sound-is bytes n k e =
 -- a sound table passes its tests
 pub sound-passes : (bytes : List ℕ) → SoundBytes bytes → T (passesAll (tableTests bytes))
 sound-passes bytes h = pass _ _ (h .is-sized) (pass _ _ (h .is-sound) no-test)
-
--- a phase that was read off a sound table
-pub phase-read : (bytes : List ℕ) (i at : ℕ) → SoundBytes bytes → i < tableOf bytes .threads → at ≡ phaseAt i → getD bytes at 0 ≤ lastPhase
-phase-read bytes i at h l e = subst (λ (k : ℕ). getD bytes k 0 ≤ lastPhase) (sym e) (sound-e (tableOf bytes) (h .is-sound) .phases i l)

@@ -5,11 +5,5 @@ mod tests;
 
 pub use fresh_table::fresh;
 pub use layout::MOST_SIZE;
-pub use layout::MUTEX_AT;
-pub use layout::TARGET_AT;
-pub use layout::THREADS_AT;
-pub use layout::busy_at;
-pub use layout::forbidden_at;
-pub use layout::phase_at;
 pub use tests::Examined;
 pub use tests::examine;

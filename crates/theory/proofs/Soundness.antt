@@ -4,7 +4,7 @@ use native.Mathlib.Omega.{arith}
 use mathlib.Core.Bool.{Bool, cond, not, _&&_, _||_}
 use mathlib.Core.List.{List, [], _∷_}
 use mathlib.Core.Logic.{_⊎_, inl, inr, ⊎-elim}
-use mathlib.Core.Path.{_≡_, sym, subst, _∙_}
+use mathlib.Core.Path.{_≡_, sym, subst, subst⁻¹, _∙_}
 use lib.Dec.{T, leb, ltb, eqb, leb→le, le→leb, ltb→lt, lt→ltb, eqb→eq}
 use Rattle.definitions.specs.Bounds.{lastPhase, noTarget}
 use Rattle.definitions.specs.Phases.{rows, busyIn, holds, reading}
@@ -12,6 +12,8 @@ use Rattle.definitions.specs.Sound.{sound, anyHolder, holderIn, opened, holderO
 use Rattle.definitions.specs.Sound.{phaseRule, flagRule, busyRule, holderRule, mutexRule, targetRule, openRule, rule10, rule11, rule13, rule15, elsewhereRule}
 use Rattle.definitions.specs.Table.{Table}
 use Rattle.definitions.specs.Threads.{every, some, howMany, between, allOf, implies}
+use Rattle.definitions.specs.declared.Task.{Task}
+use Rattle.theory.specs.Tables.{taskOf}
 use Rattle.theory.proofs.Quantifiers.{every-at, every-i, some-i, some-e, not-every, at-most-one, one-at-most}
 use Rattle.theory.proofs.Tests.{and-l, and-r, and-i, or-e, or-l, or-r, decided, no-both, not-i, implies-e, implies-i, cond-yes, cond-no, eq-T, T-ne}
 
@@ -374,3 +376,7 @@ sound-i s z =
     (add-rule _ _ (rule11-i s (z .guarded-11))
     (add-rule _ _ (rule13-i s (z .all-forbidden) (z .no-reader))
     (add-rule _ _ (rule15-i s (z .some-forbidden)) (add-rule _ _ (elsewhere-i s (z .elsewhere)) none-left)))))))))))
+
+-- a task of a sound table is in one of the phases
+pub task-fits : (s : Table) → T (sound s) → (i : ℕ) → i < s .threads → {task : Task} → task ≡ taskOf s i → task .phase ≤ lastPhase
+task-fits s t i l e = subst⁻¹ (λ (x : Task). x .phase ≤ lastPhase) e (sound-e s t .phases i l)

@@ -1,7 +1,7 @@
 -- `store` meets its contract: the mover, then the subject with its forbidden, then the head.
 use Prim.Native.Nat.{ℕ, _<_}
 use mathlib.Core.List.{List}
-use mathlib.Core.Path.{_≡_, refl, ap, sym, subst⁻¹, _∙_}
+use mathlib.Core.Path.{_≡_, refl, ap, subst⁻¹, _∙_}
 use borrow.Author.Needs.{needs}
 use Rattle.definitions.specs.Table.{tableOf, byteTable}
 use Rattle.definitions.specs.declared.Head.{Head}

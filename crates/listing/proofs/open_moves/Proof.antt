@@ -1,13 +1,17 @@
 -- `open_moves` meets its contract: the answer of `examine` gives the refusals 1 and 2, or a sound table to read from.
-use Prim.Native.Nat.{ℕ}
+use Prim.Native.Nat.{ℕ, _≤_}
 use native.Mathlib.Omega.{arith}
 use mathlib.Core.List.{List}
-use mathlib.Core.Path.{refl, sym, ap, _∙_}
+use mathlib.Core.Path.{sym, ap, _∙_}
 use borrow.Author.Needs.{needs}
-use lib.ListN.{getD}
+use Rattle.definitions.specs.Bounds.{lastPhase}
+use Rattle.definitions.specs.Table.{tableOf}
+use Rattle.definitions.specs.declared.Head.{Head}
+use Rattle.definitions.specs.declared.Task.{Task}
 use Rattle.theory.specs.Tables.{Sized}
-use Rattle.table.proofs.TableTests.{SoundTable, sound-is, phase-read}
+use Rattle.table.proofs.TableTests.{SoundTable, sound-is}
 use Rattle.theory.proofs.Bytes.{sized-e}
+use Rattle.theory.proofs.Soundness.{task-fits}
 use Rattle.listing.proofs.OpenAnswer.{table-refused, no-thread, listed}
 use Rattle.listing.proofs.open_moves.Statement.{statement}
 use Rattle.listing.proofs.open_moves.Tie as tie
@@ -31,28 +35,30 @@ returns c =
     let told = c .before in
     no-thread (table told) (start told .args .thread) (start told .args .out .now) (found told .tested) (omega (arith, found told .threads))
 
-shared-slice-read-mutex : tie.Need-shared-slice-read-mutex
-shared-slice-read-mutex c = omega (arith, size (c .before .before))
+read-head-requires : tie.Need-read-head-requires
+read-head-requires c κs = size (c .before)
 
-shared-slice-read-phase : tie.Need-shared-slice-read-phase
-shared-slice-read-phase c =
-    let told = c .before .before .before .before in
-    omega (arith, size told, found told .threads)
+read-task-requires : tie.Need-read-task-requires
+read-task-requires c κs =
+    let told = c .before .before in
+    (size told, omega (arith, found told .threads))
+
+-- the phase that was read
+phase-fits : (c : tie.After-read-task) → c .read-task .result .phase ≤ lastPhase
+phase-fits c =
+    let told = c .before .before .before in
+    task-fits (tableOf (table told)) (found told .tested .is-sound) (start told .args .thread) (omega (arith, found told .threads)) (c .read-task .ensures)
 
 moves-in-requires : tie.Need-moves-in-requires
-moves-in-requires c κs =
-    let at = c .before in
-    let told = at .before .before .before in
-    phase-read (table told) (start told .args .thread) _ (found told .tested) (omega (arith, found told .threads)) (at .phase-at .ensures)
+moves-in-requires c κs = phase-fits c
 
 list-open-requires : tie.Need-list-open-requires
 list-open-requires c κs =
     let moves = c .before in
-    let at = moves .before .before in
-    let told = at .before .before .before in
+    let told = moves .before .before .before .before in
     record {
       few = omega (arith, size told, found told .threads);
-      known = phase-read (table told) (start told .args .thread) _ (found told .tested) (omega (arith, found told .threads)) (at .phase-at .ensures);
+      known = phase-fits (moves .before);
       bits = moves .moves-in .ensures;
     }
 
@@ -66,10 +72,11 @@ returns-2 c =
 returns-3 : tie.Need-returns-3
 returns-3 c =
     let list = c .before .before in
-    let at = list .before .before .before .before in
-    let told = at .before .before .before in
+    let task = list .before .before .before in
+    let head = task .before in
+    let told = head .before .before in
     listed (table told) (start told .args .thread) (start told .args .out .now) (found told .tested) _ _ _ (omega (arith, found told .threads))
-    (found told .threads) (ap (λ (k : ℕ). getD (table told) k 0) (at .phase-at .ensures)) refl (list .list-open .ensures)
+    (found told .threads) (ap (λ (t : Task). t .phase) (task .read-task .ensures)) (ap (λ (h : Head). h .mutex) (head .read-head .ensures)) (list .list-open .ensures)
 
 pub open-moves-spec : {M : Type 1} → statement M
 open-moves-spec =
@@ -79,9 +86,8 @@ open-moves-spec =
     (λ c. search needs)
     (λ c. search needs)
     returns
-    shared-slice-read-mutex
-    (λ c κs. search needs)
-    shared-slice-read-phase
+    read-head-requires
+    read-task-requires
     moves-in-requires
     list-open-requires
     returns-2

@@ -4,12 +4,13 @@ use native.Mathlib.Omega.{arith}
 use mathlib.Core.List.{List, [], _∷_}
 use mathlib.Core.Path.{_≡_, sym, ap, _∙_}
 use borrow.Author.Needs.{needs}
-use lib.ListN.{length, getD, set}
+use lib.ListN.{length, set}
 use Rattle.definitions.specs.Answers.{accepted, refused, filled}
 use Rattle.definitions.specs.Nodes.{nodesOf, nodesEntry}
 use Rattle.definitions.specs.Phases.{nodeOf}
 use Rattle.definitions.specs.Table.{tableOf}
 use Rattle.definitions.specs.Threads.{listOf}
+use Rattle.definitions.specs.declared.Task.{Task}
 use Rattle.theory.specs.Outputs.{PutAt, Delivered}
 use Rattle.theory.specs.Tables.{SoundBytes}
 use Rattle.table.proofs.TableTests.{sound-passes}
@@ -59,13 +60,18 @@ loop-holds c =
     let a = c .before .before .before .args in
     parts-none record { ends = omega (arith, length-listOf (a .threads) (nodeIn (a .table .now))) }
 
+read-task-requires : tie.Need-read-task-requires Inv-loop μ-loop
+read-task-requires c κs =
+    let start = c .before .before .before .before .before in
+    (sized-e _ (start .pre .0 .is-sized), omega (arith, start .pre .1))
+
 loop-again : tie.Need-loop-again Inv-loop μ-loop
 loop-again c =
-    let at = c .before .before .before .before in
+    let read = c .before .read-task in
+    let at = c .before .before .before in
     let a = at .before .before .before .before .args in
-    let table = a .table .now in
-    let node = c .node-of .ensures ∙ ap (λ (k : ℕ). nodeOf (getD table k 0)) (c .before .before .phase-at .ensures) in
-    one-more (a .threads) (nodeIn table) (a .out .now) (at .loop .out) (at .loop .i) _ (at .loop .inv) (omega arith) node
+    let node = c .node-of .ensures ∙ ap (λ (t : Task). nodeOf (t .phase)) (read .ensures) in
+    one-more (a .threads) (nodeIn (a .table .now)) (a .out .now) (at .loop .out) (at .loop .i) _ (at .loop .inv) (omega arith) node
 
 returns-2 : tie.Need-returns-2 Inv-loop μ-loop
 returns-2 c =
@@ -82,8 +88,7 @@ put-nodes-spec =
     μ-loop
     returns
     loop-holds
-    (λ c κs. omega (arith, sized-e _ (c .before .before .before .before .before .pre .0 .is-sized)))
-    (λ c. omega (arith, sized-e _ (c .before .before .before .before .before .before .before .pre .0 .is-sized)))
+    read-task-requires
     (λ c κs. search needs)
     (λ c. omega arith)
     (λ c. omega arith)

@@ -2,10 +2,12 @@
 use Prim.Native.Nat.{ℕ, _≤_}
 use native.Mathlib.Omega.{arith}
 use mathlib.Core.List.{List}
-use mathlib.Core.Path.{_≡_, sym, ap}
+use mathlib.Core.Path.{_≡_, sym, ap, _∙_}
 use borrow.Author.Needs.{needs}
-use lib.ListN.{getD, List·getD-eq-default}
+use lib.ListN.{List·getD-eq-default}
 use Rattle.definitions.specs.Table.{tableOf}
+use Rattle.definitions.specs.declared.Head.{Head}
+use Rattle.definitions.specs.declared.Task.{Task}
 use Rattle.theory.specs.Tables.{Sized}
 use Rattle.choice.proofs.request.target_busy.Statement.{statement}
 use Rattle.choice.proofs.request.target_busy.Tie as tie
@@ -14,17 +16,23 @@ use Rattle.choice.proofs.request.target_busy.Tie as tie
 beyond : (bytes : List ℕ) (i : ℕ) → Sized bytes → tableOf bytes .threads ≤ i → 0 ≡ tableOf bytes .busy i
 beyond bytes i h l = sym (List·getD-eq-default bytes 0 (omega (arith, h .long)))
 
+-- the target that was read is the table's
+target-is : (c : tie.After-read-head) → c .read-head .result .target ≡ tableOf (c .before .before .args .table .now) .target
+target-is c = ap (λ (h : Head). h .target) (c .read-head .ensures)
+
 pub target-busy-spec : {M : Type 1} → statement M
 target-busy-spec =
     tie.close
     (tie.spec
+    (λ c κs. c .before .pre .size)
     (λ c. search needs)
-    (λ c. omega (arith, c .shared-slice-known2 .given 2))
-    (λ c κs. omega (arith, c .before .before .before .pre .size .most))
-    (λ c. search needs)
+    (λ c κs.
+    let start = c .before .before .before .before in
+    (start .pre .size, omega (arith, c .if1 .taken, start .pre .count)))
     (λ c.
-    let called = c .before in
-    ap (λ (k : ℕ). getD (called .before .before .before .before .args .table .now) k 0) (called .busy-at .ensures))
+    let read = c .before .before .before in
+    ap (λ (t : Task). t .busy) (c .read-task .ensures) ∙ ap (tableOf (read .before .before .args .table .now) .busy) (target-is read))
     (λ c.
-    let start = c .before .before .before in
-    beyond (start .args .table .now) _ (start .pre .size) (omega (arith, c .if1 .left, start .pre .count))))
+    let read = c .before .before in
+    let start = read .before .before in
+    beyond (start .args .table .now) _ (start .pre .size) (omega (arith, c .if1 .left, start .pre .count, target-is read))))

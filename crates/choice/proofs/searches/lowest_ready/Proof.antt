@@ -20,7 +20,7 @@ abbrev μ-loop : tie.MeasureT-loop
 -- a thread whose phase's bit was looked at: where the search stands, and what the bit says
 module _ (c : tie.After-is-ready Inv-loop μ-loop) where
   abbrev turn : tie.In-loop Inv-loop μ-loop
-  turn = c .before .before .before
+  turn = c .before .before
 
   abbrev thread : ℕ
   thread = turn .before .loop .thread
@@ -32,7 +32,7 @@ module _ (c : tie.After-is-ready Inv-loop μ-loop) where
   isReady = ready (tableOf (start .args .table .now))
 
   bit-is : c .is-ready .result ≡ isReady thread
-  bit-is = c .is-ready .ensures ∙ ready-read (start .args .table .now) _ _ (start .pre) thread _ (turn .loop-test .taken) (c .before .before .phase-at .ensures)
+  bit-is = c .is-ready .ensures ∙ ready-read (start .args .table .now) _ _ (start .pre) thread (turn .loop-test .taken) (c .before .read-task .ensures)
 
 pub lowest-ready-spec : {M : Type 1} → statement M
 lowest-ready-spec =
@@ -41,13 +41,12 @@ lowest-ready-spec =
     Inv-loop
     μ-loop
     (λ c. starts _ _)
-    (λ c κs. omega (arith, c .loop-test .taken, c .before .before .before .pre .within, c .before .before .before .pre .size))
-    (λ c.
-    let start = c .before .before .before .before .before in
-    omega (arith, c .before .before .loop-test .taken, c .before .phase-at .ensures, start .pre .within, start .pre .size))
     (λ c κs.
-    let start = c .before .before .before .before .before in
-    phase-fits (start .args .table .now) _ _ (start .pre) _ _ (c .before .before .loop-test .taken) (c .before .phase-at .ensures))
+    let start = c .before .before .before in
+    (start .pre .size, omega (arith, c .loop-test .taken, start .pre .within)))
+    (λ c κs.
+    let start = c .before .before .before .before in
+    phase-fits (start .args .table .now) _ _ (start .pre) _ (c .before .loop-test .taken) (c .read-task .ensures))
     (λ c.
     let asked = c .before in
     found-here _ (isReady asked) _ (thread asked) (turn asked .before .loop .inv) (turn asked .loop-test .taken) (subst T (bit-is asked) (true-T _ (c .if1 .taken))))

@@ -5,9 +5,9 @@ use mathlib.Core.Bool.{Bool}
 use mathlib.Core.List.{List}
 use mathlib.Core.Path.{_≡_, sym, ap, _∙_}
 use lib.Dec.{eqb}
-use lib.ListN.{getD}
 use Rattle.definitions.specs.Table.{tableOf}
 use Rattle.definitions.specs.Threads.{lowest}
+use Rattle.definitions.specs.declared.Task.{Task}
 use Rattle.theory.proofs.Tests.{eq-T, ne-T}
 use Rattle.choice.specs.Choosing.{lowestFrom}
 use Rattle.choice.proofs.SearchLaws.{Passed, starts, one-further, found-here, found-none, of-all}
@@ -28,7 +28,7 @@ all-threads : (bytes : List ℕ) (n flag : ℕ) → n ≡ tableOf bytes .threads
 all-threads bytes n flag e = of-all n (hasFlag bytes flag) ∙ ap (λ (k : ℕ). lowest k (hasFlag bytes flag)) e
 
 -- a thread whose flag was read: where the search stands, and what was read
-module _ (c : tie.After-shared-slice-known2 Inv-loop μ-loop) where
+module _ (c : tie.After-struct-known Inv-loop μ-loop) where
   abbrev turn : tie.In-loop Inv-loop μ-loop
   turn = c .before .before
 
@@ -38,8 +38,8 @@ module _ (c : tie.After-shared-slice-known2 Inv-loop μ-loop) where
   abbrev start : tie.Start Inv-loop μ-loop
   start = turn .before .before .before
 
-  read : tableOf (start .args .table .now) .forbidden thread ≡ getD (start .args .table .now) (c .before .forbidden-at .result) 0
-  read = ap (λ (k : ℕ). getD (start .args .table .now) k 0) (sym (c .before .forbidden-at .ensures))
+  read : tableOf (start .args .table .now) .forbidden thread ≡ c .before .read-task .result .forbidden
+  read = sym (ap (λ (t : Task). t .forbidden) (c .before .read-task .ensures))
 
 pub lowest-with-spec : {M : Type 1} → statement M
 lowest-with-spec =
@@ -48,8 +48,9 @@ lowest-with-spec =
     Inv-loop
     μ-loop
     (λ c. starts 0 _)
-    (λ c κs. omega (arith, c .loop-test .taken, c .before .before .before .pre))
-    (λ c. omega (arith, turn c .loop-test .taken, c .before .forbidden-at .ensures, start c .pre .count, start c .pre .size))
+    (λ c κs.
+    let start = c .before .before .before in
+    (start .pre .size, omega (arith, c .loop-test .taken, start .pre .count)))
     (λ c.
     let asked = c .before in
     found-here 0 _ _ (thread asked) (turn asked .before .loop .inv) (turn asked .loop-test .taken) (eq-T _ _ (read asked ∙ c .if1 .taken))

@@ -1,10 +1,10 @@
 -- `test_request` meets its contract: the thread's test, then those of the mover.
 use Prim.Native.Nat.{ℕ, _≤_, _<_}
 use mathlib.Core.List.{List}
-use mathlib.Core.Path.{_≡_, refl, subst, subst⁻¹, ap, _∙_}
+use mathlib.Core.Path.{_≡_, refl, subst, ap, _∙_}
 use borrow.Author.Needs.{needs}
 use borrow.Author.Tests.{lt-ltb, le-ltb}
-use Rattle.definitions.specs.Answers.{Reply, answered}
+use Rattle.definitions.specs.Answers.{answered}
 use Rattle.definitions.specs.Bounds.{lastPhase}
 use Rattle.definitions.specs.Moves.{requestTests}
 use Rattle.definitions.specs.Table.{tableOf}
@@ -17,7 +17,7 @@ use Rattle.requests.specs.declared.Tested.{Tested}
 use Rattle.requests.specs.declared.Tested.the-variants.{Refused}
 use Rattle.theory.specs.Tables.{SoundBytes, headOf, taskOf}
 use Rattle.theory.proofs.Bytes.{sized-e}
-use Rattle.theory.proofs.Soundness.{sound-e}
+use Rattle.theory.proofs.Soundness.{task-fits}
 use Rattle.lock.proofs.request.test_request.Statement.{statement}
 use Rattle.lock.proofs.request.test_request.Tie as tie
 
@@ -32,7 +32,7 @@ module _ (bytes : List ℕ) (r : Request) (head : Head) (e : head ≡ headOf (ta
 
     module _ (mover : Task) (f : mover ≡ taskOf (tableOf bytes) (r .thread)) where
       phase-fits : SoundBytes bytes → mover .phase ≤ lastPhase
-      phase-fits h = subst⁻¹ (λ (x : Task). x .phase ≤ lastPhase) f (sound-e (tableOf bytes) (h .is-sound) .phases (r .thread) below)
+      phase-fits h = task-fits (tableOf bytes) (h .is-sound) (r .thread) below f
 
       later : (x : Tested) → testedReply x ≡ answered (laterTests head mover r) tt → testedReply x ≡ answered (requestTests (tableOf bytes) r) tt
       unfolding answered

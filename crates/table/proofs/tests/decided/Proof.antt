@@ -1,13 +1,11 @@
 -- `decided` meets its contract: what it hands over are the head and the task of a thread of the table.
 use Prim.Native.Nat.{ℕ, _≤_, _<_}
-use mathlib.Core.Bool.{Bool, cond}
-use mathlib.Core.Path.{_≡_, sym, subst, ap, _∙_}
+use mathlib.Core.Path.{sym, subst, ap, _∙_}
 use borrow.Author.Needs.{needs}
 use lib.Dec.{ltb, ltb→lt}
 use Rattle.definitions.specs.Table.{tableOf}
 use Rattle.definitions.specs.declared.Head.{Head}
 use Rattle.soundness.specs.Pass.{soundBy, aimedAt, passes}
-use Rattle.soundness.specs.declared.Tally.{Tally}
 use Rattle.theory.specs.Tables.{headOf, taskOf}
 use Rattle.theory.proofs.Tests.{cond-either}
 use Rattle.table.proofs.tests.decided.Statement.{statement}
