@@ -2,3 +2,5 @@
 pub mod Apart
 pub mod Small
 pub mod Told
+-- the lines of the page of promises
+pub mod Citations

@@ -9,3 +9,5 @@ pub mod ToExclusive
 pub mod OnBytes
 pub mod EveryArrow
 pub mod FigureExact
+-- the lines of the page of promises
+pub mod Citations

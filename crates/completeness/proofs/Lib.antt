@@ -5,3 +5,5 @@ pub mod BeforeHolder
 pub mod StepBack
 pub mod FromFresh
 pub mod Completeness
+-- the lines of the page of promises
+pub mod Citations

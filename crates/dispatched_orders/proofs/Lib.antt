@@ -1,1 +1,3 @@
 pub mod StepsSafe
+-- the lines of the page of promises
+pub mod Citations

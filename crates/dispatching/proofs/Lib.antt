@@ -5,3 +5,5 @@ pub mod TurnReplies
 pub mod TurnIsMove
 pub mod WaitingExactly
 pub mod WaitingMeans
+-- the lines of the page of promises
+pub mod Citations

@@ -8,3 +8,5 @@ pub mod CheckReply
 pub mod PlanEntry
 pub mod HistoryBytes
 pub mod EveryOrder
+-- the lines of the page of promises
+pub mod Citations

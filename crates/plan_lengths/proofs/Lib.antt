@@ -3,3 +3,5 @@ pub mod ByRounds
 pub mod RoundCosts
 pub mod LongestHistory
 pub mod Longest
+-- the lines of the page of promises
+pub mod Citations

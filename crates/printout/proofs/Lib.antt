@@ -1,1 +1,3 @@
 pub mod Output
+-- the lines of the page of promises
+pub mod Citations

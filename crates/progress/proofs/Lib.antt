@@ -11,3 +11,5 @@ pub mod InTurn
 pub mod LimitReached
 pub mod NoStandstill
 pub mod PlanRetries
+-- the lines of the page of promises
+pub mod Citations

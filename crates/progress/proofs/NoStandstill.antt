@@ -15,7 +15,8 @@ use Rattle.definitions.specs.Sound.{anyHolder}
 use Rattle.definitions.specs.Table.{Table, tableOf, byteTable}
 use Rattle.definitions.specs.Threads.{every, among, implies}
 use Rattle.definitions.specs.declared.Request.{Request}
-use Rattle.progress.specs.Progress.{NotFree, CanMove}
+use Rattle.progress.specs.Progress.{CanMove}
+use Rattle.theory.specs.Statements.{NotFree}
 use Rattle.theory.specs.Tables.{SoundBytes}
 use Rattle.theory.proofs.Bytes.{sized-e}
 use Rattle.theory.proofs.Chains.{one, all-16}

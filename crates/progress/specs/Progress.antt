@@ -7,10 +7,8 @@ use lib.Dec.{T}
 use lib.ListN.{length}
 use Rattle.definitions.specs.Bounds.{noTarget}
 use Rattle.definitions.specs.Chains.{tableAfter, Fits16, AllFit16}
-use Rattle.definitions.specs.Codes.{Free}
 use Rattle.definitions.specs.Moves.{isRetry, isCall, stepIn, acceptsIn}
-use Rattle.definitions.specs.Phases.{nodeOf}
-use Rattle.definitions.specs.Table.{Storage, tableOf, byteTable, fresh}
+use Rattle.definitions.specs.Table.{Storage, byteTable, fresh}
 use Rattle.definitions.specs.Threads.{gather}
 use Rattle.definitions.specs.declared.Request.{Request}
 use Rattle.completeness.specs.Reached.{Reached}
@@ -44,10 +42,6 @@ pub record LimitReached (n : ℕ) : Type 0 where
   pub progress : T (progresses (allCalled n) requests)
   pub many : length requests ≡ mostProgress n
   pub leaves : tableAfter (allCalled n) requests ≡ fresh n
-
--- thread i isn't Free
-abbrev pub NotFree : List ℕ → ℕ → Type 0
-NotFree table i = nodeOf (tableOf table .phase i) ≡ Free → ⊥
 
 -- some 16-bit request that is no call is accepted
 abbrev pub CanMove : List ℕ → Type 0

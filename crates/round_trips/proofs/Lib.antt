@@ -6,3 +6,5 @@ pub mod WrittenRead
 pub mod Rooms
 pub mod PlanWriteRun
 pub mod RefusedAlike
+-- the lines of the page of promises
+pub mod Citations

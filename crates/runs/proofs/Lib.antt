@@ -7,3 +7,5 @@ pub mod LastLine
 pub mod Suffices
 pub mod StepsAndEvents
 pub mod RetriesCounted
+-- the lines of the page of promises
+pub mod Citations

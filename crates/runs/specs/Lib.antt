@@ -1,2 +1,5 @@
 pub mod Requests
 pub mod Length
+-- on the page of promises
+pub mod RunRooms
+pub mod PrintedRun

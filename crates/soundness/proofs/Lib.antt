@@ -4,3 +4,5 @@ pub mod Threads
 pub mod Holders
 pub mod Rules
 pub mod OnePass
+-- the lines of the page of promises
+pub mod Citations

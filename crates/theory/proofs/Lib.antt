@@ -42,4 +42,7 @@ pub mod Figure1
 pub mod NodesSeen
 pub mod Discipline
 pub mod OpenMovesExact
+pub mod ExactRooms
 pub mod SameCount
+-- the lines of the page of promises
+pub mod Citations

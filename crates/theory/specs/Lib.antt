@@ -4,3 +4,7 @@ pub mod EachOnce
 pub mod Tables
 pub mod Statements
 pub mod ShortestLines
+-- on the page of promises
+pub mod TableEntries
+pub mod EachMove
+pub mod PlanCounted

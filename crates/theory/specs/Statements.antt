@@ -1,4 +1,4 @@
--- The words of the theorems' statements: what is seen of a move from outside, who may write what and the subject of a move, what a reader uses, and a pair that stands in a list.
+-- The words of the theorems' statements: what is seen of a move from outside, a thread that isn't Free, who may write what and the subject of a move, what a reader uses, and a pair that stands in a list.
 use Prim.Native.Nat.{ℕ, _+_, _*_, _<_}
 use mathlib.Core.Bool.{Bool, cond, not, _&&_, _||_}
 use mathlib.Core.List.{List, [], _∷_}
@@ -6,9 +6,10 @@ use mathlib.Core.Path.{_≡_}
 use lib.Dec.{T, eqb}
 use lib.ListN.{length, getD}
 use Rattle.definitions.specs.Answers.{accepted, Seen, moved}
-use Rattle.definitions.specs.Codes.{go, callShared, hold}
+use Rattle.definitions.specs.Codes.{Free, go, callShared, hold}
 use Rattle.definitions.specs.Moves.{isRetry, namesThread, takesMutex, moveReply, moveTable}
 use Rattle.definitions.specs.Nodes.{nodesOf, Figure1}
+use Rattle.definitions.specs.Phases.{nodeOf}
 use Rattle.definitions.specs.Sound.{opened}
 use Rattle.definitions.specs.Table.{Table, Write, mutex≔, target≔, phase≔, busy≔, forbidden≔, tableOf, phaseAt, busyAt, forbiddenAt}
 use Rattle.definitions.specs.Threads.{between}
@@ -21,6 +22,10 @@ pub record OutsideView (bytes : List ℕ) (r : Request) : Type 0 where
   pub seen : Seen
   pub reply : moveReply bytes r ≡ accepted (moved seen (isRetry (tableOf bytes) r))
   pub moves : Figure1 (nodesOf (tableOf bytes)) (r .thread) seen (nodesOf (tableOf (moveTable bytes r)))
+
+-- thread i isn't Free
+abbrev pub NotFree : List ℕ → ℕ → Type 0
+NotFree table i = nodeOf (tableOf table .phase i) ≡ Free → ⊥
 
 -- ---- who writes what
 

@@ -11,3 +11,5 @@ pub mod TurnLimit
 pub mod InOrder
 pub mod LongestTable
 pub mod TurnLimitReached
+-- the lines of the page of promises
+pub mod Citations

@@ -4,3 +4,5 @@ pub mod EventSteps
 pub mod Questions
 pub mod Reaching
 pub mod EveryEvent
+-- the lines of the page of promises
+pub mod Citations
