@@ -1,4 +1,4 @@
--- The numbers tell the replies: no two replies of an entry have the same number, and the values that are answered are small.
+-- The numbers tell the replies: where two calls of an entry answer the same number, their replies are the same. The values that are answered are small.
 use Prim.Native.Nat.{ℕ, _*_, _≤_}
 use mathlib.Core.List.{List}
 use mathlib.Core.Path.{_≡_}
@@ -12,7 +12,8 @@ use Rattle.definitions.specs.Watch.{questionReply}
 use Rattle.definitions.specs.declared.Request.{Request}
 use Rattle.definitions.specs.declared.Watcher.{Watcher}
 use Rattle.answer_numbers.specs.Calls.{CountCall, countReply, WatchCall, watchReply}
-use Rattle.answer_numbers.specs.Encoding.{retryUnit, seenValue, turnValue, countValue, listedValue, Below, valueBound, held, moveNumber, turnNumber, runNumber, countNumber, watchNumber, insideNumber, readNumber}
+use Rattle.answer_numbers.specs.Encoding.{retryUnit, seenValue, turnValue, countValue, listedValue, Below, valueBound, held}
+use Rattle.answer_numbers.specs.Encoding.{moveNumber, turnNumber, runNumber, countNumber, watchNumber, insideNumber, readNumber}
 
 pub record NumbersTold : Type 0 where
   -- The number that an entry answers tells its reply, whatever it was lent and asked. `CountCall` lists the calls of the entries that answer a count, writing's among them, and `WatchCall` those of

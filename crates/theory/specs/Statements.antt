@@ -1,4 +1,5 @@
--- The words of the theorems' statements: what is seen of a move from outside, a thread that isn't Free, who may write what and the subject of a move, what a reader uses, and a pair that stands in a list.
+-- The words of the theorems' statements: what is seen of a move from outside, a thread that isn't Free, who may write what and the subject of a move, what a reader uses,
+-- and a pair that stands in a list.
 use Prim.Native.Nat.{ℕ, _+_, _*_, _<_}
 use mathlib.Core.Bool.{Bool, cond, not, _&&_, _||_}
 use mathlib.Core.List.{List, [], _∷_}

@@ -1,4 +1,4 @@
--- The entries on a table: a refused move leaves it, and which outputs have room for a fresh table, for the nodes and for the open moves.
+-- The entries on a table: a refused move leaves every byte of it, and which outputs have room for a fresh table, for the nodes and for the open moves.
 use Prim.Native.Nat.{ℕ, _*_, _≤_}
 use mathlib.Core.Bool.{not}
 use mathlib.Core.List.{List}
