@@ -3,46 +3,29 @@ use Prim.Native.Nat.{ℕ, zero, suc, _+_, _*_, _/_, _%_, _≤_, _<_}
 use native.Mathlib.Omega.{arith}
 use mathlib.Core.Bool.{Bool, true, false, _&&_}
 use mathlib.Core.List.{List, [], _∷_}
-use mathlib.Core.Logic.{_⊎_, inl, inr}
 use mathlib.Core.Path.{_≡_, refl, sym, subst, ap, _∙_, fun-ext}
 use lib.Dec.{T, leb, eqb, leb→le, le→leb, eqb→eq}
 use lib.ListN.{length, getD, set, take, replicate, length-set, length-replicate}
-use lib.Seq.{getD-set-same, getD-set-other}
 use Rattle.definitions.specs.Answers.{numberOf, accepted, refused, Test, test, answered, passesAll}
 use Rattle.definitions.specs.Bounds.{mostThreads, mostHistory}
-use Rattle.definitions.specs.PlainLock.{Pair, pairsOf, Places, placesIn, atStart, placeAfter, advanced, placesAfter, pairTests, testsOf, formTests, pairsTests, checkTests}
+use Rattle.definitions.specs.PlainLock.{Pair, pairsOf, Places, placesIn, atStart, advanced, placesAfter, pairTests, testsOf, formTests, pairsTests, checkTests}
 use Rattle.definitions.specs.Table.{countFits}
 use Rattle.definitions.specs.Threads.{gather}
 use Rattle.definitions.specs.declared.Refusal.{Refusal}
-use Rattle.history.specs.Counts.{totalAt, standingOf, standingAfter, Counted}
-use Rattle.history.specs.declared.Standing.{Standing}
-use Rattle.history.specs.declared.Verdict.{Verdict}
-use Rattle.history.specs.declared.Verdict.the-variants.{Fits, Bad}
+use Rattle.plain_lock.specs.Counts.{totalAt, standingOf, standingAfter, Counted}
+use Rattle.plain_lock.specs.declared.Standing.{Standing}
+use Rattle.plain_lock.specs.declared.Verdict.{Verdict}
+use Rattle.plain_lock.specs.declared.Verdict.the-variants.{Fits, Bad}
 use Rattle.theory.proofs.Lengths.{pairs-length}
 use Rattle.theory.proofs.Lists.{zeros}
 use Rattle.theory.proofs.Pairs.{pairAt}
 use Rattle.theory.proofs.Quantifiers.{howMany-none}
 use Rattle.theory.proofs.Replies.{all-passed, passed, failed, peel, pass, no-test}
 use Rattle.theory.proofs.TestLists.{passes-split, passes-join, one-more, first-failed}
-use Rattle.theory.proofs.Tests.{and-l, and-r, and-i, true-T, false-T, eq-T, same?}
-use Rattle.theory.proofs.Writes.{update-same, update-other}
-use Rattle.history.proofs.PlainLaws.{noPair, places-more, in-round}
-use Rattle.history.proofs.StandingLaws.{is-counted, same-standing}
-use Rattle.history.proofs.VerdictLaws.{VerdictOf, bad-verdict, fit-verdict}
-
--- ---- the places that an array holds
-
-pub placesIn-set : (a : List ℕ) (x : Pair) → x .thread < length a → placesIn (set a (x .thread) (placeAfter (x .event))) ≡ advanced (placesIn a) x
-placesIn-set a x l = fun-ext (λ t. at t (same? t (x .thread)))
-  where
-    place : ℕ
-    place = placeAfter (x .event)
-
-    at : (t : ℕ) → (t ≡ x .thread) ⊎ (t ≡ x .thread → ⊥) → getD (set a (x .thread) (placeAfter (x .event))) t 0 ≡ advanced (placesIn a) x t
-    at t (inl e) =
-        ap (λ (j : ℕ). getD (set a (x .thread) place) j 0) e
-        ∙ (getD-set-same a (x .thread) place 0 l ∙ sym (update-same (placesIn a) (x .thread) place t e))
-    at t (inr d) = getD-set-other a (x .thread) t place 0 d ∙ sym (update-other (placesIn a) (x .thread) place t d)
+use Rattle.theory.proofs.Tests.{and-l, and-r, and-i, true-T, false-T, eq-T}
+use Rattle.plain_lock.proofs.PlainLaws.{noPair, places-more, in-round, placesIn-set}
+use Rattle.plain_lock.proofs.StandingLaws.{is-counted, same-standing}
+use Rattle.plain_lock.proofs.VerdictLaws.{VerdictOf, bad-verdict, fit-verdict}
 
 -- ---- the pairs of the bytes
 

@@ -1,6 +1,2 @@
--- Laws first, then the loop's invariant; each file says what it shows.
-pub mod PlainLaws
-pub mod StandingLaws
-pub mod RowLaws
-pub mod VerdictLaws
+-- The pass over the pairs, and the tests before it.
 pub mod CheckLaws

@@ -12,8 +12,8 @@ use Rattle.definitions.specs.Table.{Table, freshTable}
 use Rattle.definitions.specs.Threads.{listOf}
 use Rattle.orders.specs.Rounds.{restPhase}
 use Rattle.orders.specs.Histories.{pairOf}
-use Rattle.history.specs.Permitted.{pairFits, permittedFrom}
-use Rattle.history.proofs.PlainLaws.{Next, calls-shared, calls-exclusive, goes-on, next-e, leaves-by}
+use Rattle.plain_lock.specs.Permitted.{pairFits, permittedFrom}
+use Rattle.plain_lock.proofs.PlainLaws.{Next, calls-shared, calls-exclusive, goes-on, next-e, leaves-by}
 use Rattle.theory.proofs.Cases.{or-at, none-of, among-range}
 use Rattle.theory.proofs.Quantifiers.{none-i}
 use Rattle.theory.proofs.Stages.{fresh-fits}

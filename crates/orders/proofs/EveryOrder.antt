@@ -26,8 +26,8 @@ use Rattle.definitions.specs.declared.Request.{Request}
 use Rattle.runs.specs.Requests.{Closes, movesFrom, movesFirst, movesOfLines, movesOf}
 use Rattle.orders.specs.Histories.{mostEvents, historyBytes, AllBytes, Passes, FirstBad, Makes}
 use Rattle.orders.specs.Rounds.{placeOf, placesOf}
-use Rattle.history.specs.Permitted.{permittedFrom}
-use Rattle.history.proofs.PlainLaws.{permitted-is}
+use Rattle.plain_lock.specs.Permitted.{permittedFrom}
+use Rattle.plain_lock.proofs.PlainLaws.{permitted-is}
 use Rattle.runs.proofs.StepsAndEvents.{events-printed}
 use Rattle.theory.specs.Tables.{SoundBytes}
 use Rattle.theory.proofs.Bytes.{byte-keeps}

@@ -8,7 +8,7 @@ use lib.ListN.{length}
 use Rattle.definitions.specs.Bounds.{mostThreads, firstEvent, lastEvent}
 use Rattle.definitions.specs.PlainLock.{Pair, Places, pairsOf, advanced}
 use Rattle.orders.specs.Histories.{historyBytes, AllBytes}
-use Rattle.history.specs.Permitted.{pairFits, permittedFrom}
+use Rattle.plain_lock.specs.Permitted.{pairFits, permittedFrom}
 use Rattle.theory.proofs.Tests.{and-l, and-r}
 use Rattle.orders.proofs.PairTests.{permits-e}
 

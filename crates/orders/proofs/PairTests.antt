@@ -4,7 +4,7 @@ use lib.Dec.{T, ltb, ltb→lt, lt→ltb}
 use Rattle.definitions.specs.Bounds.{firstEvent, lastEvent}
 use Rattle.definitions.specs.PlainLock.{Pair, Places, isNext, needMet}
 use Rattle.definitions.specs.Threads.{between}
-use Rattle.history.specs.Permitted.{pairFits}
+use Rattle.plain_lock.specs.Permitted.{pairFits}
 use Rattle.theory.proofs.Replies.{peel, pass, no-test}
 use Rattle.theory.proofs.Tests.{and-l, and-r, and-i}
 

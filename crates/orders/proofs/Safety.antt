@@ -19,7 +19,7 @@ use Rattle.definitions.specs.Threads.{every, some, between, implies}
 use Rattle.definitions.specs.declared.Request.{Request}
 use Rattle.orders.specs.Rounds.{placeOf, placesOf}
 use Rattle.orders.specs.Histories.{pairOf}
-use Rattle.history.specs.Permitted.{pairFits, permittedFrom}
+use Rattle.plain_lock.specs.Permitted.{pairFits, permittedFrom}
 use Rattle.theory.proofs.Quantifiers.{every-at, none-i}
 use Rattle.theory.proofs.SoundSteps.{kept-sound}
 use Rattle.theory.proofs.Soundness.{All, Sound, sound-e}

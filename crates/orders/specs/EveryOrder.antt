@@ -13,7 +13,7 @@ use Rattle.definitions.specs.Plan.{plan, bytesOf, planEntry}
 use Rattle.definitions.specs.Scripts.{threadsOf}
 use Rattle.definitions.specs.Table.{tableOf, fresh}
 use Rattle.definitions.specs.declared.Request.{Request}
-use Rattle.history.specs.Permitted.{permittedFrom}
+use Rattle.plain_lock.specs.Permitted.{permittedFrom}
 use Rattle.runs.specs.Requests.{movesOf}
 use Rattle.theory.specs.Outputs.{Delivered}
 use Rattle.theory.specs.Tables.{SoundBytes}

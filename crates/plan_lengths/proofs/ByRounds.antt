@@ -12,8 +12,8 @@ use Rattle.definitions.specs.Bounds.{firstEvent, lastEvent}
 use Rattle.definitions.specs.PlainLock.{Pair, Places, atStart, placeAfter, advanced, placesAfter, isNext, permitted}
 use Rattle.definitions.specs.Threads.{between, sumOf}
 use Rattle.plan_lengths.specs.Rounds.{howOften}
-use Rattle.history.specs.Permitted.{pairFits, permittedFrom}
-use Rattle.history.proofs.PlainLaws.{permitted-is, Next, calls-shared, calls-exclusive, goes-on, next-e}
+use Rattle.plain_lock.specs.Permitted.{pairFits, permittedFrom}
+use Rattle.plain_lock.proofs.PlainLaws.{permitted-is, Next, calls-shared, calls-exclusive, goes-on, next-e}
 use Rattle.orders.proofs.PairTests.{permits-e}
 use Rattle.theory.proofs.Sums.{sum-update, sum-zero}
 use Rattle.theory.proofs.Quantifiers.{below-suc}

@@ -12,8 +12,8 @@ use Rattle.definitions.specs.Table.{update}
 use Rattle.definitions.specs.Threads.{some, gather, between}
 use Rattle.plan_lengths.specs.Rounds.{exclusiveRound, wholeRound, unfinished, longest}
 use Rattle.orders.specs.Histories.{pairOf}
-use Rattle.history.specs.Permitted.{pairFits, permittedFrom}
-use Rattle.history.proofs.PlainLaws.{permitted-is}
+use Rattle.plain_lock.specs.Permitted.{pairFits, permittedFrom}
+use Rattle.plain_lock.proofs.PlainLaws.{permitted-is}
 use Rattle.theory.proofs.Columns.{update-kept, update-twice}
 use Rattle.orders.proofs.PairTests.{permits-i}
 use Rattle.theory.proofs.Lengths.{gather-length}

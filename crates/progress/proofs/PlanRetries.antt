@@ -19,8 +19,8 @@ use Rattle.definitions.specs.Table.{Table, update, itself, fresh}
 use Rattle.definitions.specs.Threads.{listOf}
 use Rattle.definitions.specs.declared.Request.{Request}
 use Rattle.theory.proofs.FlagCounts.{flagsSet}
-use Rattle.history.specs.Permitted.{pairFits, permittedFrom}
-use Rattle.history.proofs.PlainLaws.{permitted-is}
+use Rattle.plain_lock.specs.Permitted.{pairFits, permittedFrom}
+use Rattle.plain_lock.proofs.PlainLaws.{permitted-is}
 use Rattle.orders.proofs.EventPlans.{before, by-event, start-rests}
 use Rattle.orders.proofs.PairTests.{Permits, permits-e}
 use Rattle.orders.proofs.RestTables.{resting, PlanLeads}

@@ -1,5 +1,2 @@
--- Laws of the record first, then that one pass decides; each file says what it shows.
-pub mod RecordLaws
-pub mod OnePass
-pub mod EventLaws
+-- The tests of the three entries.
 pub mod TestLaws

@@ -13,8 +13,8 @@ use Rattle.definitions.specs.PlainLock.{Pair, Places, placesIn, atStart, advanc
 use Rattle.definitions.specs.Table.{countFits}
 use Rattle.definitions.specs.Watch.{recordOf, consistent, recordTests, eventReply, eventRecord, watchReplies, watchRecord}
 use Rattle.definitions.specs.declared.Watcher.{Watcher}
-use Rattle.history.specs.Permitted.{pairFits, permittedFrom}
-use Rattle.history.proofs.PlainLaws.{permitted-append, places-behind}
+use Rattle.plain_lock.specs.Permitted.{pairFits, permittedFrom}
+use Rattle.plain_lock.proofs.PlainLaws.{permitted-append, places-behind}
 use Rattle.theory.proofs.Replies.{pass, no-test, accepted-is, all-passed, behind, leaves-yes, leaves-no}
 use Rattle.theory.proofs.Tests.{and-l, and-i, decided, T-true}
 use Rattle.watching.specs.Verdicts.{verdictOn, keptWith, verdictsOn, acceptedOf}

@@ -23,8 +23,8 @@ use Rattle.definitions.specs.declared.Watcher.{Watcher}
 use Rattle.orders.specs.Histories.{historyBytes, AllBytes}
 use Rattle.orders.specs.Rounds.{placeOf, placesOf}
 use Rattle.watching.specs.Verdicts.{verdictOn, verdictsOn, acceptedOf, someInside}
-use Rattle.history.specs.Permitted.{permittedFrom}
-use Rattle.history.proofs.PlainLaws.{permitted-is}
+use Rattle.plain_lock.specs.Permitted.{permittedFrom}
+use Rattle.plain_lock.proofs.PlainLaws.{permitted-is}
 use Rattle.theory.proofs.Chains.{history-fresh, after-fresh}
 use Rattle.orders.proofs.EveryOrder.{safe}
 use Rattle.orders.proofs.HistoryBytes.{all-bytes}

@@ -13,7 +13,7 @@ use Rattle.definitions.specs.Table.{countFits}
 use Rattle.definitions.specs.Threads.{some, among}
 use Rattle.definitions.specs.Watch.{consistent, recordTests, questionReply}
 use Rattle.definitions.specs.declared.Watcher.{Watcher}
-use Rattle.history.specs.Permitted.{permittedFrom}
+use Rattle.plain_lock.specs.Permitted.{permittedFrom}
 use Rattle.theory.proofs.Cases.{or-at, none-of}
 use Rattle.theory.proofs.Quantifiers.{some-i, some-e, some-howMany}
 use Rattle.theory.proofs.Replies.{peel, all-passed}

@@ -12,8 +12,8 @@ use Rattle.definitions.specs.Table.{update}
 use Rattle.definitions.specs.Threads.{some, among, between}
 use Rattle.definitions.specs.Watch.{roundPlaces}
 use Rattle.orders.specs.Histories.{pairOf}
-use Rattle.history.specs.Permitted.{pairFits, permittedFrom}
-use Rattle.history.proofs.PlainLaws.{permitted-append, places-append}
+use Rattle.plain_lock.specs.Permitted.{pairFits, permittedFrom}
+use Rattle.plain_lock.proofs.PlainLaws.{permitted-append, places-append}
 use Rattle.theory.proofs.Columns.{same-column, update-kept, update-twice}
 use Rattle.orders.proofs.PairTests.{permits-i}
 use Rattle.theory.proofs.Cases.{or-at, none-of}

@@ -14,8 +14,8 @@ use Rattle.definitions.specs.PlainLock.{Pair, Places, placesIn, atStart, placeA
 use Rattle.definitions.specs.Threads.{every, some, among, between, implies}
 use Rattle.definitions.specs.Watch.{recordOf, started, roundPlaces, consistent}
 use Rattle.definitions.specs.declared.Watcher.{Watcher}
-use Rattle.history.specs.Permitted.{pairFits, permittedFrom}
-use Rattle.history.proofs.PlainLaws.{comes-by, count-advanced}
+use Rattle.plain_lock.specs.Permitted.{pairFits, permittedFrom}
+use Rattle.plain_lock.proofs.PlainLaws.{comes-by, count-advanced}
 use Rattle.orders.proofs.PairTests.{Permits, permits-e}
 use Rattle.theory.proofs.Lists.{length-listOf, zeros}
 use Rattle.theory.proofs.Quantifiers.{every-at, howMany-none, none-howMany}

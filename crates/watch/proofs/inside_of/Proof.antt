@@ -1,7 +1,7 @@
 -- `inside_of` meets its contract: yes where a total isn't 0, and the record's refusal where it has one.
 use mathlib.Core.Bool.{true, false}
 use borrow.Author.Needs.{needs}
-use Rattle.watch.specs.Records.{held}
+use Rattle.consistency.specs.Records.{held}
 use Rattle.watch.proofs.TestLaws.{question-answered, question-refused}
 use Rattle.watch.proofs.inside_of.Statement.{statement}
 use Rattle.watch.proofs.inside_of.Tie as tie

@@ -3,7 +3,8 @@ use native.Mathlib.Omega.{arith}
 use mathlib.Core.Path.{sym, _∙_}
 use borrow.Author.Needs.{needs}
 use borrow.Author.Tests.{not-true, not-false}
-use Rattle.watch.proofs.TestLaws.{few-threads, start-bad, start-good}
+use Rattle.watch.proofs.TestLaws.{start-bad, start-good}
+use Rattle.consistency.proofs.TestLaws.{few-threads}
 use Rattle.watch.proofs.start.Statement.{statement}
 use Rattle.watch.proofs.start.Tie as tie
 

@@ -2,7 +2,8 @@
 use mathlib.Core.Path.{sym, subst}
 use borrow.Author.Needs.{needs}
 use Rattle.definitions.specs.PlainLock.{Pair}
-use Rattle.watch.specs.Records.{held, Updates}
+use Rattle.consistency.specs.Records.{held}
+use Rattle.updates.specs.Updates.{Updates}
 use Rattle.watch.proofs.TestLaws.{event-tested, event-refused}
 use Rattle.watch.proofs.update_of.Statement.{statement}
 use Rattle.watch.proofs.update_of.Tie as tie

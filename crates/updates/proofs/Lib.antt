@@ -1,0 +1,2 @@
+-- What an event changes is right.
+pub mod EventLaws

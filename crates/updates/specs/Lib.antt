@@ -1,0 +1,2 @@
+-- What an event is judged by, and what it changes.
+pub mod Updates
