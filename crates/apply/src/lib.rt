@@ -36,7 +36,7 @@ pub fn apply_request(table: &mut [u8], forbidden: usize, request: Request) -> Ma
     let thread = request.thread as usize;
     let head = read_head(table);
     let mover = read_task(table, thread);
-    let number = arms::subject_of(head, mover, request);
+    let number = views::subject_of(head, mover, request);
     let subject = read_task(table, number);
     let v = moving::view_of(head, mover, number, subject, forbidden);
     let d = rules::decide(v, request.mv as u8);

@@ -13,9 +13,10 @@ use Rattle.definitions.specs.declared.Request.{Request}
 use Rattle.definitions.specs.declared.Task.{Task}
 use Rattle.theory.specs.Statements.{subjectBy}
 use Rattle.theory.specs.Tables.{headWith, headAfter, moverAfter, flagAfter}
-use Rattle.arms.specs.View.{viewOf, inPhase, unseenBy, aimedBy, Follows, Decides}
-use Rattle.arms.specs.declared.Decided.{Decided}
-use Rattle.arms.specs.declared.View.{View}
+use Rattle.views.specs.View.{viewOf, Follows, Decides}
+use Rattle.steps.specs.Steps.{inPhase, unseenBy, aimedBy}
+use Rattle.views.specs.declared.Decided.{Decided}
+use Rattle.views.specs.declared.View.{View}
 use Rattle.theory.proofs.Cases.{or-at, none-of, has-phase}
 use Rattle.theory.proofs.Ways.{accepted-e, phases-3, phases-4, only}
 

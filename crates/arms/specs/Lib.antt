@@ -1,2 +1,2 @@
--- What the rules of the moves see of a table, and how a move's writes show there.
-pub mod View
+-- What a writer's look leaves.
+pub mod Looks

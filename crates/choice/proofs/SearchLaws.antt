@@ -12,7 +12,7 @@ use Rattle.definitions.specs.Threads.{lowest}
 use Rattle.definitions.specs.declared.Task.{Task}
 use Rattle.dispatching.specs.Ready.{ready}
 use Rattle.ready.proofs.ReadyBits.{ready-bit}
-use Rattle.requests.specs.RequestTests.{hasBit}
+use Rattle.phase_moves.specs.MoveBits.{hasBit}
 use Rattle.theory.specs.Tables.{taskOf}
 use Rattle.theory.proofs.Lowest.{lowest-none, lowest-at, lowest-same}
 use Rattle.theory.proofs.Quantifiers.{below-suc, none-i}

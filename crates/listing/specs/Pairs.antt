@@ -8,7 +8,7 @@ use Rattle.definitions.specs.Bounds.{mostThreads, lastPhase, lastMove}
 use Rattle.definitions.specs.Moves.{mustWait}
 use Rattle.definitions.specs.Phases.{hasMove}
 use Rattle.definitions.specs.Threads.{gather}
-use Rattle.requests.specs.RequestTests.{moveBits, targetsOf}
+use Rattle.phase_moves.specs.MoveBits.{moveBits, targetsOf}
 use Rattle.listing.specs.declared.Mover.{Mover}
 
 -- what is known of where a thread of a sound table stands

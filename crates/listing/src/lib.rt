@@ -28,7 +28,7 @@ fn is_open(at: Mover, mv: u8) -> bool
     requires { ⌜ MoverFits at × (mv ≤ lastMove) ⌝ }
     ensures { λ r. ⌜ r ≡ isOpen at mv ⌝ }
 {
-    requests::has_bit(at.moves, mv) & !requests::must_wait(at.phase, at.mutex, mv)
+    phase_moves::has_bit(at.moves, mv) & !phase_moves::must_wait(at.phase, at.mutex, mv)
 }
 
 // With how many targets, from 0 on.
@@ -39,7 +39,7 @@ fn open_targets(at: Mover, mv: u8) -> usize
     if !is_open(at, mv) {
         return 0;
     }
-    requests::targets_of(at.threads, mv)
+    phase_moves::targets_of(at.threads, mv)
 }
 
 fn count_open(at: Mover) -> usize
@@ -105,7 +105,7 @@ pub fn open_moves(table: &[u8], thread: u16, out: &mut [u8]) -> Answer
             }
             let head = read_head(table);
             let task = read_task(table, i);
-            let moves = requests::moves_in(task.phase);
+            let moves = phase_moves::moves_in(task.phase);
             let at = Mover {
                 threads,
                 phase: task.phase,

@@ -9,9 +9,9 @@ use Rattle.definitions.specs.Answers.{accepted}
 use Rattle.definitions.specs.Moves.{effect}
 use Rattle.definitions.specs.Table.{Table, Storage, applied}
 use Rattle.definitions.specs.declared.Request.{Request}
-use Rattle.arms.specs.View.{allForbiddenBut, othersBy, viewAt, viewOf, Decides}
-use Rattle.arms.specs.declared.Decided.{Decided}
-use Rattle.arms.specs.declared.View.{View}
+use Rattle.views.specs.View.{allForbiddenBut, othersBy, viewAt, viewOf, Decides}
+use Rattle.views.specs.declared.Decided.{Decided}
+use Rattle.views.specs.declared.View.{View}
 use Rattle.theory.specs.Statements.{subjectOf}
 use Rattle.theory.specs.Tables.{Keeps, Told, forbiddenCount, headOf, taskOf, putBack, headAfter, moverAfter, flagAfter}
 use Rattle.moving.specs.Moved.{MoveTriedIn, TestedIn, AcceptingIn, viewBy}

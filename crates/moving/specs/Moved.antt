@@ -10,8 +10,8 @@ use Rattle.definitions.specs.declared.Head.{Head}
 use Rattle.definitions.specs.declared.Outcome.{Outcome}
 use Rattle.definitions.specs.declared.Request.{Request}
 use Rattle.definitions.specs.declared.Task.{Task}
-use Rattle.arms.specs.View.{othersBy}
-use Rattle.arms.specs.declared.View.{View}
+use Rattle.views.specs.View.{othersBy}
+use Rattle.views.specs.declared.View.{View}
 use Rattle.theory.specs.Tables.{SoundIn, forbiddenCount}
 use Rattle.moving.specs.declared.Made.{Made}
 

@@ -1,9 +1,9 @@
 // An accepted move by value, apart from any storage: what is seen of the head, the mover and the subject, and how many forbidden
 // are 1 after it. A storage reads these, has the rules decide, and writes what they decided.
-use arms::View;
 use definitions::Head;
 use definitions::Outcome;
 use definitions::Task;
+use views::View;
 ghost use Prim.Native.Nat.{_+_, _≤_, _<_};
 ghost use mathlib.Core.Bool.{cond};
 ghost use mathlib.Core.Path.{_≡_};
@@ -23,7 +23,7 @@ pub fn view_of(head: Head, mover: Task, number: usize, subject: Task, count: usi
     ensures { λ r. ⌜ r ≡ viewBy head mover number subject count ⌝ }
 {
     let threads = head.threads as usize;
-    let others = arms::others_of(threads, count, subject.forbidden);
+    let others = views::others_of(threads, count, subject.forbidden);
     View {
         head,
         mover,

@@ -10,8 +10,8 @@ use Rattle.definitions.specs.Threads.{every}
 use Rattle.dispatching.specs.Ready.{readyBy}
 use Rattle.theory.proofs.Quantifiers.{every-at}
 use Rattle.theory.proofs.Tests.{T-true, T-false, decided}
-use Rattle.requests.specs.RequestTests.{bitsBelow, hasBit}
-use Rattle.requests.proofs.Bits.{agrees-eq}
+use Rattle.phase_moves.specs.MoveBits.{bitsBelow, hasBit}
+use Rattle.phase_moves.proofs.Bits.{agrees-eq}
 use Rattle.ready.specs.ReadyBits.{readyBits}
 
 -- each bit, by trying the phases

@@ -3,7 +3,7 @@ use Prim.Native.Nat.{ℕ, suc}
 use Rattle.definitions.specs.Bounds.{lastPhase}
 use Rattle.definitions.specs.Table.{Table}
 use Rattle.dispatching.specs.Ready.{readyBy}
-use Rattle.requests.specs.RequestTests.{bitsBelow}
+use Rattle.phase_moves.specs.MoveBits.{bitsBelow}
 
 -- a number with a bit for each phase, 1 where a thread in it is ready, from the mutex and the busy of the table's target
 abbrev pub readyBits : ℕ → ℕ → ℕ

@@ -6,7 +6,7 @@ ghost use Prim.Native.Nat.{_≤_};
 ghost use mathlib.Core.Path.{_≡_};
 ghost use Rattle.definitions.specs.Bounds.{lastPhase};
 ghost use Rattle.dispatching.specs.Ready.{moveBy};
-ghost use Rattle.requests.specs.RequestTests.{hasBit};
+ghost use Rattle.phase_moves.specs.MoveBits.{hasBit};
 ghost use Rattle.ready.specs.ReadyBits.{readyBits};
 
 // The phases in which a thread is ready whatever the others do, a bit each: all but 0, where its moves are calls, 4, where they

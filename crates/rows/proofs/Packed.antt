@@ -17,7 +17,7 @@ use Rattle.definitions.specs.Table.{Table}
 use Rattle.definitions.specs.Threads.{every, howMany, sumOf}
 use Rattle.soundness.specs.Pass.{threadFits, forbiddenReader, holderPhase, tallyBelow, fitBelow, foundOf}
 use Rattle.soundness.specs.declared.Found.the-variants.{Good, Bad}
-use Rattle.soundness.specs.declared.Tally.{Tally}
+use Rattle.tallies.specs.declared.Tally.{Tally}
 use Rattle.theory.proofs.Cases.{holder-phase}
 use Rattle.theory.proofs.Quantifiers.{every-at, every-i, howMany-most}
 use Rattle.theory.proofs.Soundness.{busy-bit}

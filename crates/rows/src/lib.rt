@@ -6,7 +6,7 @@
 // bits that were seen. proofs/Packed shows that the total and these bits tell what one pass finds (`foundOf`), proofs/Collected
 // that a pass in any order has them.
 use soundness::Found;
-use soundness::Tally;
+use tallies::Tally;
 ghost use mathlib.Core.Path.{_≡_};
 ghost use Rattle.rows.specs.Rows.{foundBy};
 

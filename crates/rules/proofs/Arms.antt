@@ -15,9 +15,11 @@ use Rattle.definitions.specs.Table.{Table, phase≔, target≔}
 use Rattle.definitions.specs.Threads.{every, among, between, implies}
 use Rattle.definitions.specs.declared.Outcome.the-variants.{Quiet, Retry}
 use Rattle.definitions.specs.declared.Request.{Request}
-use Rattle.arms.specs.View.{allForbiddenBut, viewAt, viewOf, passed, aimedBy, probed, Follows, Decides}
-use Rattle.arms.specs.declared.Decided.{Decided}
-use Rattle.arms.specs.declared.View.{View}
+use Rattle.views.specs.View.{allForbiddenBut, viewAt, viewOf, Follows, Decides}
+use Rattle.steps.specs.Steps.{passed, aimedBy}
+use Rattle.arms.specs.Looks.{probed}
+use Rattle.views.specs.declared.Decided.{Decided}
+use Rattle.views.specs.declared.View.{View}
 use Rattle.theory.specs.Statements.{subjectOf}
 use Rattle.arms.proofs.Steps.{asking, follows}
 use Rattle.theory.proofs.Matches.{NoneOf, not-among, backwards}

@@ -1,15 +1,9 @@
 // The rules of the moves, by value and apart from any storage: which step (crate arms) a move that passed its tests makes, by
 // the move's number and the mover's phase.
-use arms::Decided;
-use arms::View;
 use arms::clear_flag;
 use arms::look;
-use arms::pass;
 use arms::probe;
-use arms::set_busy;
 use arms::set_flag;
-use arms::set_mutex;
-use arms::show;
 use arms::take_back;
 use definitions::CALL_EXCLUSIVE;
 use definitions::CALL_SHARED;
@@ -19,8 +13,14 @@ use definitions::GO;
 use definitions::HOLD;
 use definitions::RELENT;
 use definitions::SET;
+use steps::pass;
+use steps::set_busy;
+use steps::set_mutex;
+use steps::show;
+use views::Decided;
+use views::View;
 ghost use Rattle.definitions.specs.Codes.{go};
-ghost use Rattle.arms.specs.View.{Decides};
+ghost use Rattle.views.specs.View.{Decides};
 
 // The phases of Table 1 of source document 000, by number:
 //  0 Free; 1 to 4 the reader raises busy, looks at its forbidden, and lowers busy where it is 1; 18 it holds the mutex

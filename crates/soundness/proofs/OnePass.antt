@@ -12,9 +12,10 @@ use Rattle.definitions.specs.Phases.{holds, reading}
 use Rattle.definitions.specs.Sound.{phaseRule, flagRule, busyRule, holderRule, targetRule, openRule, rule10, rule11, rule13, rule15, elsewhereRule, mutexRule, opened, sound}
 use Rattle.definitions.specs.Table.{Table}
 use Rattle.definitions.specs.Threads.{howMany, among, between, allOf, implies}
-use Rattle.soundness.specs.Pass.{tallyBelow, fitBelow, foundOf, mutexAgrees, someElsewhere, aimFits, restFits, soundBy, aimedAt, passes}
+use Rattle.soundness.specs.Pass.{tallyBelow, fitBelow, foundOf, soundBy, aimedAt, passes}
+use Rattle.tallies.specs.Rules.{mutexAgrees, someElsewhere, aimFits, restFits}
 use Rattle.soundness.specs.declared.Found.the-variants.{Good, Bad}
-use Rattle.soundness.specs.declared.Tally.{Tally}
+use Rattle.tallies.specs.declared.Tally.{Tally}
 use Rattle.theory.proofs.Cases.{or-at, none-of, is-holder}
 use Rattle.theory.proofs.Tests.{and-cong, and-l, and-r}
 use Rattle.theory.specs.Tables.{headOf, taskOf}

@@ -13,8 +13,9 @@ use Rattle.definitions.specs.Phases.{busyIn, holds, reading}
 use Rattle.definitions.specs.Sound.{anyHolder, holderIn, opened, holderOpened, phaseRule, flagRule, busyRule, mutexRule, targetRule, openRule, rule10, rule11, rule13, rule15, backedOff, elsewhereRule}
 use Rattle.definitions.specs.Table.{Table}
 use Rattle.definitions.specs.Threads.{every, some, howMany, between, implies}
-use Rattle.soundness.specs.Pass.{threadFits, forbiddenReader, tallyBelow, fitBelow, mutexAgrees, someElsewhere}
-use Rattle.soundness.specs.declared.Tally.{Tally}
+use Rattle.soundness.specs.Pass.{threadFits, forbiddenReader, tallyBelow, fitBelow}
+use Rattle.tallies.specs.Rules.{mutexAgrees, someElsewhere}
+use Rattle.tallies.specs.declared.Tally.{Tally}
 use Rattle.theory.proofs.Quantifiers.{every-at, every-i, every-same, howMany-most, some-howMany}
 use Rattle.theory.proofs.Soundness.{busy-bit}
 use Rattle.theory.proofs.Stages.{range-holds, opened-holds}

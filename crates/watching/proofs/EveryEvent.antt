@@ -31,7 +31,7 @@ use Rattle.orders.proofs.HistoryBytes.{all-bytes}
 use Rattle.orders.proofs.Safety.{shown-places}
 use Rattle.theory.proofs.Quantifiers.{some-howMany}
 use Rattle.theory.proofs.Stages.{fresh-fits}
-use Rattle.watch.proofs.RecordLaws.{consistent-e, is-record}
+use Rattle.consistency.proofs.RecordLaws.{consistent-e, is-record}
 use Rattle.watching.proofs.EventSteps.{shown, all-permitted, all-answers, all-leave, one-permitted, whole-accepted, accepted-whole}
 use Rattle.watching.proofs.Questions.{inside-is, question-of, question-answered}
 use Rattle.watching.proofs.Reaching.{reached}

@@ -19,7 +19,7 @@ use Rattle.theory.proofs.Quantifiers.{some-i, some-e, some-howMany}
 use Rattle.theory.proofs.Replies.{peel, all-passed}
 use Rattle.theory.proofs.TestLists.{answered-e}
 use Rattle.theory.proofs.Tests.{or-e, or-l, or-r, eq-T, same-test}
-use Rattle.watch.proofs.RecordLaws.{consistent-e}
+use Rattle.consistency.proofs.RecordLaws.{consistent-e}
 use Rattle.watching.specs.Verdicts.{someInside}
 use Rattle.watching.proofs.EventSteps.{recordAfter, tested}
 

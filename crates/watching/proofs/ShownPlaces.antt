@@ -21,8 +21,8 @@ use Rattle.theory.proofs.Lists.{length-listOf, zeros}
 use Rattle.theory.proofs.Quantifiers.{every-at, howMany-none, none-howMany}
 use Rattle.theory.proofs.Tests.{and-l, and-r, implies-e, cond-yes, cond-no, cond-either, not-i, same?, below?}
 use Rattle.theory.proofs.Writes.{update-other}
-use Rattle.watch.proofs.EventLaws.{beyond}
-use Rattle.watch.proofs.RecordLaws.{InRounds, Consistent, consistent-i, same-record, entries-are, entry-of}
+use Rattle.updates.proofs.EventLaws.{beyond}
+use Rattle.consistency.proofs.RecordLaws.{InRounds, Consistent, consistent-i, same-record, entries-are, entry-of}
 
 pub record Shown (n : ℕ) (p : Places) : Type 0 where
   pub rounds : InRounds n p

@@ -14,9 +14,9 @@ use Rattle.definitions.specs.declared.Task.{Task}
 use Rattle.theory.specs.Statements.{subjectBy, subjectOf}
 use Rattle.theory.specs.Tables.{Sized, headOf, taskOf, putBack}
 use Rattle.apply.specs.MoveMade.{MoveTried, Accepting, TwoThreads}
-use Rattle.arms.specs.View.{viewAt, viewOf, Decides}
-use Rattle.arms.specs.declared.Decided.{Decided}
-use Rattle.arms.specs.declared.View.{View}
+use Rattle.views.specs.View.{viewAt, viewOf, Decides}
+use Rattle.views.specs.declared.Decided.{Decided}
+use Rattle.views.specs.declared.View.{View}
 use Rattle.moving.specs.Moved.{viewBy}
 use Rattle.moving.proofs.OneMove.{seen-by, count-fits, one-move}
 use Rattle.theory.proofs.Bytes.{sized-e, byte-keeps, same-bytes}

@@ -5,8 +5,8 @@ use mathlib.Core.Path.{_≡_, subst, ap, _∙_}
 use borrow.Author.Needs.{needs}
 use lib.Dec.{T}
 use Rattle.definitions.specs.Phases.{hasMove}
-use Rattle.requests.specs.RequestTests.{hasBit}
-use Rattle.requests.proofs.Bits.{bit-is}
+use Rattle.phase_moves.specs.MoveBits.{hasBit}
+use Rattle.phase_moves.proofs.Bits.{bit-is}
 use Rattle.theory.proofs.Tests.{and-cong}
 use Rattle.listing.proofs.is_open.Statement.{statement}
 use Rattle.listing.proofs.is_open.Tie as tie

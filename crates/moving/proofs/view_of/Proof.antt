@@ -1,8 +1,8 @@
 -- `view_of` meets its contract: what the other flags are is what the call answers.
 use mathlib.Core.Path.{ap}
 use borrow.Author.Needs.{needs}
-use Rattle.arms.specs.declared.Others.{Others}
-use Rattle.arms.specs.declared.View.{View}
+use Rattle.views.specs.declared.Others.{Others}
+use Rattle.views.specs.declared.View.{View}
 use Rattle.moving.proofs.view_of.Statement.{statement}
 use Rattle.moving.proofs.view_of.Tie as tie
 

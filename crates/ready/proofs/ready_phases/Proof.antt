@@ -6,7 +6,7 @@ use borrow.Author.Needs.{needs}
 use lib.Dec.{eqb}
 use mir.Val.{boolByte}
 use Rattle.dispatching.specs.Ready.{readyBy}
-use Rattle.requests.specs.RequestTests.{bitsBelow}
+use Rattle.phase_moves.specs.MoveBits.{bitsBelow}
 use Rattle.theory.proofs.Casts.{cast-most}
 use Rattle.theory.proofs.Tests.{T-true, T-false, decided}
 use Rattle.ready.proofs.ready_phases.Statement.{statement}

@@ -4,8 +4,8 @@ use mathlib.Core.Path.{refl, ap}
 use borrow.Author.Needs.{needs}
 use lib.Dec.{eqb}
 use Rattle.definitions.specs.Moves.{goEffect, isRetry}
-use Rattle.arms.specs.View.{inPhase}
-use Rattle.arms.specs.declared.View.{View}
+use Rattle.steps.specs.Steps.{inPhase}
+use Rattle.views.specs.declared.View.{View}
 use Rattle.rules.proofs.Arms.{go-arm, probe-follows, idle-arm}
 use Rattle.rules.proofs.go.Statement.{statement}
 use Rattle.rules.proofs.go.Tie as tie

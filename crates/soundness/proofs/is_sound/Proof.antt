@@ -3,7 +3,8 @@ use mathlib.Core.Bool.{_&&_}
 use mathlib.Core.Path.{_≡_, _∙_}
 use borrow.Author.Needs.{needs}
 use borrow.Author.Tests.{not-true, not-false}
-use Rattle.soundness.specs.Pass.{mutexAgrees, someElsewhere, soundBy}
+use Rattle.soundness.specs.Pass.{soundBy}
+use Rattle.tallies.specs.Rules.{mutexAgrees, someElsewhere}
 use Rattle.soundness.proofs.is_sound.Statement.{statement}
 use Rattle.soundness.proofs.is_sound.Tie as tie
 

@@ -12,7 +12,7 @@ use Rattle.definitions.specs.declared.Refusal.the-variants.{BadSize, Unsound}
 use Rattle.soundness.specs.Pass.{tallyBelow, fitBelow, foundOf, passes}
 use Rattle.soundness.specs.declared.Found.{Found}
 use Rattle.soundness.specs.declared.Found.the-variants.{Good, Bad}
-use Rattle.soundness.specs.declared.Tally.{Tally}
+use Rattle.tallies.specs.declared.Tally.{Tally}
 use Rattle.theory.specs.Tables.{Sized, forbiddenCount}
 use Rattle.table.specs.TableTests.{examinedOf}
 use Rattle.table.specs.declared.tests.Examined.the-variants.{Sound, Refused}

@@ -1,0 +1,2 @@
+-- What each step leaves.
+pub mod Steps

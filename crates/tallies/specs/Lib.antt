@@ -1,0 +1,2 @@
+-- The rules on what one pass found.
+pub mod Rules

@@ -1,0 +1,2 @@
+-- What a move sees, and what follows from it.
+pub mod View
