@@ -1,86 +1,24 @@
 // An answer of the part as one number: its low byte is the refusal's number, 0 where the request is accepted, and the rest is
-// the refusal's place, or the value of what is answered (specs/Encoding.antt).
+// the refusal's place, or the value of what is answered (specs/Encoding.antt). The numbers of a move and of a turn stand in the
+// crate move_numbers.
 use definitions::Answer;
-use definitions::Dispatched;
 use definitions::Inside;
-use definitions::MoveEvent;
-use definitions::Outcome;
 use definitions::Reading;
 use definitions::Running;
 use definitions::Watched;
-ghost use Prim.Native.Nat.{_+_, _*_, _≤_, _<_};
+ghost use Prim.Native.Nat.{_<_};
 ghost use mathlib.Core.Path.{_≡_};
-ghost use Rattle.definitions.specs.Answers.{outcomeReply, answerReply};
-ghost use Rattle.definitions.specs.Bounds.{lastEvent};
-ghost use Rattle.definitions.specs.Dispatch.{eventSeen, dispatchedReply};
+ghost use Rattle.definitions.specs.Answers.{answerReply};
 ghost use Rattle.definitions.specs.Run.{runningReply};
 ghost use Rattle.definitions.specs.Scripts.{readingReply};
 ghost use Rattle.definitions.specs.Watch.{watchedReply, insideReply};
-ghost use Rattle.answer_numbers.specs.Encoding.{moveNumber, turnNumber, runNumber, countNumber, watchNumber, insideNumber, readNumber};
-ghost use Rattle.answer_numbers.specs.Encoding.{madeMark, seenValue, valueIn, listedIn, runIn, valueBound, held};
+ghost use Rattle.answer_numbers.specs.Encoding.{runNumber, countNumber, watchNumber, insideNumber, readNumber, valueIn, listedIn, runIn, valueBound, held};
 
 // The largest place that stands beside a refusal's number.
 const MOST_PLACE: usize = 36_028_797_018_963_967;
 
-// Retries stand above the other value of a move and of a run, in units of this; of a move, with the number's low byte below.
-const RETRY_UNIT: u64 = 4_294_967_296;
-
-const RETRY_NUMBER: u64 = 256 * RETRY_UNIT;
-
-// What a turn of the dispatcher that made a move has in its lowest byte besides the event's code.
-const MADE_MARK: u64 = 128;
-
-// The number of an outcome of the move.
-pub fn outcome_number(outcome: Outcome) -> u64
-    ensures { λ r. ⌜ r ≡ moveNumber (outcomeReply outcome) ⌝ }
-{
-    match outcome {
-        Outcome::Shown(event) => 256 * (event.code() as u64),
-        Outcome::Quiet => 0,
-        Outcome::Retry => RETRY_NUMBER,
-        Outcome::Refused(refusal) => refusal.number() as u64,
-    }
-}
-
-// The code of the event that a move showed, 0 for none.
-fn event_code(event: MoveEvent) -> u64
-    ensures { λ r. ⌜ r ≡ seenValue (eventSeen event) ⌝ }
-{
-    match event {
-        MoveEvent::Shown(event) => event.code() as u64,
-        MoveEvent::Quiet => 0,
-    }
-}
-
-// The number of a turn that made a move: what is seen of the move, then the thread, the move and the target, a byte each.
-fn made_number(code: u64, thread: u8, mv: u8, target: u8) -> u64
-    requires { ⌜ code ≤ lastEvent ⌝ }
-    ensures { λ r. ⌜ r ≡ 256 * (madeMark + code + 256 * thread + 65_536 * mv + 16_777_216 * target) ⌝ }
-{
-    let seen = MADE_MARK + code;
-    let low = seen + 256 * (thread as u64);
-    let high = 65_536 * (mv as u64) + 16_777_216 * (target as u64);
-    256 * (low + high)
-}
-
-// The number of the dispatcher's answer.
-pub fn dispatched_number(answer: Dispatched) -> u64
-    ensures { λ r. ⌜ r ≡ turnNumber (dispatchedReply answer) ⌝ }
-{
-    match answer {
-        Dispatched::Moved {
-            thread,
-            mv,
-            target,
-            event,
-        } => {
-            let code = event_code(event);
-            made_number(code, thread, mv, target)
-        }
-        Dispatched::Waiting => 0,
-        Dispatched::Refused(refusal) => refusal.number() as u64,
-    }
-}
+// Retries stand above the other value of a move and of a run, in units of this.
+pub const RETRY_UNIT: u64 = 4_294_967_296;
 
 // The number of any other entry's answer, whose value is small.
 pub fn answer_number(answer: Answer) -> u64

@@ -1,4 +1,4 @@
--- What the check's answer says of the plan's length, and the plan's answer and output by that length and the room: turned down, no room, written.
+-- The plan's answer and output by the check's answer, its length and the room: turned down, no room, written.
 use Prim.Native.Nat.{ℕ, _/_, _≤_, _<_}
 use native.Mathlib.Omega.{arith}
 use mathlib.Core.List.{List}
@@ -8,27 +8,18 @@ use Rattle.definitions.specs.Answers.{numberOf, answerReply, accepted, refused,
 use Rattle.definitions.specs.PlainLock.{pairsOf, checkReply}
 use Rattle.definitions.specs.Plan.{plan, bytesOf, planEntry, planLengthReply}
 use Rattle.definitions.specs.declared.Answer.{Answer}
-use Rattle.definitions.specs.declared.Answer.the-variants.{Done, Refused}
+use Rattle.definitions.specs.declared.Answer.the-variants.{Refused}
 use Rattle.definitions.specs.declared.Refusal.{Refusal}
 use Rattle.theory.specs.Outputs.{RoomAt, Delivered}
 use Rattle.theory.proofs.Outputs.{delivered-as}
-use Rattle.theory.proofs.SameCount.{enough, too-short, accepted-alike, refused-alike, refused-plan}
+use Rattle.theory.proofs.SameCount.{enough, too-short, refused-plan}
+use Rattle.shares.proofs.LengthLaws.{turned-length}
 
--- the check's answer: a refusal is the length's and the plan's, and with any other the history passes
-module _ (n : ℕ) (bytes : List ℕ) (a : Answer) (e : answerReply a ≡ checkReply n bytes) where
-  module _ (r : Refusal) (place : ℕ) (q : a ≡ Refused r place) where
-    pub turned-length : answerReply a ≡ planLengthReply n bytes
-    turned-length = ap answerReply q ∙ sym (refused-alike n bytes (numberOf r) place .1 (sym e ∙ ap answerReply q))
-
-    pub turned-plan : (out : List ℕ) → Delivered (planEntry n bytes) out out (answerReply a)
-    turned-plan out = delivered-as (refused-plan n bytes (numberOf r) place (sym turned-length ∙ ap answerReply q) out) refl (ap answerReply q)
-
-  pub passes : (events : ℕ) → a ≡ Done events → checkReply n bytes ≡ accepted events
-  passes events q = sym e ∙ ap answerReply q
-
--- the moves of a history that passes are counted
-pub counted : (n : ℕ) (bytes : List ℕ) (events moves : ℕ) → checkReply n bytes ≡ accepted events → moves ≡ length (plan n (pairsOf bytes)) → accepted moves ≡ planLengthReply n bytes
-counted n bytes events moves p m = ap accepted m ∙ sym (accepted-alike n bytes events p)
+-- the check's refusal is the plan's
+pub turned-plan : (n : ℕ) (bytes : List ℕ) (a : Answer) → answerReply a ≡ checkReply n bytes → (r : Refusal) (place : ℕ) → a ≡ Refused r place
+    → (out : List ℕ) → Delivered (planEntry n bytes) out out (answerReply a)
+turned-plan n bytes a e r place q out =
+    delivered-as (refused-plan n bytes (numberOf r) place (sym (turned-length n bytes a e r place q) ∙ ap answerReply q) out) refl (ap answerReply q)
 
 module _ (n : ℕ) (bytes out : List ℕ) (moves : ℕ) (m : accepted moves ≡ planLengthReply n bytes) where
   -- the output is too short, and stays

@@ -9,7 +9,7 @@ use Rattle.definitions.specs.Plan.{planOf, plan, bytesOf}
 use Rattle.theory.proofs.Pairs.{pairAt}
 use Rattle.theory.proofs.Parts.{Parts}
 use Rattle.theory.proofs.Triples.{bytes-append}
-use Rattle.plan.proofs.Counting.{planFrom, from-next, from-end}
+use Rattle.shares.proofs.Counting.{planFrom, from-next, from-end}
 
 module _ (n : ℕ) (bytes : List ℕ) where
   -- the triples of pair k

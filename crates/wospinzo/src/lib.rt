@@ -1,15 +1,15 @@
 // The part's entries for C and Rust: thin functions on numbers and byte slices, each with its promise. An answer is one
 // number (crate answer_numbers).
 use answer_numbers::answer_number;
-use answer_numbers::dispatched_number;
 use answer_numbers::hold_place;
 use answer_numbers::inside_number;
-use answer_numbers::outcome_number;
 use answer_numbers::reading_number;
 use answer_numbers::running_number;
 use answer_numbers::watch_number;
 use definitions::Request;
 use definitions::Watcher;
+use move_numbers::dispatched_number;
+use move_numbers::outcome_number;
 ghost use mathlib.Core.Path.{_≡_};
 ghost use Rattle.definitions.specs.Answers.{deliveryReply, deliveryOutput};
 ghost use Rattle.definitions.specs.Dispatch.{dispatchReply, dispatchTable};
@@ -97,7 +97,7 @@ pub extern "C" fn wospinzo_check(threads: u16, history: &[u8]) -> u64
 pub extern "C" fn wospinzo_plan_length(threads: u16, history: &[u8]) -> u64
     ensures { λ r. ⌜ r ≡ countNumber (planLengthReply threads (now (history .entry))) ⌝ }
 {
-    let answer = plan::plan_length(threads, history);
+    let answer = shares::plan_length(threads, history);
     answer_number(answer)
 }
 

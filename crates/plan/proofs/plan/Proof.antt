@@ -5,8 +5,9 @@ use borrow.Author.Needs.{needs}
 use Rattle.definitions.specs.Answers.{accepted}
 use Rattle.definitions.specs.PlainLock.{checkReply}
 use Rattle.definitions.specs.Plan.{planLengthReply}
-use Rattle.plan.proofs.Counting.{counting-none}
-use Rattle.plan.proofs.EntryLaws.{turned-plan, passes, counted, no-room-plan, room-plan, written-plan}
+use Rattle.shares.proofs.Counting.{counting-none}
+use Rattle.shares.proofs.LengthLaws.{passes, counted}
+use Rattle.plan.proofs.EntryLaws.{turned-plan, no-room-plan, room-plan, written-plan}
 use Rattle.plan.proofs.plan.Statement.{statement}
 use Rattle.plan.proofs.plan.Tie as tie
 

@@ -6,7 +6,6 @@ use lib.Dec.{ltb, ltb→lt}
 use Rattle.definitions.specs.Table.{tableOf}
 use Rattle.definitions.specs.declared.Head.{Head}
 use Rattle.soundness.specs.Pass.{soundBy, aimedAt, passes}
-use Rattle.tallies.specs.declared.Tally.{Tally}
 use Rattle.theory.specs.Tables.{headOf, taskOf}
 use Rattle.theory.proofs.Tests.{cond-either}
 use Rattle.table.proofs.tests.decided.Statement.{statement}

@@ -3,9 +3,9 @@ use mathlib.Core.Path.{_≡_}
 use borrow.Author.Needs.{needs}
 use Rattle.definitions.specs.Answers.{accepted}
 use Rattle.definitions.specs.PlainLock.{checkReply}
-use Rattle.plan.proofs.EntryLaws.{turned-length, passes, counted}
-use Rattle.plan.proofs.plan_length.Statement.{statement}
-use Rattle.plan.proofs.plan_length.Tie as tie
+use Rattle.shares.proofs.LengthLaws.{turned-length, passes, counted}
+use Rattle.shares.proofs.plan_length.Statement.{statement}
+use Rattle.shares.proofs.plan_length.Tie as tie
 
 returns : tie.Need-returns
 returns c =

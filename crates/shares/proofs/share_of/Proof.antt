@@ -4,11 +4,11 @@ use native.Mathlib.Omega.{arith}
 use mathlib.Core.Logic.{inr}
 use mathlib.Core.Path.{_≡_, sym, ap, _∙_}
 use lib.ListN.{length, getD}
-use Rattle.plan.specs.Shares.{each, movesOf, ShareOf}
+use Rattle.shares.specs.Shares.{each, movesOf, ShareOf}
 use Rattle.theory.proofs.Matches.{NoneOf, downFrom, above}
 use Rattle.theory.proofs.PlanLengths.{eventLengths, movesFor, event-moves, plan-past}
-use Rattle.plan.proofs.share_of.Statement.{statement}
-use Rattle.plan.proofs.share_of.Tie as tie
+use Rattle.shares.proofs.share_of.Statement.{statement}
+use Rattle.shares.proofs.share_of.Tie as tie
 
 -- that of the arm for code k
 at : (k code share : ℕ) → code ≡ k → share % each ≤ 3 → share / each ≤ 2 → ((n : ℕ) → movesOf n share ≡ getD (eventLengths n) k 0) → ShareOf code share

@@ -10,10 +10,10 @@ use Rattle.definitions.specs.declared.Dispatched.{Dispatched}
 use Rattle.definitions.specs.declared.Dispatched.the-variants as dispatched
 use Rattle.definitions.specs.declared.MoveEvent.{MoveEvent}
 use Rattle.definitions.specs.declared.Refusal.{Refusal}
 use Rattle.answer_numbers.specs.Encoding.{encoded, madeMark, seenValue, turnNumber}
 use Rattle.answer_numbers.proofs.Apart.{seen-most}
-use Rattle.answer_numbers.proofs.dispatched_number.Statement.{statement}
-use Rattle.answer_numbers.proofs.dispatched_number.Tie as tie
+use Rattle.move_numbers.proofs.dispatched_number.Statement.{statement}
+use Rattle.move_numbers.proofs.dispatched_number.Tie as tie
 
 -- the number of an answer
 abbrev number : Dispatched → ℕ

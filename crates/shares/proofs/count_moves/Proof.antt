@@ -3,10 +3,10 @@ use Prim.Native.Nat.{_+_, _*_, _-_, _/_, _≤_}
 use native.Mathlib.Omega.{arith}
 use borrow.Author.Needs.{needs}
 use Rattle.definitions.specs.Bounds.{mostThreads}
-use Rattle.plan.specs.Shares.{each}
-use Rattle.plan.proofs.Counting.{Counting, counting-none, counting-more, counting-each, counting-all}
-use Rattle.plan.proofs.count_moves.Statement.{statement}
-use Rattle.plan.proofs.count_moves.Tie as tie
+use Rattle.shares.specs.Shares.{each}
+use Rattle.shares.proofs.Counting.{Counting, counting-none, counting-more, counting-each, counting-all}
+use Rattle.shares.proofs.count_moves.Statement.{statement}
+use Rattle.shares.proofs.count_moves.Tie as tie
 
 abbrev Inv-loop : tie.InvT-loop
 Inv-loop threads history events shares₀ k₀ shares k = Counting threads history events k shares

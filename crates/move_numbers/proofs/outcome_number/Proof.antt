@@ -1,13 +1,13 @@
--- `answer_numbers::outcome_number` meets its contract: at each case the number computes.
+-- `outcome_number` meets its contract: at each case the number computes.
 use Prim.Native.Nat.{ℕ, _*_}
 use native.Mathlib.Nat.{zero-add, add-zero}
 use mathlib.Core.Path.{sym, ap, _∙_}
 use borrow.Author.Needs.{needs}
 use Rattle.definitions.specs.Answers.{outcomeReply}
 use Rattle.definitions.specs.declared.Outcome.{Outcome}
 use Rattle.answer_numbers.specs.Encoding.{encoded, moveNumber}
-use Rattle.answer_numbers.proofs.outcome_number.Statement.{statement}
-use Rattle.answer_numbers.proofs.outcome_number.Tie as tie
+use Rattle.move_numbers.proofs.outcome_number.Statement.{statement}
+use Rattle.move_numbers.proofs.outcome_number.Tie as tie
 
 enum-known-outcome : tie.Need-enum-known-outcome
 enum-known-outcome c = search needs

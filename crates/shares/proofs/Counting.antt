@@ -10,7 +10,7 @@ use Rattle.definitions.specs.Bounds.{mostThreads, mostHistory}
 use Rattle.definitions.specs.PlainLock.{pairsOf, checkTests, checkReply}
 use Rattle.definitions.specs.Plan.{planOf, plan}
 use Rattle.definitions.specs.declared.Request.{Request}
-use Rattle.plan.specs.Shares.{each, movesOf, ShareOf}
+use Rattle.shares.specs.Shares.{each, movesOf, ShareOf}
 use Rattle.history.proofs.CheckLaws.{tests-e}
 use Rattle.theory.proofs.Lengths.{pairs-length}
 use Rattle.theory.proofs.Pairs.{pairAt, pairs-next, pairs-end}
