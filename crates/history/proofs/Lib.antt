@@ -1,2 +1,2 @@
--- The pass over the pairs, and the tests before it.
+-- The tests before the pass over the pairs.
 pub mod CheckLaws

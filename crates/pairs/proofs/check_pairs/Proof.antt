@@ -3,9 +3,9 @@ use Prim.Native.Nat.{_-_, _*_, _+_, _<_}
 use native.Mathlib.Omega.{arith}
 use borrow.Author.Needs.{needs}
 use lib.ListN.{getD}
-use Rattle.history.proofs.CheckLaws.{Passed, passed-none, counted-here, bad-here, goes-on, passed-all}
-use Rattle.history.proofs.check_pairs.Statement.{statement}
-use Rattle.history.proofs.check_pairs.Tie as tie
+use Rattle.pairs.proofs.PassLaws.{Passed, passed-none, counted-here, bad-here, goes-on, passed-all}
+use Rattle.pairs.proofs.check_pairs.Statement.{statement}
+use Rattle.pairs.proofs.check_pairs.Tie as tie
 
 abbrev Inv-loop : tie.InvT-loop
 Inv-loop threads history places₀ inside₀ events k₀ places inside k = Passed threads history places inside k

@@ -1,0 +1,2 @@
+-- The pass over the pairs.
+pub mod PassLaws
