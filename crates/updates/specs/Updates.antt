@@ -1,6 +1,5 @@
 -- A record that passed its tests; where an event's thread stands; and what an event changes of a record, as a value.
-use Prim.Native.Nat.{ℕ, _/_, _%_, _≤_, _<_}
-use mathlib.Core.List.{List}
+use Prim.Native.Nat.{ℕ, _/_, _%_, _<_}
 use mathlib.Core.Path.{_≡_}
 use lib.Dec.{T}
 use lib.ListN.{length, set}
@@ -35,9 +34,12 @@ changed at after = record { at = at; place = after .place; shared = after .insid
 abbrev pub kept : Watcher → Refusal → Update
 kept w refusal = record { at = 0; place = placesIn (w .places) 0; shared = w .shared; exclusive = w .exclusive; answer = Refused refusal }
 
--- the record in which a change is stored
+-- the record in which an entry and the two totals are stored, and a change
+abbrev pub stored : Watcher → ℕ → ℕ → ℕ → ℕ → Watcher
+stored w at place shared exclusive = record { threads = w .threads; shared = shared; exclusive = exclusive; places = set (w .places) at place }
+
 abbrev pub updated : Watcher → Update → Watcher
-updated w u = record { threads = w .threads; shared = u .shared; exclusive = u .exclusive; places = set (w .places) (u .at) (u .place) }
+updated w u = stored w (u .at) (u .place) (u .shared) (u .exclusive)
 
 -- what is right for an event: its entry is one of the record's, the answer is the event's, and stored it leaves the event's record
 pub record Updates (w : Watcher) (x : Pair) (u : Update) : Type 0 where
