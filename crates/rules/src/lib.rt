@@ -1,5 +1,5 @@
-// The rules of the moves, by value and apart from any storage: which step (crate arms) a move that passed its tests makes, by
-// the move's number and the mover's phase.
+// The rules of the moves, by value and apart from any storage: which step (crates steps and arms) a move that passed its tests
+// makes, by the move's number and the mover's phase.
 use arms::clear_flag;
 use arms::look;
 use arms::probe;

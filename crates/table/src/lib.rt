@@ -1,5 +1,5 @@
 // The byte table: the tests of the refusals 1 and 2, and a fresh table.
-// The soundness test is one pass over the threads, whose rules by value stand in the crate soundness.
+// The soundness test is one pass over the threads, whose rules by value stand in the crates tallies and soundness.
 mod fresh_table;
 mod tests;
 
