@@ -20,7 +20,7 @@ fn write_pairs(out: &mut [u8], threads: u8, history: &[u8])
         let at = 2 * j;
         let thread = history[at];
         let code = history[at + 1];
-        next = triples::write_pair(out, next, threads, thread, code);
+        next = event_plans::write_pair(out, next, threads, thread, code);
         j += 1;
     }
 }

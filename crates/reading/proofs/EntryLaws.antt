@@ -16,7 +16,7 @@ use Rattle.definitions.specs.Table.{countFits}
 use Rattle.definitions.specs.Texts.{Line, linesOf}
 use Rattle.opening.specs.FirstLine.{ThreadsAt, NoThreads}
 use Rattle.theory.specs.Outputs.{RoomAt, PutAt, Delivered}
-use Rattle.reading.specs.Moves.{AllTaken, TurnedDown}
+use Rattle.line_moves.specs.Moves.{AllTaken, TurnedDown}
 use Rattle.opening.proofs.FirstLines.{read-tests, read-count, read-bad}
 use Rattle.runs.proofs.Lines.{lines-size, stated-few}
 use Rattle.theory.proofs.Lengths.{bytes-length}

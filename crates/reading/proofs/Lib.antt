@@ -1,4 +1,2 @@
--- What the functions of reading share.
-pub mod OneLine
-pub mod Loop
+-- What the tests make of the promise.
 pub mod EntryLaws

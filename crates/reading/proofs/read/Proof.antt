@@ -13,7 +13,7 @@ use Rattle.definitions.specs.Scripts.{linesTests, requestsIn}
 use Rattle.definitions.specs.Table.{countFits}
 use Rattle.definitions.specs.Texts.{linesOf}
 use Rattle.opening.specs.FirstLine.{FirstAt, ThreadsAt}
-use Rattle.reading.specs.Moves.{Taken, AllTaken}
+use Rattle.line_moves.specs.Moves.{Taken, AllTaken}
 use Rattle.theory.proofs.Stages.{count-most}
 use Rattle.theory.proofs.Tests.{true-T}
 use Rattle.reading.proofs.EntryLaws.{too-long, bad-first, bad-count, bad-line, no-room-left, within, triples-room, triples-whole, all-read}

@@ -1,0 +1,2 @@
+-- Which event a code stands for.
+pub mod EventCodes

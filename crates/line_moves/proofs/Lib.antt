@@ -1,0 +1,2 @@
+-- What the two functions share.
+pub mod OneLine

@@ -1,0 +1,2 @@
+-- Laws of the bytes of requests, which callers cite.
+pub mod RequestBytes

@@ -1,0 +1,2 @@
+-- The loop over the lines.
+pub mod Loop

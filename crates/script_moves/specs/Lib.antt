@@ -1,0 +1,2 @@
+-- What the promise cites besides the definitions.
+pub mod AllLines
