@@ -1,5 +1,2 @@
--- Shared laws first, then the theorems.
-pub mod Histories
-pub mod PrintedText
-pub mod Loop
-pub mod Entry
+-- What the output makes of the promise.
+pub mod EntryLaws

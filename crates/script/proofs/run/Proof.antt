@@ -1,8 +1,8 @@
--- `script::run` meets its contract: by the length of the script, then by that of its output (proofs/Entry).
+-- `script::run` meets its contract: by the length of the script, then by that of its output (proofs/EntryLaws).
 use mathlib.Core.Path.{sym}
 use borrow.Author.Needs.{needs}
 use lib.Seq.{length-take-le}
-use Rattle.script.proofs.Entry.{too-long, measurable, run-printed, run-refused}
+use Rattle.script.proofs.EntryLaws.{too-long, measurable, run-printed, run-refused}
 use Rattle.script.proofs.run.Statement.{statement}
 use Rattle.script.proofs.run.Tie as tie
 

@@ -1,4 +1,4 @@
--- `script::run_lines` meets its contract. The invariant: the lines of the history so far, and what is printed from the present line on, are the whole output,
+-- `running::run_lines` meets its contract. The invariant: the lines of the history so far, and what is printed from the present line on, are the whole output,
 -- and the retries are counted alike (proofs/Loop).
 use Prim.Native.Nat.{ℕ, _-_}
 use native.Mathlib.Omega.{arith}
@@ -8,9 +8,9 @@ use lib.ListN.{length, drop}
 use Rattle.definitions.specs.Run.{printed, retriesFrom}
 use Rattle.definitions.specs.Texts.{linesOf}
 use Rattle.lines.specs.Lines.{LineAt, NextAt}
-use Rattle.script.proofs.Loop.{AtLine, begun, finished, unended, line-room, stop, steps-fit, retries-fit, next}
-use Rattle.script.proofs.run_lines.Statement.{statement}
-use Rattle.script.proofs.run_lines.Tie as tie
+use Rattle.running.proofs.Loop.{AtLine, begun, finished, unended, line-room, stop, steps-fit, retries-fit, next}
+use Rattle.running.proofs.run_lines.Statement.{statement}
+use Rattle.running.proofs.run_lines.Tie as tie
 
 abbrev Inv-loop : tie.InvT-loop
 Inv-loop script start table₀ history₀ from₀ line₀ steps₀ retried₀ flags₀ shown₀ table history from line steps retried flags shown =

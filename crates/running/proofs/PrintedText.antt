@@ -15,7 +15,7 @@ use Rattle.definitions.specs.Run.{Turn, stops, passes, makes, turnOf, eventLine
 use Rattle.definitions.specs.Texts.{linesOf}
 use Rattle.lines.specs.Lines.{LineAt, UnendedAt, DoneAt}
 use Rattle.turns.specs.Steps.{passesOn, added, tableBehind, movesMade, retriesMade}
-use Rattle.script.proofs.Histories.{linesIn, pair-line}
+use Rattle.running.proofs.Histories.{linesIn, pair-line}
 
 -- what the line from `from` to `end` does to the run
 abbrev pub turnAt : List ℕ → List ℕ → ℕ → ℕ → Turn

@@ -1,12 +1,12 @@
--- `script::run_script` meets its contract, by the first line (crate opening).
+-- `fresh_runs::run_script` meets its contract, by the first line (crate opening).
 use mathlib.Core.Path.{subst}
 use borrow.Author.Needs.{needs}
 use Rattle.definitions.specs.declared.Refusal.the-variants.{BadForm}
 use Rattle.opening.specs.FirstLine.{FirstAt, ThreadsAt}
 use Rattle.opening.proofs.FirstLines as first
-use Rattle.script.proofs.Entry.{stopped-first, recorded-as}
-use Rattle.script.proofs.run_script.Statement.{statement}
-use Rattle.script.proofs.run_script.Tie as tie
+use Rattle.fresh_runs.proofs.FromFresh.{stopped-first, recorded-as}
+use Rattle.fresh_runs.proofs.run_script.Statement.{statement}
+use Rattle.fresh_runs.proofs.run_script.Tie as tie
 
 -- the first line says N
 abbrev start : tie.After-known-told → tie.Start

@@ -25,15 +25,15 @@ use Rattle.theory.specs.Tables.{SoundBytes}
 use Rattle.turns.specs.Steps.{pairBytes, added, tableBehind, movesMade, retriesMade, PassedOn, StoppedBy, Stepped}
 use Rattle.turns.specs.declared.Step.{Step}
 use Rattle.turns.specs.declared.Step.the-variants.{Stopped, Passed}
-use Rattle.script.specs.Records.{Roomy, Begun, Recorded}
-use Rattle.script.specs.declared.Ran.{Ran}
+use Rattle.running.specs.Records.{Roomy, Begun, Recorded}
+use Rattle.running.specs.declared.Ran.{Ran}
 use Rattle.runs.proofs.Lines.{Does, line-does}
 use Rattle.theory.proofs.Numbers.{decimal-some}
 use Rattle.theory.proofs.Outputs.{same-size, put-front}
 use Rattle.theory.proofs.SoundKept.{sound-kept}
 use Rattle.theory.proofs.Tests.{one-most}
-use Rattle.script.proofs.Histories.{linesIn, lines-append}
-use Rattle.script.proofs.PrintedText.{turnAt, at-done, at-unended, at-stop, at-pass, none-done, none-unended, none-stop, counted-pass}
+use Rattle.running.proofs.Histories.{linesIn, lines-append}
+use Rattle.running.proofs.PrintedText.{turnAt, at-done, at-unended, at-stop, at-pass, none-done, none-unended, none-stop, counted-pass}
 
 -- the lines of the history so far, and what is printed from here on, are the whole output, and the retries so far, with those made from here on, are all of them
 pub record AtLine (script table₀ history₀ whole : List ℕ) (all : ℕ) (table history : List ℕ) (from line steps retried count at : ℕ) : Type 0 where

@@ -1,16 +1,15 @@
--- What a run is started from, and the history that it leaves: its lines, with the last one, are the whole output; and the retries that it counts.
+-- What the lines behind the first are run from, and the history that they leave: its lines, with the last one, are the whole output; and the retries that are counted.
 use Prim.Native.Nat.{ℕ, _+_, _*_, _≤_, _<_}
 use mathlib.Core.List.{List}
 use mathlib.Core.Path.{_≡_}
 use lib.ListN.{length, take}
 use Rattle.definitions.specs.Bounds.{mostScript}
-use Rattle.definitions.specs.Forms.{Form}
-use Rattle.definitions.specs.Run.{printed, printedFirst, runOutputOf, retriesFrom, retriesFirst, runRetries}
-use Rattle.definitions.specs.Texts.{Line, linesOf}
+use Rattle.definitions.specs.Run.{printed, retriesFrom}
+use Rattle.definitions.specs.Texts.{Line}
 use Rattle.theory.specs.ShortestLines.{shortestMove}
 use Rattle.apply.specs.MoveMade.{TestedTable}
 use Rattle.printing.specs.Output.{outputOf}
-use Rattle.script.specs.declared.Ran.{Ran}
+use Rattle.running.specs.declared.Ran.{Ran}
 
 -- the script isn't too long, and the history has room for a pair for every line of a move
 pub record Roomy (script history : List ℕ) : Type 0 where
@@ -29,12 +28,6 @@ pub record Recorded (output : List ℕ) (retries : ℕ) (history : List ℕ) (ra
   pub prints : output ≡ outputOf (take (ran .shown) history) (ran .ending)
   pub counts : retries ≡ ran .retries
 
--- by the lines behind the first on a table, by the form of the first line and those, and by the whole script
+-- by the lines behind the first on a table
 abbrev pub RecordedLines : List ℕ → List Line → List ℕ → Ran → Type 0
 RecordedLines table ls = Recorded (printed table 2 0 ls) (retriesFrom table ls)
-
-abbrev pub RecordedFirst : Form → List Line → List ℕ → Ran → Type 0
-RecordedFirst form ls = Recorded (printedFirst form ls) (retriesFirst form ls)
-
-abbrev pub RecordedRun : List ℕ → List ℕ → Ran → Type 0
-RecordedRun script = Recorded (runOutputOf script) (runRetries (linesOf script))
