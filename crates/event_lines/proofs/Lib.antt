@@ -1,3 +1,2 @@
--- Laws that the proofs of the event lines share.
-pub mod Names
+-- The lines of a history as a text in parts.
 pub mod EventLines

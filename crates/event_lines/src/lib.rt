@@ -1,7 +1,8 @@
 // The lines of a run's events, from the history that it showed: byte pairs, thread then event. They are measured before they are put.
-use definitions::Event;
-use text::decimal_length;
-use text::put_decimal;
+use decimals::decimal_length;
+use decimals::put_decimal;
+use event_names::name_length;
+use event_names::put_name;
 use text::put_text;
 ghost use Prim.Native.Nat.{_≤_};
 ghost use mathlib.Core.Path.{_≡_};
@@ -9,42 +10,11 @@ ghost use lib.ListN.{length};
 ghost use Rattle.definitions.specs.Answers.{shown};
 ghost use Rattle.definitions.specs.Bounds.{enoughOutput};
 ghost use Rattle.definitions.specs.PlainLock.{pairsOf};
-ghost use Rattle.definitions.specs.Run.{eventName, eventLine, eventLines};
+ghost use Rattle.definitions.specs.Run.{eventLine, eventLines};
 ghost use Rattle.theory.specs.Outputs.{RoomAt, PutAt};
-
-// The lengths of the events' names by their codes, from 0, which is no event's.
-const NAME_LENGTHS: [u8; Event::LAST as usize + 1] = [0, 17, 19, 17, 19, 20, 22, 20, 22];
 
 // The bytes of `(event `, of ` (`, and of `))` with its line feed.
 const AROUND_EVENT: usize = 12;
-
-// The length of an event's name, by the event's code.
-fn name_length(code: u8) -> u8
-    ensures { λ r. ⌜ r ≡ length (eventName code) ⌝ }
-{
-    if Event::LAST < code {
-        return 0;
-    }
-    NAME_LENGTHS[code as usize]
-}
-
-// The event's name, by its code.
-fn put_name(out: &mut [u8], at: usize, code: u8) -> usize
-    requires { ⌜ RoomAt (now out) at (eventName code) ⌝ }
-    ensures { λ r. ⌜ PutAt (now (out .entry)) at (eventName code) (now (out .exit)) r ⌝ }
-{
-    match code {
-        1 => put_text(out, at, b"enter shared call"),
-        2 => put_text(out, at, b"enter shared return"),
-        3 => put_text(out, at, b"leave shared call"),
-        4 => put_text(out, at, b"leave shared return"),
-        5 => put_text(out, at, b"enter exclusive call"),
-        6 => put_text(out, at, b"enter exclusive return"),
-        7 => put_text(out, at, b"leave exclusive call"),
-        8 => put_text(out, at, b"leave exclusive return"),
-        _ => at,
-    }
-}
 
 // The length of an event's line.
 fn event_length(thread: u8, code: u8) -> usize

@@ -1,5 +1,4 @@
--- Laws of the readers' answers; then the theorems on the grammar.
-pub mod Closings
+-- The theorems on the grammar.
 pub mod Spelling
 -- the lines of the page of promises
 pub mod Citations

@@ -1,5 +1,4 @@
--- What the promises of this crate cite besides the definitions of the scope paper, and the words of its theorems.
-pub mod Readings
+-- The words of the theorems on the grammar.
 pub mod Grammar
 -- on the page of promises
 pub mod ReadAsSpelled

@@ -17,7 +17,7 @@ use Rattle.definitions.specs.Table.{countFits, size, fresh, freshEntry}
 use Rattle.definitions.specs.Texts as texts
 use Rattle.definitions.specs.declared.Refusal.{Refusal}
 use Rattle.apply.specs.MoveMade.{TestedTable}
-use Rattle.printing.specs.declared.Ending.the-variants.{Refused}
+use Rattle.endings.specs.declared.Ending.the-variants.{Refused}
 use Rattle.theory.specs.Outputs.{Delivered}
 use Rattle.theory.specs.Tables.{forbiddenCount}
 use Rattle.running.specs.Records.{Roomy, Begun, Recorded}

@@ -12,9 +12,9 @@ use Rattle.definitions.specs.Plan.{bytesOf}
 use Rattle.definitions.specs.declared.Answer.{Answer}
 use Rattle.definitions.specs.declared.Refusal.{Refusal}
 use Rattle.definitions.specs.declared.Request.{Request}
-use Rattle.forms.specs.Readings.{formFor}
-use Rattle.forms.specs.declared.Form.{Form}
-use Rattle.forms.specs.declared.Form.the-variants as form
+use Rattle.act_forms.specs.Readings.{formFor}
+use Rattle.act_forms.specs.declared.Form.{Form}
+use Rattle.act_forms.specs.declared.Form.the-variants as form
 use Rattle.requests.specs.RequestTests.{testedAt}
 use Rattle.requests.specs.declared.Tested.{Tested}
 use Rattle.requests.specs.declared.Tested.the-variants.{Passed, Refused}

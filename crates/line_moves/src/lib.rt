@@ -1,8 +1,8 @@
 // The move that a line of a script states, as a byte triple. The line is read by the function that the run uses.
+use act_forms::Form;
 use definitions::Answer;
 use definitions::Refusal;
 use definitions::Request;
-use forms::Form;
 use forms::read_form;
 use requests::Tested;
 use requests::test_numbers;

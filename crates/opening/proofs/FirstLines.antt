@@ -15,16 +15,16 @@ use Rattle.definitions.specs.Scripts.{linesTests, scriptTests, threadsOf, moveL
 use Rattle.definitions.specs.Table.{countFits}
 use Rattle.definitions.specs.Texts as texts
 use Rattle.definitions.specs.Texts.{linesOf}
-use Rattle.forms.specs.Readings.{formFor}
-use Rattle.forms.specs.declared.Form.{Form}
-use Rattle.forms.specs.declared.Form.the-variants as form
+use Rattle.act_forms.specs.Readings.{formFor}
+use Rattle.act_forms.specs.declared.Form.{Form}
+use Rattle.act_forms.specs.declared.Form.the-variants as form
 use Rattle.lines.specs.Lines.{LineAt, NextAt}
 use Rattle.lines.specs.declared.Next.{Next}
 use Rattle.lines.specs.declared.Next.the-variants.{Line, Unended, Done}
 use denote.Enum.Declared.{tagOf}
 use types.Run.{OneOf}
 use Rattle.opening.specs.FirstLine.{saysThreads, ThreadsAt, NoThreads}
-use Rattle.forms.proofs.Form as form′
+use Rattle.act_forms.proofs.Form as form′
 use Rattle.lines.proofs.Next as next
 
 -- ---- what stands at the front

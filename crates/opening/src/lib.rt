@@ -1,5 +1,5 @@
 // The first line of a script, for the run and for reading alike.
-use forms::Form;
+use act_forms::Form;
 use forms::read_form;
 use lines::Next;
 use lines::next_line;

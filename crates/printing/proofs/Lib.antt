@@ -1,3 +1,2 @@
--- Laws that the proofs of the printing functions share.
-pub mod Endings
+-- A whole output.
 pub mod Output

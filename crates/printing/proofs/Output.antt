@@ -9,8 +9,9 @@ use Rattle.definitions.specs.Bounds.{enoughOutput}
 use Rattle.definitions.specs.PlainLock.{pairsOf}
 use Rattle.definitions.specs.Run.{eventLines}
 use Rattle.theory.specs.Outputs.{RoomAt, PutAt, Delivered}
-use Rattle.printing.specs.Output.{endingLine, outputOf, Measurable}
-use Rattle.printing.specs.declared.Ending.{Ending}
+use Rattle.endings.specs.LastLine.{endingLine}
+use Rattle.printing.specs.Output.{outputOf, Measurable}
+use Rattle.endings.specs.declared.Ending.{Ending}
 use Rattle.text.proofs.Deliveries.{short-refused, put-delivered}
 use Rattle.theory.proofs.Outputs.{room-first, room-second, both}
 use Rattle.theory.proofs.Replies.{no-test}

@@ -1,2 +1,2 @@
--- What the promises of the printing functions cite besides the definitions of the scope paper.
+-- What the promise cites besides the definitions of the scope paper.
 pub mod Output

@@ -2,17 +2,11 @@
 use Prim.Native.Nat.{ℕ, _≤_}
 use mathlib.Core.List.{List, _++_}
 use lib.ListN.{length}
-use Rattle.definitions.specs.Answers.{numberOf}
 use Rattle.definitions.specs.Bounds.{enoughOutput}
 use Rattle.definitions.specs.PlainLock.{pairsOf}
-use Rattle.definitions.specs.Run.{eventLines, stepsLine, refusedLine}
-use Rattle.printing.specs.declared.Ending.{Ending}
-use Rattle.printing.specs.declared.Ending.the-variants.{Steps, Refused}
-
--- the line that each case of an ending stands for
-abbrev pub endingLine : Ending → List ℕ
-endingLine (Steps steps) = stepsLine steps
-endingLine (Refused refusal line) = refusedLine (numberOf refusal) line
+use Rattle.definitions.specs.Run.{eventLines}
+use Rattle.endings.specs.declared.Ending.{Ending}
+use Rattle.endings.specs.LastLine.{endingLine}
 
 -- "prints `(event T (name))` for each event as it comes", then the last line
 abbrev pub outputOf : List ℕ → Ending → List ℕ

@@ -16,9 +16,9 @@ use Rattle.definitions.specs.declared.Refusal.{Refusal}
 use Rattle.definitions.specs.declared.Refusal.the-variants.{BadForm}
 use Rattle.apply.specs.MoveMade.{TestedTable}
 use Rattle.lines.specs.Lines.{LineAt, UnendedAt, DoneAt}
-use Rattle.printing.specs.Output.{endingLine}
-use Rattle.printing.specs.declared.Ending.{Ending}
-use Rattle.printing.specs.declared.Ending.the-variants.{Steps, Refused}
+use Rattle.endings.specs.LastLine.{endingLine}
+use Rattle.endings.specs.declared.Ending.{Ending}
+use Rattle.endings.specs.declared.Ending.the-variants.{Steps, Refused}
 use Rattle.theory.specs.Outputs.{RoomAt}
 use Rattle.theory.specs.ShortestLines.{shortestMove}
 use Rattle.theory.specs.Tables.{SoundBytes}

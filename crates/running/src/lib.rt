@@ -1,9 +1,9 @@
 // The lines of a script run on a table. One pass over them makes the moves, counts the retries among them and keeps the history
 // that they show, byte pairs, thread then event.
 use definitions::Refusal;
+use endings::Ending;
 use lines::Next;
 use lines::next_line;
-use printing::Ending;
 use turns::Step;
 use turns::take_line;
 ghost use mathlib.Core.Path.{_≡_};

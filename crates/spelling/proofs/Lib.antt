@@ -1,2 +1,2 @@
--- What the functions that spell a line share.
+-- The texts of the lines.
 pub mod LineTexts

@@ -1,3 +1,2 @@
--- Laws of texts put into an output, which the writers' proofs share and callers cite.
-pub mod Decimals
+-- A whole output, which callers cite too.
 pub mod Deliveries

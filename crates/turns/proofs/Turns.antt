@@ -17,9 +17,9 @@ use Rattle.definitions.specs.declared.Refusal.{Refusal}
 use Rattle.definitions.specs.declared.Request.{Request}
 use Rattle.apply.specs.MoveMade.{TestedTable, MoveTried}
 use Rattle.moving.specs.declared.Made.{Made}
-use Rattle.forms.specs.Readings.{formFor}
-use Rattle.forms.specs.declared.Form.{Form}
-use Rattle.forms.specs.declared.Form.the-variants as form
+use Rattle.act_forms.specs.Readings.{formFor}
+use Rattle.act_forms.specs.declared.Form.{Form}
+use Rattle.act_forms.specs.declared.Form.the-variants as form
 use Rattle.theory.specs.Outputs.{RoomAt, PutAt}
 use Rattle.theory.specs.Tables.{SoundBytes}
 use Rattle.turns.specs.Steps.{pairBytes, added, PassedOn, StoppedBy, Stepped}

@@ -1,8 +1,8 @@
 // A line's turn in a run: its form is read, its move made, and the event that this shows is added to the history, byte pairs, thread then event.
+use act_forms::Form;
 use definitions::Outcome;
 use definitions::Refusal;
 use definitions::Request;
-use forms::Form;
 use forms::read_form;
 use lock::try_move;
 use text::put_byte;

@@ -22,7 +22,7 @@ use Rattle.theory.proofs.Replies.{passed, failed, pass, no-test, behind, in-fro
 use Rattle.theory.proofs.TestLists.{answered-e, passes-join}
 use Rattle.theory.proofs.Tests.{true-T, false-T, ne-T, eq-T}
 use Rattle.theory.proofs.Triples.{triples-count}
-use Rattle.writing.proofs.ScriptParts.{script-long}
+use Rattle.script_text.proofs.ScriptParts.{script-long}
 
 module _ (n : ℕ) (triples out : List ℕ) where
   abbrev moves : ℕ

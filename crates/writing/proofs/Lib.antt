@@ -1,4 +1,2 @@
--- The tests of the triples, the script part by part, and what they make of the promise.
-pub mod TripleTests
-pub mod ScriptParts
+-- What the tests make of the promise.
 pub mod EntryLaws

@@ -2,7 +2,7 @@
 use borrow.Author.Needs.{needs}
 use Rattle.definitions.specs.Forms.{threads}
 use Rattle.definitions.specs.Texts.{bytes}
-use Rattle.forms.proofs.Closings.{read-by}
+use Rattle.act_forms.proofs.Closings.{read-by}
 use Rattle.forms.proofs.read_threads.Statement.{statement}
 use Rattle.forms.proofs.read_threads.Tie as tie
 

@@ -1,0 +1,2 @@
+-- The texts of the acts.
+pub mod ActTexts

@@ -1,0 +1,2 @@
+-- A number digit by digit.
+pub mod Decimals

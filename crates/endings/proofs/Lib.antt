@@ -1,0 +1,2 @@
+-- The last line by the case of the ending.
+pub mod Endings

@@ -1,0 +1,2 @@
+-- The names by their codes.
+pub mod Names

@@ -1,0 +1,2 @@
+-- The script part by part.
+pub mod ScriptParts

@@ -1,0 +1,2 @@
+-- The tests triple by triple.
+pub mod TripleTests
