@@ -18,8 +18,7 @@ pub fn put_triple(out: &mut [u8], at: usize, thread: u8, mv: u8, target: u8) -> 
     at + 3
 }
 
-// Triples put at the front of the output. Byte by byte the loop would be compiled to a call of memcpy, which the archive
-// doesn't import.
+// Triples put at the front of the output. Byte by byte the loop would be compiled to a call of memcpy, which the host supplies.
 pub fn put_triples(out: &mut [u8], moves: &[u8]) -> usize
     requires { ⌜ RoomAt (now out) 0 (now moves) × (length (now moves) % 3 ≡ 0) ⌝ }
     ensures { λ r. ⌜ PutAt (now (out .entry)) 0 (now (moves .entry)) (now (out .exit)) r ⌝ }
