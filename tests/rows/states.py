@@ -58,7 +58,7 @@ use borrow.Author.Tests.{{lt-leb}}
 use Rattle.definitions.specs.Bounds.{{lastPhase}}
 use Rattle.definitions.specs.Phases.{{rows}}
 use Rattle.rows.specs.Rows.{{oneBad, rowFor, rowAt}}
-use Rattle.theory.proofs.Matches.{{above}}
+use Rattle.basics.proofs.Matches.{{above}}
 use Rattle.{crate}.proofs.states.row_of.Statement.{{statement}}
 use Rattle.{crate}.proofs.states.row_of.Tie as tie
 

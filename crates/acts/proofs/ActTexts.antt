@@ -8,8 +8,8 @@ use Rattle.definitions.specs.Bounds.{lastMove}
 use Rattle.definitions.specs.Forms.{actText}
 use Rattle.definitions.specs.Texts.{bytes, decimal}
 use Rattle.definitions.specs.Threads.{listOf}
-use Rattle.theory.proofs.Matches.{NoneOf, downFrom, above}
-use Rattle.theory.proofs.Numbers.{decimal-short}
+use Rattle.basics.proofs.Matches.{NoneOf, downFrom, above}
+use Rattle.basics.proofs.Numbers.{decimal-short}
 
 -- a number that is no move's
 pub no-act : (mv target : ℕ) → NoneOf mv (downFrom 7) → actText mv target ≡ []

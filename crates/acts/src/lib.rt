@@ -14,7 +14,7 @@ ghost use mathlib.Core.Path.{_≡_};
 ghost use lib.ListN.{length};
 ghost use Rattle.definitions.specs.Forms.{actText};
 ghost use Rattle.definitions.specs.Texts.{decimal};
-ghost use Rattle.theory.specs.Outputs.{RoomAt, PutAt};
+ghost use Rattle.basics.specs.Outputs.{RoomAt, PutAt};
 
 // The bytes of ` (set ` and ` (clear `, each with `))`.
 const AROUND_SET: u8 = 8;

@@ -21,7 +21,7 @@ use Rattle.definitions.specs.declared.MoveEvent.the-variants as event
 use Rattle.definitions.specs.declared.Refusal.{Refusal}
 use Rattle.definitions.specs.declared.Refusal.the-variants.{BadSize, Unsound, NoThread, NoMove, BadTarget, NotInPhase, MutexHeld, BadForm, UnknownPair, NotNext, Occupied, NoRoom, Inconsistent}
 use Rattle.definitions.specs.declared.Request.{Request}
-use Rattle.theory.proofs.Tests.{below?}
+use Rattle.basics.proofs.Tests.{below?}
 use Rattle.answer_numbers.specs.Encoding.{encoded, retryUnit, madeMark, seenValue, moveValue, runValue, turnValue, insideValue, listedValue, Below}
 
 -- ---- one law

@@ -26,19 +26,19 @@ use Rattle.definitions.specs.Threads.{gather}
 use Rattle.definitions.specs.declared.Request.{Request}
 use Rattle.answer_numbers.specs.Encoding.{retryUnit, runValue, countValue, listedValue, valueOf, valueIn, valueBound, heldPlace, held}
 use Rattle.answer_numbers.proofs.Apart.{Fits}
+use Rattle.basics.proofs.Lists.{length-listOf, Each}
+use Rattle.basics.proofs.Replies.{peel, pass}
+use Rattle.basics.proofs.TestLists.{passes-append, passes-split}
+use Rattle.basics.proofs.Tests.{and-l, and-r, cond-yes, cond-either}
 use Rattle.history.proofs.CheckLaws.{tests-e}
 use Rattle.runs.proofs.Lines.{lines-count, read-few}
 use Rattle.runs.proofs.RetriesCounted.{retries-few}
 use Rattle.runs.proofs.Suffices.{suffices}
 use Rattle.theory.proofs.Bytes.{sized-e}
 use Rattle.theory.proofs.Lengths.{pairs-length, fresh-length}
-use Rattle.theory.proofs.Lists.{length-listOf, Each}
 use Rattle.theory.proofs.OpenMovesExact.{open-short}
 use Rattle.theory.proofs.PlanLengths.{event-most}
-use Rattle.theory.proofs.Replies.{peel, pass}
 use Rattle.theory.proofs.Stages.{count-most}
-use Rattle.theory.proofs.TestLists.{passes-append, passes-split}
-use Rattle.theory.proofs.Tests.{and-l, and-r, cond-yes, cond-either}
 use Rattle.theory.proofs.Triples.{triples-count}
 
 -- ---- by an entry's tests

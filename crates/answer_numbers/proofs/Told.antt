@@ -16,12 +16,12 @@ use Rattle.definitions.specs.Table.{tableOf, byteTable}
 use Rattle.definitions.specs.Watch.{startReply, eventReply, questionReply}
 use Rattle.definitions.specs.declared.Request.{Request}
 use Rattle.definitions.specs.declared.Watcher.{Watcher}
+use Rattle.basics.proofs.Lists.{each-member}
+use Rattle.basics.proofs.Replies.{accepted-is, all-passed}
+use Rattle.basics.proofs.Tests.{cond-no}
 use Rattle.dispatching.proofs.TurnIsMove.{turn-is-move}
 use Rattle.theory.proofs.Figure1.{figure-on}
-use Rattle.theory.proofs.Lists.{each-member}
-use Rattle.theory.proofs.Replies.{accepted-is, all-passed}
 use Rattle.theory.proofs.Storages.{accepts-e, accepted-reply}
-use Rattle.theory.proofs.Tests.{cond-no}
 use Rattle.answer_numbers.specs.Calls.{CountCall, fresh-table, nodes, open-moves, check, plan-length, plan-bytes, write-script, countReply, WatchCall, watch-start, watch-event, watchReply}
 use Rattle.answer_numbers.specs.Encoding.{retryUnit, seenValue, moveValue, turnValue, countValue, watchValue, insideValue, listedValue, runValue, Below}
 use Rattle.answer_numbers.specs.Encoding.{moveNumber, turnNumber, runNumber, countNumber, watchNumber, insideNumber, readNumber}

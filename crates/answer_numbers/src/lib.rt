@@ -1,6 +1,7 @@
 // An answer of the part as one number: its low byte is the refusal's number, 0 where the request is accepted, and the rest is
 // the refusal's place, or the value of what is answered (specs/Encoding.antt). The numbers of a move and of a turn stand in the
 // crate move_numbers.
+use codes::number_of;
 use definitions::Answer;
 use definitions::Inside;
 use definitions::Reading;
@@ -27,7 +28,7 @@ pub fn answer_number(answer: Answer) -> u64
 {
     match answer {
         Answer::Done(count) => 256 * (count as u64),
-        Answer::Refused(refusal, place) => 256 * (place as u64) + (refusal.number() as u64),
+        Answer::Refused(refusal, place) => 256 * (place as u64) + (number_of(refusal) as u64),
     }
 }
 
@@ -38,7 +39,7 @@ pub fn running_number(answer: Running) -> u64
 {
     match answer {
         Running::Ran { bytes, retries } => 256 * (bytes as u64 + RETRY_UNIT * (retries as u64)),
-        Running::Refused(refusal, place) => 256 * (place as u64) + (refusal.number() as u64),
+        Running::Refused(refusal, place) => 256 * (place as u64) + (number_of(refusal) as u64),
     }
 }
 
@@ -48,7 +49,7 @@ pub fn watch_number(answer: Watched) -> u64
 {
     match answer {
         Watched::Good => 0,
-        Watched::Refused(refusal) => refusal.number() as u64,
+        Watched::Refused(refusal) => number_of(refusal) as u64,
     }
 }
 
@@ -59,7 +60,7 @@ pub fn inside_number(answer: Inside) -> u64
     match answer {
         Inside::Somebody => 256,
         Inside::Nobody => 0,
-        Inside::Refused(refusal) => refusal.number() as u64,
+        Inside::Refused(refusal) => number_of(refusal) as u64,
     }
 }
 
@@ -70,7 +71,7 @@ pub fn reading_number(answer: Reading) -> u64
 {
     match answer {
         Reading::Read { threads, bytes } => 256 * (threads as u64 + 256 * (bytes as u64)),
-        Reading::Refused(refusal, line) => 256 * (line as u64) + (refusal.number() as u64),
+        Reading::Refused(refusal, line) => 256 * (line as u64) + (number_of(refusal) as u64),
     }
 }
 

@@ -17,7 +17,8 @@ use Rattle.views.specs.View.{viewOf, Follows, Decides}
 use Rattle.steps.specs.Steps.{inPhase, unseenBy, aimedBy}
 use Rattle.views.specs.declared.Decided.{Decided}
 use Rattle.views.specs.declared.View.{View}
-use Rattle.theory.proofs.Cases.{or-at, none-of, has-phase}
+use Rattle.basics.proofs.Cases.{or-at, none-of}
+use Rattle.theory.proofs.PhaseCases.{has-phase}
 use Rattle.theory.proofs.Ways.{accepted-e, phases-3, phases-4, only}
 
 -- the same request with another move

@@ -13,11 +13,11 @@ use Rattle.definitions.specs.Phases.{rows}
 use Rattle.definitions.specs.Sound.{sound}
 use Rattle.definitions.specs.Table.{Table, Write, phase≔, forbidden≔, update, applied}
 use Rattle.definitions.specs.Threads.{every, among}
+use Rattle.basics.proofs.Quantifiers.{howMany-pos, howMany-most}
+use Rattle.basics.proofs.Tests.{eq-T, decided, T-true, T-false}
+use Rattle.basics.proofs.FlagCounts.{flagsSet, one-fewer}
 use Rattle.theory.proofs.Figure1.{arrowAt}
-use Rattle.theory.proofs.Quantifiers.{howMany-pos, howMany-most}
 use Rattle.theory.proofs.Soundness.{Some, sound-e}
-use Rattle.theory.proofs.Tests.{eq-T, decided, T-true, T-false}
-use Rattle.theory.proofs.FlagCounts.{flagsSet, one-fewer}
 use Rattle.arrows.specs.Arrows.{Enabled}
 use Rattle.arrows.proofs.Taking.{Can, CanAt, at-most}
 use Rattle.arrows.proofs.OneRequest.{Makes, makes, stands, along, first, same-nodes, nodes-changed, enabled-at}

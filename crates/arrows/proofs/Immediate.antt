@@ -15,9 +15,9 @@ use Rattle.definitions.specs.Phases.{rows, nodeOf, hasMove}
 use Rattle.definitions.specs.Sound.{sound}
 use Rattle.definitions.specs.Table.{Table, Write, mutex≔, phase≔, busy≔, update, applied}
 use Rattle.definitions.specs.Threads.{every, among}
-use Rattle.theory.proofs.Cases.{or-at, none-of}
+use Rattle.basics.proofs.Cases.{or-at, none-of}
+use Rattle.basics.proofs.Columns.{update-same}
 use Rattle.theory.proofs.Figure1.{arrowAt}
-use Rattle.theory.proofs.Writes.{update-same}
 use Rattle.arrows.proofs.Taking.{CanAt, at-most}
 use Rattle.arrows.proofs.OneRequest.{makes, stands, along, nodes-changed, go-first, go-along, BeginsIn, enabled-in, enabled-at}
 

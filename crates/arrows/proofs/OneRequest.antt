@@ -17,13 +17,14 @@ use Rattle.definitions.specs.Sound.{sound}
 use Rattle.definitions.specs.Table.{Table, Write, update, applied}
 use Rattle.definitions.specs.Threads.{every, listOf, among, implies}
 use Rattle.definitions.specs.declared.Request.{Request}
-use Rattle.theory.proofs.Cases.{or-at, none-of}
+use Rattle.basics.proofs.Cases.{or-at, none-of}
+use Rattle.basics.proofs.Lists.{length-listOf, getD-listOf}
+use Rattle.basics.proofs.Quantifiers.{every-at}
+use Rattle.basics.proofs.Tests.{implies-e, eq-T, no-both}
 use Rattle.theory.proofs.Figure1.{nodes-set, stays}
-use Rattle.theory.proofs.Lists.{length-listOf, getD-listOf, nobody-listOf}
-use Rattle.theory.proofs.Quantifiers.{every-at}
+use Rattle.theory.proofs.AnyNode.{nobody-listOf}
 use Rattle.theory.proofs.SoundSteps.{kept-sound}
 use Rattle.theory.proofs.Soundness.{All, sound-e}
-use Rattle.theory.proofs.Tests.{implies-e, eq-T, no-both}
 use Rattle.theory.proofs.Ways.{accepted-i}
 use Rattle.theory.proofs.Writes.{applied-keeps}
 use Rattle.arrows.specs.Arrows.{Enabled}

@@ -14,9 +14,9 @@ use Rattle.definitions.specs.Phases.{rows, nodeOf, holds, hasMove}
 use Rattle.definitions.specs.Sound.{sound, anyHolder, opened}
 use Rattle.definitions.specs.Table.{Table, mutex≔, phase≔, applied}
 use Rattle.definitions.specs.Threads.{every, among}
+use Rattle.basics.proofs.Tests.{and-i, or-e, decided}
 use Rattle.theory.proofs.Figure1.{arrowAt}
 use Rattle.theory.proofs.Soundness.{Holds, some-in, none-in, sound-e}
-use Rattle.theory.proofs.Tests.{and-i, or-e, decided}
 use Rattle.arrows.specs.Arrows.{Enabled}
 use Rattle.arrows.proofs.Taking.{Can, CanAt, at-most}
 use Rattle.arrows.proofs.OneRequest.{go-first, go-along, enabled-at, nobody-in}

@@ -18,15 +18,15 @@ use Rattle.definitions.specs.Phases.{rows, nodeOf, busyIn, holds, hasMove}
 use Rattle.definitions.specs.Sound.{sound}
 use Rattle.definitions.specs.Table.{Table, target≔, phase≔, busy≔, forbidden≔, update}
 use Rattle.definitions.specs.Threads.{every, among, implies, sumOf}
-use Rattle.theory.proofs.Cases.{or-at, none-of}
+use Rattle.basics.proofs.Cases.{or-at, none-of}
+use Rattle.basics.proofs.Quantifiers.{every-at, howMany-pos, howMany-most}
+use Rattle.basics.proofs.Sums.{sum-update, sum-most}
+use Rattle.basics.proofs.Tests.{same?, and-i, not-i, decided, T-true, T-false, eq-T, implies-e}
+use Rattle.basics.proofs.FlagCounts.{flagsSet, one-more, one-fewer}
+use Rattle.basics.proofs.Columns.{update-same, update-other}
 use Rattle.theory.proofs.Figure1.{arrowAt}
-use Rattle.theory.proofs.Quantifiers.{every-at, howMany-pos, howMany-most}
 use Rattle.theory.proofs.SoundChanges.{in-phase}
 use Rattle.theory.proofs.Soundness.{Sound, Holds, sound-e}
-use Rattle.theory.proofs.Sums.{sum-update, sum-most}
-use Rattle.theory.proofs.Tests.{same?, and-i, not-i, decided, T-true, T-false, eq-T, implies-e}
-use Rattle.theory.proofs.FlagCounts.{flagsSet, one-more, one-fewer}
-use Rattle.theory.proofs.Writes.{update-same, update-other}
 use Rattle.arrows.specs.Arrows.{Enabled}
 use Rattle.arrows.proofs.OneRequest.{makes, stands, first, nodes-kept, go-first, go-along, enabled-in, nobody-in}
 use Rattle.arrows.proofs.Taking.{Can, CanAt, at-most}

@@ -18,12 +18,13 @@ use Rattle.definitions.specs.Phases.{rows, nodeOf, hasMove, holds}
 use Rattle.definitions.specs.Sound.{sound, anyHolder, opened}
 use Rattle.definitions.specs.Table.{Table, Write, mutex≔, target≔, phase≔, busy≔, forbidden≔, update, applied}
 use Rattle.definitions.specs.Threads.{every, among, between}
-use Rattle.theory.proofs.Cases.{or-at, none-of, is-holder}
+use Rattle.basics.proofs.Cases.{or-at, none-of}
+use Rattle.basics.proofs.Quantifiers.{every-at}
+use Rattle.basics.proofs.Tests.{decided, or-e, T-false, not-i}
+use Rattle.basics.proofs.Columns.{update-same}
+use Rattle.theory.proofs.PhaseCases.{is-holder}
 use Rattle.theory.proofs.Figure1.{arrowAt}
-use Rattle.theory.proofs.Quantifiers.{every-at}
 use Rattle.theory.proofs.Soundness.{All, In, sound-e, some-in, none-in}
-use Rattle.theory.proofs.Tests.{decided, or-e, T-false, not-i}
-use Rattle.theory.proofs.Writes.{update-same}
 use Rattle.arrows.specs.Arrows.{Enabled}
 use Rattle.arrows.proofs.OneRequest.{makes, stands, first, same-nodes, nodes-kept, go-first, go-along, enabled-in, nobody-in}
 use Rattle.arrows.proofs.Taking.{Can, CanAt, at-most}

@@ -14,14 +14,14 @@ use lib.ListN.{length, length-append}
 use Rattle.definitions.specs.Bounds.{mostThreads}
 use Rattle.definitions.specs.Table.{Table}
 use Rattle.definitions.specs.Threads.{listOf}
+use Rattle.basics.specs.EachOnce.{EachOnce}
 use Rattle.rows.specs.Rows.{oneBad, rowAt, stateIn, threadWord, foundBy}
 use Rattle.soundness.specs.Pass.{foundOf}
-use Rattle.theory.specs.EachOnce.{EachOnce}
 use Rattle.byte_pass.specs.Words.{oddWord}
+use Rattle.basics.proofs.EachOnce.{once-more, in-order}
+use Rattle.basics.proofs.Lists.{length-listOf}
+use Rattle.basics.proofs.Tests.{either}
 use Rattle.rows.proofs.Collected.{Bytes, Collected, word-fits, read-none, read-free, read-one, joined, read-as, ended}
-use Rattle.theory.proofs.EachOnce.{once-more, in-order}
-use Rattle.theory.proofs.Lists.{length-listOf}
-use Rattle.theory.proofs.Tests.{either}
 
 module _ (s : Table) (last : ℕ) where
   -- the threads before the last are even in number

@@ -10,11 +10,11 @@ use Rattle.definitions.specs.Sound.{sound}
 use Rattle.definitions.specs.Table.{Table}
 use Rattle.definitions.specs.Threads.{lowest}
 use Rattle.dispatching.specs.Ready.{ready}
+use Rattle.basics.proofs.Lowest.{lowest-none, lowest-most}
+use Rattle.basics.proofs.Quantifiers.{none-i}
+use Rattle.basics.proofs.Tests.{decided, cond-yes, cond-no, cond-either}
 use Rattle.dispatching.proofs.Choice.{mover-fits, mover-is, chosen-move, waiting-none}
-use Rattle.theory.proofs.Lowest.{lowest-none, lowest-most}
-use Rattle.theory.proofs.Quantifiers.{none-i}
 use Rattle.theory.proofs.Soundness.{Sound, sound-e}
-use Rattle.theory.proofs.Tests.{decided, cond-yes, cond-no, cond-either}
 use Rattle.choice.specs.Choosing.{lowestFrom, requestFor, choiceOf}
 use Rattle.choice.specs.declared.request.Choice.{Choice}
 use Rattle.choice.specs.declared.request.Choice.the-variants.{Nobody, Makes}

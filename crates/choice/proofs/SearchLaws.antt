@@ -14,10 +14,10 @@ use Rattle.dispatching.specs.Ready.{ready}
 use Rattle.ready.proofs.ReadyBits.{ready-bit}
 use Rattle.phase_moves.specs.MoveBits.{hasBit}
 use Rattle.theory.specs.Tables.{taskOf}
-use Rattle.theory.proofs.Lowest.{lowest-none, lowest-at, lowest-same}
-use Rattle.theory.proofs.Quantifiers.{below-suc, none-i}
+use Rattle.basics.proofs.Lowest.{lowest-none, lowest-at, lowest-same}
+use Rattle.basics.proofs.Quantifiers.{below-suc, none-i}
+use Rattle.basics.proofs.Tests.{and-l, and-r, and-i, T-true, not-i, no-both}
 use Rattle.theory.proofs.Soundness.{task-fits}
-use Rattle.theory.proofs.Tests.{and-l, and-r, and-i, T-true, not-i, no-both}
 use Rattle.choice.specs.Choosing.{SearchedFor, lowestFrom}
 
 module _ (from : ℕ) (f : ℕ → Bool) where

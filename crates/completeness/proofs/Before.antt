@@ -18,13 +18,13 @@ use Rattle.definitions.specs.Table.{Table, Write, phase≔, busy≔, applied}
 use Rattle.definitions.specs.Threads.{among, between}
 use Rattle.definitions.specs.declared.Request.{Request}
 use Rattle.theory.specs.Tables.{WritesFit}
-use Rattle.theory.proofs.Cases.{or-at, none-of}
+use Rattle.basics.proofs.Cases.{or-at, none-of}
+use Rattle.basics.proofs.Columns.{update-kept, update-twice, update-same}
+use Rattle.basics.proofs.Tests.{and-l, and-r, or-e}
 use Rattle.theory.proofs.Chains.{Leads, arrives, makes}
-use Rattle.theory.proofs.Columns.{update-kept, update-twice}
 use Rattle.theory.proofs.SoundChanges.{busy-moves, busy-at, other-elsewhere}
 use Rattle.theory.proofs.Soundness.{Sound}
-use Rattle.theory.proofs.Tests.{and-l, and-r, or-e}
-use Rattle.theory.proofs.Writes.{update-same, same-table}
+use Rattle.theory.proofs.Writes.{same-table}
 use Rattle.completeness.proofs.Rank.{base, weight, Below, falls-outside}
 
 -- from the table with the writes, which is sound and of a lower number, the request leads to s

@@ -15,17 +15,17 @@ use Rattle.definitions.specs.Phases.{rows, busyIn, holds, reading, hasMove}
 use Rattle.definitions.specs.Sound.{backedOff}
 use Rattle.definitions.specs.Table.{Table, mutex≔, target≔, phase≔, forbidden≔, update, applied}
 use Rattle.definitions.specs.Threads.{every, listOf, among, between, implies}
-use Rattle.theory.proofs.Cases.{or-at, none-of, among-range}
-use Rattle.theory.proofs.Columns.{update-kept, update-twice}
-use Rattle.theory.proofs.FlagCounts.{flagsSet, one-more, one-fewer}
-use Rattle.theory.proofs.Quantifiers.{every-at, every-i, howMany-most}
+use Rattle.basics.proofs.Cases.{or-at, none-of, among-range}
+use Rattle.basics.proofs.Columns.{update-kept, update-twice, update-same, update-other}
+use Rattle.basics.proofs.FlagCounts.{flagsSet, one-more, one-fewer}
+use Rattle.basics.proofs.Quantifiers.{every-at, every-i, howMany-most}
+use Rattle.basics.proofs.Tests.{and-i, T-true, T-false, not-i, or-e, or-l, or-r, eq-T, same?, implies-e}
 use Rattle.theory.proofs.SoundChanges.{Column, put, keep, put-all, after, other-elsewhere, phase-moves, flags-after, read-before, in-phase}
 use Rattle.theory.proofs.SoundChanges.{holder-alone, holder-locked, idle-target, holds-on, idle, takes-mutex, lets-go}
 use Rattle.theory.proofs.SoundSteps.{sets-again, clears}
 use Rattle.theory.proofs.Soundness.{All, Holds, Reads, Sound}
 use Rattle.theory.proofs.Stages.{Stage, stage-10, stage-11, stage-13, stage-15, stage-opened}
-use Rattle.theory.proofs.Tests.{and-i, T-true, T-false, not-i, or-e, or-l, or-r, eq-T, same?, implies-e}
-use Rattle.theory.proofs.Writes.{update-same, update-other, same-table}
+use Rattle.theory.proofs.Writes.{same-table}
 use Rattle.completeness.proofs.Before.{Before, undoable, step-back}
 use Rattle.completeness.proofs.Rank.{base, weight, holderWeight, weights, rankAt, Below, weights-phase, weights-flag}
 use Rattle.completeness.proofs.Rank.{with-writer, none-backed-off, without-writer, writerless-kept, falls-held, falls-free}

@@ -21,12 +21,12 @@ use Rattle.definitions.specs.Table.{Table, freshTable, tableOf, sized, fresh}
 use Rattle.definitions.specs.declared.Request.{Request}
 use Rattle.completeness.specs.Reached.{Reached}
 use Rattle.theory.specs.Tables.{SoundBytes}
+use Rattle.basics.proofs.Replies.{passed, failed}
+use Rattle.basics.proofs.Tests.{decided, no-both}
 use Rattle.theory.proofs.Bytes.{sized-e, same-bytes, blank-beyond, fresh-table}
 use Rattle.theory.proofs.Chains.{after-fresh, accepts-fresh, Leads, all-16}
 use Rattle.theory.proofs.Discipline.{disciplined}
-use Rattle.theory.proofs.Replies.{passed, failed}
 use Rattle.theory.proofs.SoundKept.{fresh-table-sound, sound-kept}
-use Rattle.theory.proofs.Tests.{decided, no-both}
 use Rattle.completeness.proofs.FromFresh.{from-fresh}
 
 -- ---- what requests leave is sound

@@ -12,12 +12,13 @@ use Rattle.definitions.specs.Sound.{sound}
 use Rattle.definitions.specs.Table.{Table, freshTable, Write, mutex≔, target≔, phase≔, busy≔, forbidden≔, update, appliedOne, applied}
 use Rattle.definitions.specs.declared.Request.{Request}
 use Rattle.theory.specs.Tables.{WriteFits, WritesFit}
+use Rattle.basics.proofs.Quantifiers.{below-suc}
+use Rattle.basics.proofs.Tests.{below?}
+use Rattle.basics.proofs.Columns.{update-other}
 use Rattle.theory.proofs.Chains.{Leads, stays, both}
-use Rattle.theory.proofs.Quantifiers.{below-suc}
 use Rattle.theory.proofs.Soundness.{Sound, sound-e}
 use Rattle.theory.proofs.Stages.{range-holds}
-use Rattle.theory.proofs.Tests.{below?}
-use Rattle.theory.proofs.Writes.{update-other, same-table, applied-keeps}
+use Rattle.theory.proofs.Writes.{same-table, applied-keeps}
 use Rattle.completeness.proofs.Before.{Before}
 use Rattle.completeness.proofs.Rank.{rankAt, Below}
 use Rattle.completeness.proofs.StepBack.{Fresh, step-or-fresh}

@@ -13,14 +13,14 @@ use Rattle.definitions.specs.Phases.{holds}
 use Rattle.definitions.specs.Sound.{backedOff}
 use Rattle.definitions.specs.Table.{Table, update}
 use Rattle.definitions.specs.Threads.{some, between, sumOf}
-use Rattle.theory.proofs.FlagCounts.{flagsSet}
-use Rattle.theory.proofs.Quantifiers.{some-i, some-e}
+use Rattle.basics.proofs.FlagCounts.{flagsSet}
+use Rattle.basics.proofs.Quantifiers.{some-i, some-e}
+use Rattle.basics.proofs.Sums.{sum-but}
+use Rattle.basics.proofs.Tests.{and-l, and-r, and-i, decided, cond-yes, cond-no, no-both, not-i, same?}
+use Rattle.basics.proofs.Columns.{update-same, update-other}
 use Rattle.theory.proofs.SoundChanges.{Column, put, after}
 use Rattle.theory.proofs.Soundness.{All}
 use Rattle.theory.proofs.Stages.{between-e, between-i}
-use Rattle.theory.proofs.Sums.{sum-but}
-use Rattle.theory.proofs.Tests.{and-l, and-r, and-i, decided, cond-yes, cond-no, no-both, not-i, same?}
-use Rattle.theory.proofs.Writes.{update-same, update-other}
 
 -- ---- the number
 

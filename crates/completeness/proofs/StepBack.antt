@@ -8,11 +8,12 @@ use Rattle.definitions.specs.Phases.{rows, holds, reading}
 use Rattle.definitions.specs.Sound.{backedOff}
 use Rattle.definitions.specs.Table.{Table}
 use Rattle.definitions.specs.Threads.{every, some, among}
-use Rattle.theory.proofs.Cases.{or-at, none-of, is-holder}
-use Rattle.theory.proofs.Quantifiers.{some-e, none-at}
+use Rattle.basics.proofs.Cases.{or-at, none-of}
+use Rattle.basics.proofs.Quantifiers.{some-e, none-at}
+use Rattle.basics.proofs.Tests.{and-i, decided, or-e, eq-T, ne-T, T-ne, no-both, not-i}
+use Rattle.theory.proofs.PhaseCases.{is-holder}
 use Rattle.theory.proofs.SoundChanges.{bit-0, bit-1}
 use Rattle.theory.proofs.Soundness.{All, Some, Holds, Reads, Sound}
-use Rattle.theory.proofs.Tests.{and-i, decided, or-e, eq-T, ne-T, T-ne, no-both, not-i}
 use Rattle.completeness.proofs.Before.{Before, undoable, undone}
 use Rattle.completeness.proofs.BeforeHolder.{Rest, at-rest, back-10, back-10-next, back-10-given-up, back-11, back-12, back-13, back-14}
 use Rattle.completeness.proofs.BeforeHolder.{back-15, back-15-set, back-15-clear, back-16, back-17, back-18, back-0}

@@ -8,8 +8,8 @@ use Rattle.definitions.specs.Bounds.{mostThreads}
 use Rattle.definitions.specs.PlainLock.{Places, placesIn, howManyAt}
 use Rattle.definitions.specs.Threads.{every, among, allOf}
 use Rattle.definitions.specs.Watch.{roundPlaces, placesFit, consistent}
-use Rattle.theory.proofs.Quantifiers.{every-same}
-use Rattle.theory.proofs.Tests.{and-l, and-r, and-i, ne-T, T-ne, same-test}
+use Rattle.basics.proofs.Quantifiers.{every-same}
+use Rattle.basics.proofs.Tests.{and-l, and-r, and-i, ne-T, T-ne, same-test}
 use Rattle.consistency.specs.Pass.{inRound, foundIn, emptyUpTo, foundFits}
 use Rattle.consistency.specs.Records.{held}
 use Rattle.consistency.specs.declared.Totals.{Totals}

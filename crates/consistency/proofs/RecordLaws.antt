@@ -13,10 +13,10 @@ use Rattle.definitions.specs.PlainLock.{Places, placesIn, howManyAt}
 use Rattle.definitions.specs.Threads.{every, listOf, among, allOf, implies}
 use Rattle.definitions.specs.Watch.{recordOf, roundPlaces, placesFit, consistent}
 use Rattle.definitions.specs.declared.Watcher.{Watcher}
-use Rattle.theory.proofs.Cases.{or-at, none-of}
-use Rattle.theory.proofs.Lists.{length-listOf, getD-listOf}
-use Rattle.theory.proofs.Quantifiers.{every-at, every-i}
-use Rattle.theory.proofs.Tests.{and-l, and-r, and-i, or-e, or-l, or-r, implies-e, implies-i, eq-T, cond-yes, cond-no, not-i, below?}
+use Rattle.basics.proofs.Cases.{or-at, none-of}
+use Rattle.basics.proofs.Lists.{length-listOf, getD-listOf}
+use Rattle.basics.proofs.Quantifiers.{every-at, every-i}
+use Rattle.basics.proofs.Tests.{and-l, and-r, and-i, or-e, or-l, or-r, implies-e, implies-i, eq-T, cond-yes, cond-no, not-i, below?}
 
 -- ---- places
 

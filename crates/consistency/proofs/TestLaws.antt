@@ -9,8 +9,8 @@ use Rattle.definitions.specs.Bounds.{mostThreads}
 use Rattle.definitions.specs.Table.{countFits}
 use Rattle.definitions.specs.Watch.{consistent, recordTests}
 use Rattle.definitions.specs.declared.Watcher.{Watcher}
-use Rattle.theory.proofs.Replies.{passed, failed}
-use Rattle.theory.proofs.Tests.{and-r, true-T, false-T}
+use Rattle.basics.proofs.Replies.{passed, failed}
+use Rattle.basics.proofs.Tests.{and-r, true-T, false-T}
 
 pub few-threads : (n : ℕ) → countFits n ≡ true → n ≤ mostThreads
 few-threads n e = leb→le n mostThreads (and-r (leb 1 n) (leb n mostThreads) (true-T (countFits n) e))

@@ -1,9 +1,9 @@
 // The consistency test of a watcher's record (02 §2), by value: one pass over its 200 entries, and refusals 1 and 13. The places
 // are lent as a slice, so that they are copied once, by whoever hands the record over.
+use codes::count_fits;
 use definitions::MOST_THREADS;
 use definitions::Refusal;
 use definitions::Watched;
-use definitions::count_fits;
 ghost use mathlib.Core.Path.{_≡_};
 ghost use lib.ListN.{length};
 ghost use Rattle.definitions.specs.Answers.{answered};

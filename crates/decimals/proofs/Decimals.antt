@@ -6,9 +6,9 @@ use mathlib.Core.Path.{_≡_, refl, sym, ap, _∙_}
 use lib.ListN.{length, take, drop, length-append}
 use lib.Seq.{length-take-le, take-append-le, take-take, drop-at}
 use Rattle.definitions.specs.Texts.{decimal}
-use Rattle.theory.specs.Outputs.{putAt, RoomAt, PutAt}
-use Rattle.theory.proofs.Numbers.{decimal-small, decimal-more, decimal-longer, decimal-some, decimal-short}
-use Rattle.theory.proofs.Outputs.{none, same-size}
+use Rattle.basics.specs.Outputs.{putAt, RoomAt, PutAt}
+use Rattle.basics.proofs.Numbers.{decimal-small, decimal-more, decimal-longer, decimal-some, decimal-short}
+use Rattle.basics.proofs.Outputs.{none, same-size}
 
 -- ---- measured
 

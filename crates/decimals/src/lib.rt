@@ -3,7 +3,7 @@ use text::put_byte;
 ghost use mathlib.Core.Path.{_≡_};
 ghost use lib.ListN.{length};
 ghost use Rattle.definitions.specs.Texts.{decimal};
-ghost use Rattle.theory.specs.Outputs.{RoomAt, PutAt};
+ghost use Rattle.basics.specs.Outputs.{RoomAt, PutAt};
 
 // How many digits a number needs.
 pub fn decimal_length(n: usize) -> u8

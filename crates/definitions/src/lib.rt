@@ -1,9 +1,6 @@
 // The numbers of the scope paper, each once, and the types that the part's entries are asked and answer with. What each case
 // of an enum means in the paper's numbers stands in specs/Answers.antt; the rest of specs/ holds the definitions that every
 // promise of the part cites. "02 §1" is paragraph 1 of the paper of change requests.
-ghost use mathlib.Core.Path.{_≡_};
-ghost use Rattle.definitions.specs.Answers.{codeOf, eventOf, numberOf};
-ghost use Rattle.definitions.specs.Table.{countFits};
 
 // "N threads, 1 to 200"
 pub const MOST_THREADS: u8 = 200;
@@ -53,13 +50,6 @@ pub const ENOUGH_OUTPUT: usize = 65_536;
 // "to depth 16 with the outermost as 1"
 pub const MOST_DEPTH: u8 = 16;
 
-// Whether N is from 1 to 200.
-pub fn count_fits(threads: usize) -> bool
-    ensures { λ r. ⌜ r ≡ countFits threads ⌝ }
-{
-    (1 <= threads) & (threads <= MOST_THREADS as usize)
-}
-
 // "A request is thread, move and target, 16 bits each"
 pub struct Request {
     pub thread: u16,
@@ -104,37 +94,6 @@ impl Event {
     pub const FIRST: u8 = 1;
 
     pub const LAST: u8 = 8;
-
-    pub fn from_code(code: u8) -> MaybeEvent
-        ensures { λ r. ⌜ r ≡ eventOf code ⌝ }
-    {
-        match code {
-            Event::FIRST => MaybeEvent::Known(Event::EnterSharedCall),
-            2 => MaybeEvent::Known(Event::EnterSharedReturn),
-            3 => MaybeEvent::Known(Event::LeaveSharedCall),
-            4 => MaybeEvent::Known(Event::LeaveSharedReturn),
-            5 => MaybeEvent::Known(Event::EnterExclusiveCall),
-            6 => MaybeEvent::Known(Event::EnterExclusiveReturn),
-            7 => MaybeEvent::Known(Event::LeaveExclusiveCall),
-            Event::LAST => MaybeEvent::Known(Event::LeaveExclusiveReturn),
-            _ => MaybeEvent::Unknown,
-        }
-    }
-
-    pub fn code(self) -> u8
-        ensures { λ r. ⌜ r ≡ codeOf self ⌝ }
-    {
-        match self {
-            Event::EnterSharedCall => 1,
-            Event::EnterSharedReturn => 2,
-            Event::LeaveSharedCall => 3,
-            Event::LeaveSharedReturn => 4,
-            Event::EnterExclusiveCall => 5,
-            Event::EnterExclusiveReturn => 6,
-            Event::LeaveExclusiveCall => 7,
-            Event::LeaveExclusiveReturn => 8,
-        }
-    }
 }
 
 // Why a request is turned down: the numbers 1 to 12 in checking order, and 13 of the watcher, tested after 1 and before 9.
@@ -152,28 +111,6 @@ pub enum Refusal {
     Occupied,
     NoRoom,
     Inconsistent,
-}
-
-impl Refusal {
-    pub fn number(self) -> u8
-        ensures { λ r. ⌜ r ≡ numberOf self ⌝ }
-    {
-        match self {
-            Refusal::BadSize => 1,
-            Refusal::Unsound => 2,
-            Refusal::NoThread => 3,
-            Refusal::NoMove => 4,
-            Refusal::BadTarget => 5,
-            Refusal::NotInPhase => 6,
-            Refusal::MutexHeld => 7,
-            Refusal::BadForm => 8,
-            Refusal::UnknownPair => 9,
-            Refusal::NotNext => 10,
-            Refusal::Occupied => 11,
-            Refusal::NoRoom => 12,
-            Refusal::Inconsistent => 13,
-        }
-    }
 }
 
 // What a move answers. The table stays in the lent bytes.

@@ -26,11 +26,11 @@ use Rattle.dispatching.proofs.TurnReplies.{refused-keeps, waits, moves}
 use Rattle.lock.proofs.MoveReplies as tested
 use Rattle.table.specs.TableTests.{examinedOf}
 use Rattle.table.specs.declared.tests.Examined.the-variants as examined
+use Rattle.basics.proofs.Tests.{decided, T-false, cond-yes, cond-no}
 use Rattle.table.proofs.TableTests.{refusal-is, sound-is}
 use Rattle.theory.proofs.Bytes.{sized-e}
 use Rattle.theory.proofs.Soundness.{sound-e}
 use Rattle.theory.proofs.Storages.{accepts-i, accepted-reply}
-use Rattle.theory.proofs.Tests.{decided, T-false, cond-yes, cond-no}
 use Rattle.dispatch.specs.Turned.{Turned, TurnTaken, TurnTable, eventIn}
 
 -- ---- the choice

@@ -11,10 +11,10 @@ use Rattle.definitions.specs.Moves.{ask}
 use Rattle.definitions.specs.Table.{Table}
 use Rattle.definitions.specs.Threads.{some, lowest}
 use Rattle.definitions.specs.declared.Request.{Request}
-use Rattle.theory.proofs.Lowest.{lowest-some, lowest-below, lowest-same}
-use Rattle.theory.proofs.Quantifiers.{some-i, some-e, none-at}
+use Rattle.basics.proofs.Lowest.{lowest-some, lowest-below, lowest-same}
+use Rattle.basics.proofs.Quantifiers.{some-i, some-e, none-at}
+use Rattle.basics.proofs.Tests.{decided, no-both}
 use Rattle.theory.proofs.Soundness.{Sound}
-use Rattle.theory.proofs.Tests.{decided, no-both}
 use Rattle.theory.proofs.Ways.{accepted-e}
 use Rattle.dispatching.specs.Ready.{ready, moveBy}
 use Rattle.dispatching.proofs.TurnKinds.{may-e, kind, ready-may, turn-is, move-is}

@@ -14,12 +14,12 @@ use Rattle.definitions.specs.Sound.{sound}
 use Rattle.definitions.specs.Table.{Table, tableOf, sized, byteTable}
 use Rattle.definitions.specs.Threads.{lowest}
 use Rattle.definitions.specs.declared.Request.{Request}
+use Rattle.basics.proofs.Lowest.{lowest-below}
+use Rattle.basics.proofs.Tests.{no-both, same?, ne-T, eq-T, cond-no}
 use Rattle.theory.proofs.Bytes.{sized-e}
-use Rattle.theory.proofs.Lowest.{lowest-below}
 use Rattle.theory.proofs.RequestNumbers.{target-below}
 use Rattle.theory.proofs.Soundness.{Sound, sound-e}
 use Rattle.theory.proofs.Storages.{accepts-i, accepted-reply}
-use Rattle.theory.proofs.Tests.{no-both, same?, ne-T, eq-T, cond-no}
 use Rattle.theory.proofs.Ways.{accepted-e}
 use Rattle.dispatching.specs.Ready.{moveBy}
 use Rattle.dispatching.specs.Turns.{turnReply, turnTable, NamesTurn, TurnBy, TurnMade}

@@ -15,13 +15,14 @@ use Rattle.definitions.specs.Phases.{rows, hasMove}
 use Rattle.definitions.specs.Table.{Table}
 use Rattle.definitions.specs.Threads.{every, some, lowest, listOf, among, implies}
 use Rattle.definitions.specs.declared.Request.{Request}
-use Rattle.theory.proofs.Cases.{or-at, none-of, among-list, has-phase}
-use Rattle.theory.proofs.Lowest.{lowest-some, lowest-at}
-use Rattle.theory.proofs.Quantifiers.{implied, some-i, some-e}
+use Rattle.basics.proofs.Cases.{or-at, none-of, among-list}
+use Rattle.basics.proofs.Lowest.{lowest-some, lowest-at}
+use Rattle.basics.proofs.Quantifiers.{implied, some-i, some-e}
+use Rattle.basics.proofs.Tests.{and-l, and-r, and-i, or-e, or-l, or-r, eq-T, ne-T, T-ne, T-false, no-both, not-i, same-test, same?, implies-e, implies-i, cond-yes, cond-no, cond-either}
+use Rattle.theory.proofs.PhaseCases.{has-phase}
 use Rattle.theory.proofs.RequestNumbers.{target-below}
 use Rattle.theory.proofs.SoundChanges.{bit-0, bit-1, in-phase}
 use Rattle.theory.proofs.Soundness.{Some, Sound, sound-i, busy-bit}
-use Rattle.theory.proofs.Tests.{and-l, and-r, and-i, or-e, or-l, or-r, eq-T, ne-T, T-ne, T-false, no-both, not-i, same-test, same?, implies-e, implies-i, cond-yes, cond-no, cond-either}
 use Rattle.theory.proofs.Ways.{Accepted, accepted-e, accepted-i, only, finds-free, phases-3, phases-4, phases-6}
 use Rattle.dispatching.specs.Ready.{hosts, readyBy, ready, moveBy}
 

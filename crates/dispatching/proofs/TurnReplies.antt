@@ -13,9 +13,9 @@ use Rattle.definitions.specs.Moves.{moveAnswer, stepIn}
 use Rattle.definitions.specs.Sound.{sound}
 use Rattle.definitions.specs.Table.{Table, Storage}
 use Rattle.definitions.specs.declared.Request.{Request}
-use Rattle.theory.proofs.Replies.{peel, pass, no-test, all-passed, leaves-yes, leaves-no}
-use Rattle.theory.proofs.TestLists.{answered-e}
-use Rattle.theory.proofs.Tests.{decided, cond-yes, cond-no}
+use Rattle.basics.proofs.Replies.{peel, pass, no-test, all-passed, leaves-yes, leaves-no}
+use Rattle.basics.proofs.TestLists.{answered-e}
+use Rattle.basics.proofs.Tests.{decided, cond-yes, cond-no}
 
 -- ---- the turn
 

@@ -13,9 +13,9 @@ use Rattle.definitions.specs.Dispatch.{moverIn, isWaiting, DispatchAnswer, wait
 use Rattle.definitions.specs.Sound.{sound}
 use Rattle.definitions.specs.Table.{Table, tableOf, sized, byteTable}
 use Rattle.theory.specs.Tables.{SoundBytes}
-use Rattle.theory.proofs.Replies.{passed, failed}
+use Rattle.basics.proofs.Replies.{passed, failed}
+use Rattle.basics.proofs.Tests.{decided}
 use Rattle.theory.proofs.Soundness.{sound-e}
-use Rattle.theory.proofs.Tests.{decided}
 use Rattle.dispatching.specs.Turns.{turnReply, turnTable, RefusedBy, TurnRefusedBy, TurnRefused, NoTurn}
 use Rattle.dispatching.proofs.Choice.{none-may, none-waits}
 use Rattle.dispatching.proofs.TurnReplies.{waiting-e, reply-e, refused-keeps, reply-is, waits}

@@ -17,11 +17,11 @@ use Rattle.definitions.specs.Phases.{rows, nodeOf, busyIn, holds}
 use Rattle.definitions.specs.Sound.{anyHolder}
 use Rattle.definitions.specs.Table.{Table, tableOf}
 use Rattle.definitions.specs.Threads.{every, among}
-use Rattle.theory.proofs.Cases.{or-at, among-here}
-use Rattle.theory.proofs.Quantifiers.{implied}
+use Rattle.basics.proofs.Cases.{or-at, among-here}
+use Rattle.basics.proofs.Quantifiers.{implied}
+use Rattle.basics.proofs.Tests.{and-i, or-e, or-r, eq-T, ne-T, decided, no-both, same?}
 use Rattle.theory.proofs.SoundChanges.{in-phase}
 use Rattle.theory.proofs.Soundness.{All, Some, Sound, some-in, none-in, sound-e}
-use Rattle.theory.proofs.Tests.{and-i, or-e, or-r, eq-T, ne-T, decided, no-both, same?}
 use Rattle.dispatching.specs.Ready.{readyBy, ready}
 use Rattle.dispatching.specs.Turns.{WaitsThere, hostPhases, HostMoves}
 use Rattle.dispatching.proofs.Choice.{waiting-none}

@@ -1,4 +1,5 @@
 // How a run ended, and the last line of its output: how long it is, and the same put into an output.
+use codes::number_of;
 use decimals::decimal_length;
 use decimals::put_decimal;
 use definitions::Refusal;
@@ -6,7 +7,7 @@ use text::put_text;
 ghost use mathlib.Core.Path.{_≡_};
 ghost use lib.ListN.{length};
 ghost use Rattle.definitions.specs.Run.{stepsLine, refusedLine};
-ghost use Rattle.theory.specs.Outputs.{RoomAt, PutAt};
+ghost use Rattle.basics.specs.Outputs.{RoomAt, PutAt};
 ghost use Rattle.endings.specs.LastLine.{endingLine};
 
 // How a run ended: with so many moves made, or by the refusal of a line.
@@ -31,7 +32,7 @@ pub fn ending_length(ending: Ending) -> usize
             AROUND_STEPS + number as usize
         }
         Ending::Refused(refusal, line) => {
-            let number = refusal.number();
+            let number = number_of(refusal);
             let first = decimal_length(number as usize);
             let second = decimal_length(line);
             AROUND_REFUSED + first as usize + second as usize
@@ -69,7 +70,7 @@ pub fn put_ending(out: &mut [u8], at: usize, ending: Ending) -> usize
     match ending {
         Ending::Steps(steps) => put_steps(out, at, steps),
         Ending::Refused(refusal, line) => {
-            let number = refusal.number();
+            let number = number_of(refusal);
             put_refused(out, at, number as usize, line)
         }
     }

@@ -7,8 +7,8 @@ use lib.ListN.{length, getD, drop}
 use Rattle.definitions.specs.Answers.{shown}
 use Rattle.definitions.specs.PlainLock.{pairsOf}
 use Rattle.definitions.specs.Run.{eventLine, eventLines}
+use Rattle.basics.proofs.Parts.{Parts}
 use Rattle.theory.proofs.Pairs.{pairs-next, pairs-end}
-use Rattle.theory.proofs.Parts.{Parts}
 
 module _ (history : List ℕ) where
   -- the line of pair k

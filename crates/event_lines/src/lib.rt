@@ -11,7 +11,7 @@ ghost use Rattle.definitions.specs.Answers.{shown};
 ghost use Rattle.definitions.specs.Bounds.{enoughOutput};
 ghost use Rattle.definitions.specs.PlainLock.{pairsOf};
 ghost use Rattle.definitions.specs.Run.{eventLine, eventLines};
-ghost use Rattle.theory.specs.Outputs.{RoomAt, PutAt};
+ghost use Rattle.basics.specs.Outputs.{RoomAt, PutAt};
 
 // The bytes of `(event `, of ` (`, and of `))` with its line feed.
 const AROUND_EVENT: usize = 12;

@@ -8,8 +8,8 @@ use lib.ListN.{length, getD, List·getD-eq-default}
 use Rattle.definitions.specs.Bounds.{lastEvent}
 use Rattle.definitions.specs.Run.{eventName}
 use Rattle.definitions.specs.Threads.{every, among, listOf}
-use Rattle.theory.proofs.Lists.{length-listOf, getD-listOf}
-use Rattle.theory.proofs.Matches.{NoneOf, left-over}
+use Rattle.basics.proofs.Lists.{length-listOf, getD-listOf}
+use Rattle.basics.proofs.Matches.{NoneOf, left-over}
 
 abbrev codeCount : ℕ
 codeCount = lastEvent + 1

@@ -4,7 +4,7 @@ use text::put_text;
 ghost use mathlib.Core.Path.{_≡_};
 ghost use lib.ListN.{length};
 ghost use Rattle.definitions.specs.Run.{eventName};
-ghost use Rattle.theory.specs.Outputs.{RoomAt, PutAt};
+ghost use Rattle.basics.specs.Outputs.{RoomAt, PutAt};
 
 // The lengths of the events' names by their codes, from 0, which is no event's.
 const NAME_LENGTHS: [u8; Event::LAST as usize + 1] = [0, 17, 19, 17, 19, 20, 22, 20, 22];

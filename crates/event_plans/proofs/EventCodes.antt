@@ -13,9 +13,9 @@ use Rattle.definitions.specs.Threads.{every, between}
 use Rattle.definitions.specs.declared.Event.{Event}
 use Rattle.definitions.specs.declared.MaybeEvent.{MaybeEvent}
 use Rattle.definitions.specs.declared.MaybeEvent.the-variants.{Known, Unknown}
+use Rattle.basics.proofs.Quantifiers.{every-at}
+use Rattle.basics.proofs.Tests.{and-r, and-i, no-both, not-i, below?}
 use Rattle.theory.proofs.PlanLengths.{plan-past}
-use Rattle.theory.proofs.Quantifiers.{every-at}
-use Rattle.theory.proofs.Tests.{and-r, and-i, no-both, not-i, below?}
 
 -- ---- the event of a code
 

@@ -1,4 +1,5 @@
 // The triples that the plan makes for one event.
+use codes::event_of;
 use definitions::CALL_EXCLUSIVE;
 use definitions::CALL_SHARED;
 use definitions::Event;
@@ -9,7 +10,7 @@ use repeats::go_times;
 use repeats::set_each;
 use triples::put_triple;
 ghost use Rattle.definitions.specs.Plan.{planOf, bytesOf};
-ghost use Rattle.theory.specs.Outputs.{RoomAt, PutAt};
+ghost use Rattle.basics.specs.Outputs.{RoomAt, PutAt};
 
 // Event 6: go, set t and go for each t, go.
 fn enter_exclusive(out: &mut [u8], at: usize, thread: u8, threads: u8) -> usize
@@ -36,7 +37,7 @@ pub fn write_pair(out: &mut [u8], at: usize, threads: u8, thread: u8, code: u8) 
     requires { ⌜ RoomAt (now out) at (bytesOf (planOf threads (record { thread = thread; event = code }))) ⌝ }
     ensures { λ r. ⌜ PutAt (now (out .entry)) at (bytesOf (planOf threads (record { thread = thread; event = code }))) (now (out .exit)) r ⌝ }
 {
-    let found = Event::from_code(code);
+    let found = event_of(code);
     let MaybeEvent::Known(event) = found else {
         return at;
     };

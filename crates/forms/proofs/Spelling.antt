@@ -20,11 +20,11 @@ use Rattle.definitions.specs.Texts.{bytes, same, starts, isDigit, decimal, Numb
 use Rattle.definitions.specs.Threads.{listOf, gather, among}
 use Rattle.definitions.specs.declared.Request.{Request}
 use Rattle.forms.specs.Grammar.{numberBound, Spellable, RequestLine, NoteLine, Spells}
-use Rattle.theory.proofs.Cases.{or-at, none-of, among-range}
-use Rattle.theory.proofs.Digits.{digit-high}
+use Rattle.basics.proofs.Cases.{or-at, none-of, among-range}
+use Rattle.basics.proofs.Digits.{digit-high}
+use Rattle.basics.proofs.Tests.{T-true, T-false, and-i, and-both, cond-either}
+use Rattle.basics.proofs.Texts.{same-eq}
 use Rattle.theory.proofs.PlainMoves.{plain-e, plain-form}
-use Rattle.theory.proofs.Tests.{T-true, T-false, and-i, and-both, cond-either}
-use Rattle.theory.proofs.Texts.{same-eq}
 use Rattle.words.proofs.Comparisons.{starts-split}
 use Rattle.words.proofs.Numerals.{first-printed, read-printed, number-split}
 

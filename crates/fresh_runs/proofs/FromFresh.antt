@@ -17,19 +17,19 @@ use Rattle.definitions.specs.Table.{countFits, size, fresh, freshEntry}
 use Rattle.definitions.specs.Texts as texts
 use Rattle.definitions.specs.declared.Refusal.{Refusal}
 use Rattle.apply.specs.MoveMade.{TestedTable}
+use Rattle.basics.specs.Outputs.{Delivered}
 use Rattle.endings.specs.declared.Ending.the-variants.{Refused}
-use Rattle.theory.specs.Outputs.{Delivered}
 use Rattle.theory.specs.Tables.{forbiddenCount}
 use Rattle.running.specs.Records.{Roomy, Begun, Recorded}
 use Rattle.running.specs.declared.Ran.{Ran}
+use Rattle.basics.proofs.Outputs.{turned-down, whole}
+use Rattle.basics.proofs.Quantifiers.{howMany-none}
+use Rattle.basics.proofs.Replies.{failed, pass, no-test}
+use Rattle.basics.proofs.Tests.{and-r, true-T, either}
 use Rattle.theory.proofs.Bytes.{fresh-table}
 use Rattle.theory.proofs.Lengths.{fresh-length}
 use Rattle.theory.proofs.LineTurns.{first-printed, first-retries}
-use Rattle.theory.proofs.Outputs.{turned-down, whole}
-use Rattle.theory.proofs.Quantifiers.{howMany-none}
-use Rattle.theory.proofs.Replies.{failed, pass, no-test}
 use Rattle.theory.proofs.SoundKept.{fresh-is-sound}
-use Rattle.theory.proofs.Tests.{and-r, true-T, either}
 
 -- ---- the fresh table
 

@@ -9,9 +9,9 @@ use Rattle.definitions.specs.Answers.{refused, Test, test, answered, passesAll}
 use Rattle.definitions.specs.Bounds.{mostThreads, mostHistory}
 use Rattle.definitions.specs.PlainLock.{formTests, pairsTests, checkTests}
 use Rattle.definitions.specs.Table.{countFits}
-use Rattle.theory.proofs.Replies.{passed, failed, peel, pass, no-test}
-use Rattle.theory.proofs.TestLists.{passes-split, passes-join}
-use Rattle.theory.proofs.Tests.{and-l, and-r, and-i, true-T, false-T, eq-T}
+use Rattle.basics.proofs.Replies.{passed, failed, peel, pass, no-test}
+use Rattle.basics.proofs.TestLists.{passes-split, passes-join}
+use Rattle.basics.proofs.Tests.{and-l, and-r, and-i, true-T, false-T, eq-T}
 
 -- what a history that passes the tests for 1 and 8 shows
 pub record Formed (n : ℕ) (bytes : List ℕ) : Type 0 where

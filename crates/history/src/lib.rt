@@ -1,8 +1,8 @@
 // The check of a history: its N and its form, and then its pairs.
+use codes::count_fits;
 use definitions::Answer;
 use definitions::MOST_HISTORY;
 use definitions::Refusal;
-use definitions::count_fits;
 use pairs::check_pairs;
 ghost use mathlib.Core.Path.{_≡_};
 ghost use Rattle.definitions.specs.Answers.{answerReply};

@@ -15,13 +15,13 @@ use Rattle.definitions.specs.declared.Request.{Request}
 use Rattle.act_forms.specs.Readings.{formFor}
 use Rattle.act_forms.specs.declared.Form.{Form}
 use Rattle.act_forms.specs.declared.Form.the-variants as form
+use Rattle.basics.specs.Outputs.{RoomAt, PutAt}
 use Rattle.requests.specs.RequestTests.{testedAt}
 use Rattle.requests.specs.declared.Tested.{Tested}
 use Rattle.requests.specs.declared.Tested.the-variants.{Passed, Refused}
-use Rattle.theory.specs.Outputs.{RoomAt, PutAt}
 use Rattle.line_moves.specs.Moves.{AllTaken, TurnedDown, Taken}
-use Rattle.theory.proofs.Outputs.{none}
-use Rattle.theory.proofs.Replies.{accepted-is, no-test}
+use Rattle.basics.proofs.Outputs.{none}
+use Rattle.basics.proofs.Replies.{accepted-is, no-test}
 use Rattle.theory.proofs.RequestNumbers.{numbers-e, target-below}
 
 -- ---- a request

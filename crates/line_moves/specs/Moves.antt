@@ -8,7 +8,7 @@ use Rattle.definitions.specs.Plan.{bytesOf}
 use Rattle.definitions.specs.declared.Answer.{Answer}
 use Rattle.definitions.specs.declared.Answer.the-variants.{Done, Refused}
 use Rattle.definitions.specs.declared.Request.{Request}
-use Rattle.theory.specs.Outputs.{PutAt}
+use Rattle.basics.specs.Outputs.{PutAt}
 
 -- the tests are passed, and the triples of the requests are put
 pub record AllTaken (tests : List Test) (rs : List Request) (before : List ℕ) (at : ℕ) (after : List ℕ) (next : ℕ) : Type 0 where

@@ -11,7 +11,7 @@ ghost use mathlib.Core.List.{[], _∷_};
 ghost use Rattle.definitions.specs.Forms.{formOf, lineTests, requestIn};
 ghost use Rattle.definitions.specs.Moves.{numberTests};
 ghost use Rattle.definitions.specs.Plan.{bytesOf};
-ghost use Rattle.theory.specs.Outputs.{RoomAt};
+ghost use Rattle.basics.specs.Outputs.{RoomAt};
 ghost use Rattle.line_moves.specs.Moves.{Taken};
 
 // A line's request: its numbers are tested, and its triple is put.

@@ -12,7 +12,7 @@ use lib.ListN.{length, getD, take, drop, length-drop, drop-of-length-le}
 use lib.Seq.{drop-cons, drop-drop, take-all}
 use Rattle.definitions.specs.Texts.{Line, lineFeed, inFront, linesOf}
 use Rattle.lines.specs.Lines.{lineLength, LineAt, UnendedAt, DoneAt}
-use Rattle.theory.proofs.Tests.{either}
+use Rattle.basics.proofs.Tests.{either}
 
 -- ---- the first line
 

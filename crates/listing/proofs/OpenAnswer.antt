@@ -9,17 +9,17 @@ use Rattle.definitions.specs.OpenMoves.{openEntry}
 use Rattle.definitions.specs.Sound.{tableTests}
 use Rattle.definitions.specs.Table.{tableOf}
 use Rattle.definitions.specs.declared.Refusal.{Refusal}
+use Rattle.basics.specs.Outputs.{Delivered}
 use Rattle.table.specs.TableTests.{examinedOf}
 use Rattle.table.specs.declared.tests.Examined.the-variants as examined
-use Rattle.theory.specs.Outputs.{Delivered}
 use Rattle.theory.specs.Tables.{SoundBytes}
 use Rattle.listing.specs.Pairs.{openPairs}
 use Rattle.listing.specs.declared.Mover.{Mover}
+use Rattle.basics.proofs.Outputs.{turned-down, with-tests}
+use Rattle.basics.proofs.Replies.{failed, behind, in-front, pass, no-test}
+use Rattle.basics.proofs.Tests.{false-T}
 use Rattle.table.proofs.TableTests.{refusal-is, sound-passes}
 use Rattle.theory.proofs.Bytes.{sized-e}
-use Rattle.theory.proofs.Outputs.{turned-down, with-tests}
-use Rattle.theory.proofs.Replies.{failed, behind, in-front, pass, no-test}
-use Rattle.theory.proofs.Tests.{false-T}
 use Rattle.listing.proofs.OpenList.{open-list}
 
 module _ (bytes : List ℕ) (i : ℕ) (out : List ℕ) where

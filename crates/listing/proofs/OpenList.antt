@@ -17,8 +17,8 @@ use Rattle.definitions.specs.Table.{Table}
 use Rattle.definitions.specs.Threads.{gather}
 use Rattle.listing.specs.Pairs.{openTargets, pairs, pairsBelow, openPairs}
 use Rattle.listing.specs.declared.Mover.{Mover}
-use Rattle.theory.proofs.Replies.{accepted-is}
-use Rattle.theory.proofs.Tests.{T-true}
+use Rattle.basics.proofs.Replies.{accepted-is}
+use Rattle.basics.proofs.Tests.{T-true}
 
 -- ---- gathered lists
 

@@ -9,8 +9,8 @@ use Rattle.definitions.specs.Bounds.{mostThreads, lastMove}
 use Rattle.definitions.specs.Moves.{namesThread}
 use Rattle.listing.specs.Pairs.{isOpen, openTargets, pairs}
 use Rattle.listing.specs.declared.Mover.{Mover}
-use Rattle.theory.proofs.Lengths.{gather-length}
-use Rattle.theory.proofs.Parts.{Parts, gathered}
+use Rattle.basics.proofs.Gathering.{gather-length}
+use Rattle.basics.proofs.Parts.{Parts, gathered}
 
 -- the pairs of one move: a pair for each target
 abbrev pub pairParts : ℕ → ℕ → Parts

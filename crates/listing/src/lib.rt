@@ -12,7 +12,7 @@ ghost use lib.ListN.{length};
 ghost use Rattle.definitions.specs.Answers.{answerReply, counted};
 ghost use Rattle.definitions.specs.Bounds.{mostThreads, lastMove};
 ghost use Rattle.definitions.specs.OpenMoves.{openEntry};
-ghost use Rattle.theory.specs.Outputs.{RoomAt, PutAt, Delivered};
+ghost use Rattle.basics.specs.Outputs.{RoomAt, PutAt, Delivered};
 ghost use Rattle.listing.specs.Pairs.{MoverFits, isOpen, openTargets, pairs, openPairs};
 
 // What is known of the thread that would move: N, its phase, the moves that the phase has, a bit each, and the mutex.

@@ -17,8 +17,8 @@ use Rattle.requests.specs.declared.Tested.{Tested}
 use Rattle.requests.specs.declared.Tested.the-variants.{Passed, Refused}
 use Rattle.table.specs.TableTests.{examinedOf}
 use Rattle.table.specs.declared.tests.Examined.the-variants as examined
+use Rattle.basics.proofs.Replies.{accepted-is, behind, in-front, pass}
 use Rattle.table.proofs.TableTests.{refusal-is, sound-is, sound-passes}
-use Rattle.theory.proofs.Replies.{accepted-is, behind, in-front, pass}
 use Rattle.theory.proofs.Storages.{refused-stays}
 
 -- ---- a request that is turned down

@@ -1,5 +1,7 @@
 // The number of a move's outcome, and of a turn of the dispatcher, by the rule of the crate answer_numbers.
 use answer_numbers::RETRY_UNIT;
+use codes::code_of;
+use codes::number_of;
 use definitions::Dispatched;
 use definitions::MoveEvent;
 use definitions::Outcome;
@@ -21,10 +23,10 @@ pub fn outcome_number(outcome: Outcome) -> u64
     ensures { λ r. ⌜ r ≡ moveNumber (outcomeReply outcome) ⌝ }
 {
     match outcome {
-        Outcome::Shown(event) => 256 * (event.code() as u64),
+        Outcome::Shown(event) => 256 * (code_of(event) as u64),
         Outcome::Quiet => 0,
         Outcome::Retry => RETRY_NUMBER,
-        Outcome::Refused(refusal) => refusal.number() as u64,
+        Outcome::Refused(refusal) => number_of(refusal) as u64,
     }
 }
 
@@ -33,7 +35,7 @@ fn event_code(event: MoveEvent) -> u64
     ensures { λ r. ⌜ r ≡ seenValue (eventSeen event) ⌝ }
 {
     match event {
-        MoveEvent::Shown(event) => event.code() as u64,
+        MoveEvent::Shown(event) => code_of(event) as u64,
         MoveEvent::Quiet => 0,
     }
 }
@@ -64,6 +66,6 @@ pub fn dispatched_number(answer: Dispatched) -> u64
             made_number(code, thread, mv, target)
         }
         Dispatched::Waiting => 0,
-        Dispatched::Refused(refusal) => refusal.number() as u64,
+        Dispatched::Refused(refusal) => number_of(refusal) as u64,
     }
 }

@@ -5,10 +5,10 @@ use mathlib.Core.Bool.{Bool, true, false, cond, not, _||_}
 use mathlib.Core.Path.{_≡_, refl, sym, ap, _∙_}
 use lib.Dec.{eqb, eqb→eq}
 use Rattle.definitions.specs.Threads.{every, howMany}
+use Rattle.basics.proofs.Quantifiers.{every-same, howMany-at}
+use Rattle.basics.proofs.Tests.{eq-T, same-test}
 use Rattle.soundness.proofs.Bools.{not-not}
 use Rattle.soundness.proofs.Threads.{except-count}
-use Rattle.theory.proofs.Quantifiers.{every-same, howMany-at}
-use Rattle.theory.proofs.Tests.{eq-T, same-test}
 
 -- how many have it, and how many have not
 complement : (n : ℕ) (f : ℕ → Bool) → howMany n (λ j. not (f j)) + howMany n f ≡ n

@@ -15,9 +15,9 @@ use Rattle.views.specs.declared.View.{View}
 use Rattle.theory.specs.Statements.{subjectOf}
 use Rattle.theory.specs.Tables.{Keeps, Told, forbiddenCount, headOf, taskOf, putBack, headAfter, moverAfter, flagAfter}
 use Rattle.moving.specs.Moved.{MoveTriedIn, TestedIn, AcceptingIn, viewBy}
+use Rattle.basics.proofs.Quantifiers.{howMany-most}
 use Rattle.theory.proofs.MoveWrites.{writes-fit}
 use Rattle.theory.proofs.Placed.{MadeBy, count-placed, store-law}
-use Rattle.theory.proofs.Quantifiers.{howMany-most}
 use Rattle.theory.proofs.Soundness.{sound-e}
 use Rattle.theory.proofs.Storages.{accepts-i, accepted-reply, accepted-stores}
 use Rattle.moving.proofs.Counts.{flag-one, share-most, none-but, all-but}

@@ -8,7 +8,7 @@ ghost use Rattle.definitions.specs.Answers.{answerReply};
 ghost use Rattle.definitions.specs.Nodes.{nodesEntry};
 ghost use Rattle.definitions.specs.Phases.{nodeOf};
 ghost use Rattle.definitions.specs.Table.{tableOf};
-ghost use Rattle.theory.specs.Outputs.{Delivered};
+ghost use Rattle.basics.specs.Outputs.{Delivered};
 ghost use Rattle.theory.specs.Tables.{SoundBytes};
 
 // "node codes 0 to 10 in this order"

@@ -13,8 +13,8 @@ use Rattle.definitions.specs.Bounds.{mostDepth}
 use Rattle.definitions.specs.Forms.{occurrences, note, bad, noteFits, noteForm}
 use Rattle.definitions.specs.Threads.{every, between}
 use Rattle.notes.specs.Brackets.{mayStand}
-use Rattle.theory.proofs.Quantifiers.{every-at}
-use Rattle.theory.proofs.Tests.{T-false, false-T, same-test, no-both, not-i, eq-T}
+use Rattle.basics.proofs.Quantifiers.{every-at}
+use Rattle.basics.proofs.Tests.{T-false, false-T, same-test, no-both, not-i, eq-T}
 
 -- ---- tests of every place
 

@@ -13,11 +13,11 @@ use Rattle.definitions.specs.PlainLock.{Pair, pairsOf, testsOf, permitted, pair
 use Rattle.definitions.specs.Table.{countFits}
 use Rattle.definitions.specs.Threads.{gather}
 use Rattle.orders.specs.Histories.{Passes, FirstBad}
+use Rattle.basics.proofs.Quantifiers.{every-at}
+use Rattle.basics.proofs.Replies.{all-passed}
+use Rattle.basics.proofs.TestLists.{answered-e, gathered, failed-first}
 use Rattle.history.proofs.CheckLaws.{formed, bad-size, bad-form, good-form, tests-e, tests-i}
 use Rattle.theory.proofs.Lengths.{pairs-length}
-use Rattle.theory.proofs.Quantifiers.{every-at}
-use Rattle.theory.proofs.Replies.{all-passed}
-use Rattle.theory.proofs.TestLists.{answered-e, gathered, failed-first}
 
 -- ---- accepted
 

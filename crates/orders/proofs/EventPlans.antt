@@ -13,11 +13,11 @@ use Rattle.definitions.specs.Threads.{listOf}
 use Rattle.orders.specs.Rounds.{restPhase}
 use Rattle.orders.specs.Histories.{pairOf}
 use Rattle.plain_lock.specs.Permitted.{pairFits, permittedFrom}
+use Rattle.basics.proofs.Cases.{or-at, none-of, among-range}
+use Rattle.basics.proofs.Quantifiers.{none-i}
+use Rattle.basics.proofs.Tests.{and-l, and-r, T-false, eq-T}
 use Rattle.plain_lock.proofs.PlainLaws.{Next, calls-shared, calls-exclusive, goes-on, next-e, leaves-by}
-use Rattle.theory.proofs.Cases.{or-at, none-of, among-range}
-use Rattle.theory.proofs.Quantifiers.{none-i}
 use Rattle.theory.proofs.Stages.{fresh-fits}
-use Rattle.theory.proofs.Tests.{and-l, and-r, T-false, eq-T}
 use Rattle.theory.proofs.Writes.{same-table}
 use Rattle.theory.proofs.Chains.{Leads, stays, both}
 use Rattle.orders.proofs.Flags.{enters-exclusive, leaves-exclusive}

@@ -30,11 +30,11 @@ use Rattle.plain_lock.specs.Permitted.{permittedFrom}
 use Rattle.plain_lock.proofs.PlainLaws.{permitted-is}
 use Rattle.runs.proofs.StepsAndEvents.{events-printed}
 use Rattle.theory.specs.Tables.{SoundBytes}
+use Rattle.basics.proofs.Tests.{and-l, and-r, cond-either}
 use Rattle.theory.proofs.Bytes.{byte-keeps}
 use Rattle.theory.proofs.Lengths.{bytes-length}
 use Rattle.theory.proofs.Stages.{fresh-fits}
 use Rattle.theory.proofs.Storages.{history-same, after-same}
-use Rattle.theory.proofs.Tests.{and-l, and-r, cond-either}
 use Rattle.theory.proofs.Chains.{history-fresh, accepts-fresh, all-16}
 use Rattle.orders.proofs.CheckReply.{passes-e, passes-count, passes-i, check-accepted, check-refused}
 use Rattle.orders.proofs.EventPlans.{plan-fresh}

@@ -17,12 +17,12 @@ use Rattle.definitions.specs.Table.{Table, mutex≔, target≔, phase≔, forbi
 use Rattle.definitions.specs.Threads.{every, among, gather}
 use Rattle.orders.specs.Rounds.{restPhase}
 use Rattle.orders.specs.Histories.{pairOf}
-use Rattle.theory.proofs.Quantifiers.{below-suc, every-at, every-i, some-i, none-at, none-i}
+use Rattle.basics.proofs.Quantifiers.{below-suc, every-at, every-i, some-i, none-at, none-i}
+use Rattle.basics.proofs.Tests.{T-true, T-false, false-T, or-e, or-l, or-r, same-test, not-i, cond-yes, cond-no, eq-T, ne-T, same?}
+use Rattle.basics.proofs.Columns.{update-same, update-other, along, same-column, kept, through, update-twice}
 use Rattle.theory.proofs.Soundness.{sound-e}
-use Rattle.theory.proofs.Tests.{T-true, T-false, false-T, or-e, or-l, or-r, same-test, not-i, cond-yes, cond-no, eq-T, ne-T, same?}
-use Rattle.theory.proofs.Writes.{update-same, update-other, same-table}
+use Rattle.theory.proofs.Writes.{same-table}
 use Rattle.theory.proofs.Chains.{Leads, stays, both, arrives, makes, makes-go}
-use Rattle.theory.proofs.Columns.{along, same-column, kept, through, update-twice}
 use Rattle.orders.proofs.RestTables.{restBusy, resting, PlanLeads}
 
 -- ---- tests

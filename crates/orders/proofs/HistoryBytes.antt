@@ -9,7 +9,7 @@ use Rattle.definitions.specs.Bounds.{mostThreads, firstEvent, lastEvent}
 use Rattle.definitions.specs.PlainLock.{Pair, Places, pairsOf, advanced}
 use Rattle.orders.specs.Histories.{historyBytes, AllBytes}
 use Rattle.plain_lock.specs.Permitted.{pairFits, permittedFrom}
-use Rattle.theory.proofs.Tests.{and-l, and-r}
+use Rattle.basics.proofs.Tests.{and-l, and-r}
 use Rattle.orders.proofs.PairTests.{permits-e}
 
 pub pairs-read : (h : List Pair) → pairsOf (historyBytes h) ≡ h

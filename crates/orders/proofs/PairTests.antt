@@ -5,8 +5,8 @@ use Rattle.definitions.specs.Bounds.{firstEvent, lastEvent}
 use Rattle.definitions.specs.PlainLock.{Pair, Places, isNext, needMet}
 use Rattle.definitions.specs.Threads.{between}
 use Rattle.plain_lock.specs.Permitted.{pairFits}
-use Rattle.theory.proofs.Replies.{peel, pass, no-test}
-use Rattle.theory.proofs.Tests.{and-l, and-r, and-i}
+use Rattle.basics.proofs.Replies.{peel, pass, no-test}
+use Rattle.basics.proofs.Tests.{and-l, and-r, and-i}
 
 pub record Permits (n : ℕ) (p : Places) (x : Pair) : Type 0 where
   pub known : T (between firstEvent lastEvent (x .event))

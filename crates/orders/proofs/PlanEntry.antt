@@ -9,8 +9,8 @@ use Rattle.definitions.specs.Chains.{requestsOf}
 use Rattle.definitions.specs.PlainLock.{pairsOf, checkTests}
 use Rattle.definitions.specs.Plan.{plan, bytesOf, planEntry}
 use Rattle.definitions.specs.declared.Request.{Request}
+use Rattle.basics.proofs.Outputs.{whole, answered-so, text-first}
 use Rattle.theory.proofs.Lengths.{bytes-length}
-use Rattle.theory.proofs.Outputs.{whole, answered-so, text-first}
 use Rattle.theory.proofs.Triples.{bytes-read}
 
 module _ (n : ℕ) (bytes out : List ℕ) where

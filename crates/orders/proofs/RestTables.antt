@@ -17,9 +17,9 @@ use Rattle.definitions.specs.Table.{Table, phase≔, busy≔, update, applied}
 use Rattle.definitions.specs.Threads.{some, among}
 use Rattle.orders.specs.Rounds.{restPhase}
 use Rattle.orders.specs.Histories.{pairOf}
-use Rattle.theory.proofs.Writes.{update-same, same-table}
+use Rattle.basics.proofs.Columns.{update-same, along, kept, through, update-kept, update-twice}
+use Rattle.theory.proofs.Writes.{same-table}
 use Rattle.theory.proofs.Chains.{Leads, both, arrives, makes, makes-go}
-use Rattle.theory.proofs.Columns.{along, kept, through, update-kept, update-twice}
 
 -- busy is 1 in shared alone
 abbrev pub restBusy : ℕ → ℕ

@@ -20,18 +20,18 @@ use Rattle.definitions.specs.declared.Request.{Request}
 use Rattle.orders.specs.Rounds.{placeOf, placesOf}
 use Rattle.orders.specs.Histories.{pairOf}
 use Rattle.plain_lock.specs.Permitted.{pairFits, permittedFrom}
-use Rattle.theory.proofs.Quantifiers.{every-at, none-i}
+use Rattle.basics.proofs.Quantifiers.{every-at, none-i}
+use Rattle.basics.proofs.Tests.{and-i, implies-e, decided, not-i}
+use Rattle.basics.proofs.Columns.{along, kept, through}
 use Rattle.theory.proofs.SoundSteps.{kept-sound}
 use Rattle.theory.proofs.Soundness.{All, Sound, sound-e}
 use Rattle.theory.proofs.Storages.{accepts-e, refused-stays}
-use Rattle.theory.proofs.Tests.{and-i, implies-e, decided, not-i}
 use Rattle.theory.proofs.Ways.{Way, accepted-e, way}
 use Rattle.theory.proofs.Ways.{call-shared, raise-busy, find-open, find-forbidden, back-off, try-again, hold-mutex, give-back, enter-shared, leave-shared, lower-busy, return-shared}
 use Rattle.theory.proofs.Ways.{call-exclusive, take-mutex, set-flag, find-busy, last-flag, next-flag, relents, give-up, enter-exclusive, leave-exclusive}
 use Rattle.theory.proofs.Ways.{set-again, clear-flag, clear-last, release-mutex, return-exclusive}
 use Rattle.theory.proofs.Writes.{applied-keeps}
 use Rattle.theory.proofs.Chains.{own-reply, own-step}
-use Rattle.theory.proofs.Columns.{along, kept, through}
 use Rattle.orders.proofs.PairTests.{permits-i}
 
 -- ---- what a way does to the places

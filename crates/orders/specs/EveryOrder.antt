@@ -13,9 +13,9 @@ use Rattle.definitions.specs.Plan.{plan, bytesOf, planEntry}
 use Rattle.definitions.specs.Scripts.{threadsOf}
 use Rattle.definitions.specs.Table.{tableOf, fresh}
 use Rattle.definitions.specs.declared.Request.{Request}
+use Rattle.basics.specs.Outputs.{Delivered}
 use Rattle.plain_lock.specs.Permitted.{permittedFrom}
 use Rattle.runs.specs.Requests.{movesOf}
-use Rattle.theory.specs.Outputs.{Delivered}
 use Rattle.theory.specs.Tables.{SoundBytes}
 use Rattle.orders.specs.Histories.{mostEvents, historyBytes, AllBytes, Passes, FirstBad, Makes}
 use Rattle.orders.specs.Rounds.{placesOf}

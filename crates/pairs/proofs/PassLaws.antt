@@ -14,12 +14,12 @@ use Rattle.plain_lock.specs.Counts.{totalAt, standingOf, standingAfter, Counted
 use Rattle.plain_lock.specs.declared.Standing.{Standing}
 use Rattle.plain_lock.specs.declared.Verdict.{Verdict}
 use Rattle.plain_lock.specs.declared.Verdict.the-variants.{Fits, Bad}
+use Rattle.basics.proofs.Lists.{zeros}
+use Rattle.basics.proofs.Quantifiers.{howMany-none}
+use Rattle.basics.proofs.Replies.{all-passed}
+use Rattle.basics.proofs.TestLists.{one-more, first-failed}
 use Rattle.theory.proofs.Lengths.{pairs-length}
-use Rattle.theory.proofs.Lists.{zeros}
 use Rattle.theory.proofs.Pairs.{pairAt}
-use Rattle.theory.proofs.Quantifiers.{howMany-none}
-use Rattle.theory.proofs.Replies.{all-passed}
-use Rattle.theory.proofs.TestLists.{one-more, first-failed}
 use Rattle.plain_lock.proofs.PlainLaws.{noPair, places-more, in-round, placesIn-set}
 use Rattle.plain_lock.proofs.StandingLaws.{is-counted, same-standing}
 use Rattle.plain_lock.proofs.VerdictLaws.{VerdictOf, bad-verdict, fit-verdict}

@@ -8,7 +8,7 @@ use Rattle.definitions.specs.Bounds.{lastPhase, lastMove}
 use Rattle.definitions.specs.Phases.{rows, hasMove}
 use Rattle.definitions.specs.Threads.{every, among}
 use Rattle.phase_moves.specs.MoveBits.{bitsBelow, moveBits, hasBit}
-use Rattle.theory.proofs.Quantifiers.{every-at}
+use Rattle.basics.proofs.Quantifiers.{every-at}
 
 pub agrees-eq : (a b : Bool) → T (Bool·beq a b) → a ≡ b
 agrees-eq true true t = refl

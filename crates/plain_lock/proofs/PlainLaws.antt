@@ -15,9 +15,9 @@ use Rattle.definitions.specs.Answers.{passesAll}
 use Rattle.definitions.specs.PlainLock.{Pair, Places, placesIn, atStart, placeAfter, advanced, placesAfter, isNext, testsOf, permitted, howManyAt}
 use Rattle.definitions.specs.Threads.{every}
 use Rattle.plain_lock.specs.Permitted.{pairFits, permittedFrom}
-use Rattle.theory.proofs.Quantifiers.{howMany-change}
-use Rattle.theory.proofs.Tests.{or-e, or-l, same-test, no-both, eq-T, decided, cond-yes, cond-no, cond-either, same?}
-use Rattle.theory.proofs.Writes.{update-same, update-other}
+use Rattle.basics.proofs.Quantifiers.{howMany-change}
+use Rattle.basics.proofs.Tests.{or-e, or-l, same-test, no-both, eq-T, decided, cond-yes, cond-no, cond-either, same?}
+use Rattle.basics.proofs.Columns.{update-same, update-other}
 
 abbrev pub noPair : Pair
 noPair = record { thread = 0; event = 0 }

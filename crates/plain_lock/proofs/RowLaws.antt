@@ -11,7 +11,7 @@ use Rattle.definitions.specs.Threads.{between}
 use Rattle.plain_lock.specs.Counts.{writer, total, readers, any, mostFor, countsMeet, countedIn, countedOut, standingAfter, Counted}
 use Rattle.plain_lock.specs.Rows.{placeBefore, change, packed, knownRow, noPlace, unknownRow, eventRow, movedBy}
 use Rattle.plain_lock.specs.declared.Standing.{Standing}
-use Rattle.theory.proofs.Tests.{and-l, and-r, or-l, same-test, no-both, eq-T, decided, cond-yes, cond-no, cond-either, same?}
+use Rattle.basics.proofs.Tests.{and-l, and-r, or-l, same-test, no-both, eq-T, decided, cond-yes, cond-no, cond-either, same?}
 use Rattle.plain_lock.proofs.PlainLaws.{Next, calls-shared, calls-exclusive, goes-on, next-e, leaves-by}
 use Rattle.plain_lock.proofs.StandingLaws.{same-standing}
 

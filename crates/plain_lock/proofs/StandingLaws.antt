@@ -10,9 +10,9 @@ use Rattle.definitions.specs.Bounds.{mostThreads}
 use Rattle.definitions.specs.PlainLock.{Pair, Places, placeAfter, advanced, isNext, needMet, pairTests, howManyAt}
 use Rattle.plain_lock.specs.Counts.{writer, total, totalAt, standingOf, readers, any, countsMeet, countTests, countedIn, countedOut, standingAfter, Counted}
 use Rattle.plain_lock.specs.declared.Standing.{Standing}
-use Rattle.theory.proofs.Quantifiers.{none-howMany, howMany-pos, howMany-most}
-use Rattle.theory.proofs.Tests.{eq-T}
-use Rattle.theory.proofs.Writes.{update-same}
+use Rattle.basics.proofs.Quantifiers.{none-howMany, howMany-pos, howMany-most}
+use Rattle.basics.proofs.Tests.{eq-T}
+use Rattle.basics.proofs.Columns.{update-same}
 use Rattle.plain_lock.proofs.PlainLaws.{leaves-by, comes-by, count-advanced}
 
 -- ---- the total

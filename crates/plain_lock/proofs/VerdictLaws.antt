@@ -14,9 +14,9 @@ use Rattle.plain_lock.specs.Counts.{standingOf, countTests, standingAfte
 use Rattle.plain_lock.specs.declared.Standing.{Standing}
 use Rattle.plain_lock.specs.declared.Verdict.{Verdict}
 use Rattle.plain_lock.specs.declared.Verdict.the-variants.{Fits, Bad}
-use Rattle.theory.proofs.Replies.{peel}
-use Rattle.theory.proofs.TestLists.{answered-e}
-use Rattle.theory.proofs.Tests.{and-r}
+use Rattle.basics.proofs.Replies.{peel}
+use Rattle.basics.proofs.TestLists.{answered-e}
+use Rattle.basics.proofs.Tests.{and-r}
 use Rattle.plain_lock.proofs.StandingLaws.{tests-same, standing-after}
 
 abbrev pub VerdictOf : ℕ → Pair → Standing → Verdict → Type 0

@@ -10,8 +10,8 @@ use Rattle.definitions.specs.Plan.{plan, bytesOf, planEntry, planLengthReply}
 use Rattle.definitions.specs.declared.Answer.{Answer}
 use Rattle.definitions.specs.declared.Answer.the-variants.{Refused}
 use Rattle.definitions.specs.declared.Refusal.{Refusal}
-use Rattle.theory.specs.Outputs.{RoomAt, Delivered}
-use Rattle.theory.proofs.Outputs.{delivered-as}
+use Rattle.basics.specs.Outputs.{RoomAt, Delivered}
+use Rattle.basics.proofs.Outputs.{delivered-as}
 use Rattle.theory.proofs.SameCount.{enough, too-short, refused-plan}
 use Rattle.shares.proofs.LengthLaws.{turned-length}
 

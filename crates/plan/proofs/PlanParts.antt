@@ -6,8 +6,8 @@ use mathlib.Core.Path.{_≡_, refl, ap, _∙_}
 use lib.ListN.{length}
 use Rattle.definitions.specs.PlainLock.{pairsOf}
 use Rattle.definitions.specs.Plan.{planOf, plan, bytesOf}
+use Rattle.basics.proofs.Parts.{Parts}
 use Rattle.theory.proofs.Pairs.{pairAt}
-use Rattle.theory.proofs.Parts.{Parts}
 use Rattle.theory.proofs.Triples.{bytes-append}
 use Rattle.shares.proofs.Counting.{planFrom, from-next, from-end}
 

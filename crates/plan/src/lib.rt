@@ -6,7 +6,7 @@ ghost use mathlib.Core.Path.{_≡_};
 ghost use Rattle.definitions.specs.Answers.{answerReply, filled};
 ghost use Rattle.definitions.specs.PlainLock.{pairsOf};
 ghost use Rattle.definitions.specs.Plan.{plan, bytesOf, planEntry};
-ghost use Rattle.theory.specs.Outputs.{RoomAt, Delivered};
+ghost use Rattle.basics.specs.Outputs.{RoomAt, Delivered};
 
 // The triples of all pairs, from the front of the output.
 fn write_pairs(out: &mut [u8], threads: u8, history: &[u8])

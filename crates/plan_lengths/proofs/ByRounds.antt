@@ -13,11 +13,11 @@ use Rattle.definitions.specs.PlainLock.{Pair, Places, atStart, placeAfter, adva
 use Rattle.definitions.specs.Threads.{between, sumOf}
 use Rattle.plan_lengths.specs.Rounds.{howOften}
 use Rattle.plain_lock.specs.Permitted.{pairFits, permittedFrom}
+use Rattle.basics.proofs.Sums.{sum-update, sum-zero}
+use Rattle.basics.proofs.Quantifiers.{below-suc}
+use Rattle.basics.proofs.Tests.{and-l, and-r}
 use Rattle.plain_lock.proofs.PlainLaws.{permitted-is, Next, calls-shared, calls-exclusive, goes-on, next-e}
 use Rattle.orders.proofs.PairTests.{permits-e}
-use Rattle.theory.proofs.Sums.{sum-update, sum-zero}
-use Rattle.theory.proofs.Quantifiers.{below-suc}
-use Rattle.theory.proofs.Tests.{and-l, and-r}
 
 -- P holds of every number below n
 abbrev pub Below : ℕ → (ℕ → Type 0) → Type 0

@@ -15,11 +15,11 @@ use Rattle.definitions.specs.Plan.{plan, bytesOf, planLengthReply}
 use Rattle.definitions.specs.Threads.{sumOf}
 use Rattle.orders.specs.Histories.{historyBytes, AllBytes}
 use Rattle.plan_lengths.specs.Rounds.{howOften, exclusiveRound, begunColumn, begun, byRounds, longest, mostMoves, mostPlanBytes}
+use Rattle.basics.proofs.Tests.{below?}
 use Rattle.orders.proofs.CheckReply.{passes-e}
 use Rattle.orders.proofs.EveryOrder.{from-list, checked-count}
 use Rattle.orders.proofs.HistoryBytes.{pairs-read}
 use Rattle.theory.proofs.Lengths.{bytes-length}
-use Rattle.theory.proofs.Tests.{below?}
 use Rattle.plan_lengths.proofs.ByRounds.{below-at, by-rounds}
 use Rattle.plan_lengths.proofs.LongestHistory.{longest-permitted, longest-events, longest-moves}
 use Rattle.plan_lengths.proofs.RoundCosts.{rounds}

@@ -13,13 +13,12 @@ use Rattle.definitions.specs.Threads.{some, gather, between}
 use Rattle.plan_lengths.specs.Rounds.{exclusiveRound, wholeRound, unfinished, longest}
 use Rattle.orders.specs.Histories.{pairOf}
 use Rattle.plain_lock.specs.Permitted.{pairFits, permittedFrom}
+use Rattle.basics.proofs.Columns.{update-kept, update-twice, update-same, update-other}
+use Rattle.basics.proofs.Gathering.{gather-length}
+use Rattle.basics.proofs.Quantifiers.{none-i}
+use Rattle.basics.proofs.Tests.{and-i, cond-either}
 use Rattle.plain_lock.proofs.PlainLaws.{permitted-is}
-use Rattle.theory.proofs.Columns.{update-kept, update-twice}
 use Rattle.orders.proofs.PairTests.{permits-i}
-use Rattle.theory.proofs.Lengths.{gather-length}
-use Rattle.theory.proofs.Quantifiers.{none-i}
-use Rattle.theory.proofs.Tests.{and-i, cond-either}
-use Rattle.theory.proofs.Writes.{update-same, update-other}
 use Rattle.theory.proofs.PlanLengths.{movesFor, moves-more, moves-append}
 use Rattle.plan_lengths.proofs.RoundCosts.{exclusive-round}
 

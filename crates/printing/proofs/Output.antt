@@ -8,13 +8,13 @@ use Rattle.definitions.specs.Answers.{accepted, refused, counted}
 use Rattle.definitions.specs.Bounds.{enoughOutput}
 use Rattle.definitions.specs.PlainLock.{pairsOf}
 use Rattle.definitions.specs.Run.{eventLines}
-use Rattle.theory.specs.Outputs.{RoomAt, PutAt, Delivered}
+use Rattle.basics.specs.Outputs.{RoomAt, PutAt, Delivered}
 use Rattle.endings.specs.LastLine.{endingLine}
 use Rattle.printing.specs.Output.{outputOf, Measurable}
 use Rattle.endings.specs.declared.Ending.{Ending}
+use Rattle.basics.proofs.Outputs.{room-first, room-second, both}
+use Rattle.basics.proofs.Replies.{no-test}
 use Rattle.text.proofs.Deliveries.{short-refused, put-delivered}
-use Rattle.theory.proofs.Outputs.{room-first, room-second, both}
-use Rattle.theory.proofs.Replies.{no-test}
 
 module _ {history : List ℕ} {ending : Ending} (m : Measurable history ending) where
   size : length (outputOf history ending) ≡ length (eventLines (pairsOf history)) + length (endingLine ending)

@@ -8,7 +8,7 @@ use event_lines::events_length;
 use event_lines::put_events;
 ghost use mathlib.Core.List.{[]};
 ghost use Rattle.definitions.specs.Answers.{answerReply, counted};
-ghost use Rattle.theory.specs.Outputs.{Delivered};
+ghost use Rattle.basics.specs.Outputs.{Delivered};
 ghost use Rattle.printing.specs.Output.{outputOf, Measurable};
 
 // A whole output, if it has room.

@@ -17,12 +17,12 @@ use Rattle.definitions.specs.declared.Answer.the-variants.{Done, Refused}
 use Rattle.definitions.specs.declared.Refusal.{Refusal}
 use Rattle.definitions.specs.declared.Running.{Running}
 use Rattle.definitions.specs.declared.Running.the-variants as running
-use Rattle.theory.specs.Outputs.{answering, Delivered}
+use Rattle.basics.specs.Outputs.{answering, Delivered}
 use Rattle.printout.specs.Buffer.{Printed}
+use Rattle.basics.proofs.Outputs.{whole, with-answer}
+use Rattle.basics.proofs.Replies.{pass, no-test}
+use Rattle.basics.proofs.Tests.{below?}
 use Rattle.runs.proofs.Suffices.{suffices}
-use Rattle.theory.proofs.Outputs.{whole, with-answer}
-use Rattle.theory.proofs.Replies.{pass, no-test}
-use Rattle.theory.proofs.Tests.{below?}
 
 -- ---- which of the two it is
 

@@ -8,8 +8,8 @@ use Rattle.definitions.specs.Bounds.{mostThreads, noTarget}
 use Rattle.definitions.specs.Phases.{rows, holds}
 use Rattle.definitions.specs.Sound.{sound, backedOff}
 use Rattle.definitions.specs.Table.{Table, tableOf, sized}
+use Rattle.basics.proofs.Sums.{sum-each}
 use Rattle.theory.proofs.Stages.{nobody-sound}
-use Rattle.theory.proofs.Sums.{sum-each}
 use Rattle.theory.proofs.Writes.{same-table}
 use Rattle.progress.specs.Progress.{mostProgress, allCalled}
 use Rattle.progress.proofs.Measure.{alone, part, total, measure}

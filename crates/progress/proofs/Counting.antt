@@ -11,7 +11,7 @@ use Rattle.definitions.specs.Moves.{isRetry, isCall, stepIn, acceptsIn}
 use Rattle.definitions.specs.Table.{Storage}
 use Rattle.definitions.specs.declared.Request.{Request}
 use Rattle.theory.specs.Tables.{Keeps}
-use Rattle.theory.proofs.Tests.{and-l, and-r, and-i}
+use Rattle.basics.proofs.Tests.{and-l, and-r, and-i}
 use Rattle.progress.specs.Progress.{progressesIn}
 use Rattle.progress.proofs.Lowering.{Judged, lowers, keeps, judged-in}
 use Rattle.progress.proofs.Measure.{measure}

@@ -16,16 +16,16 @@ use Rattle.definitions.specs.Threads.{some, gather}
 use Rattle.definitions.specs.declared.Request.{Request}
 use Rattle.orders.specs.Histories.{pairOf}
 use Rattle.orders.specs.Rounds.{restPhase}
+use Rattle.basics.proofs.Columns.{same-column, update-twice, update-same, update-other}
+use Rattle.basics.proofs.Gathering.{gather-length}
+use Rattle.basics.proofs.Quantifiers.{none-i}
+use Rattle.basics.proofs.Tests.{T-false, cond-yes, cond-no, cond-either, not-i}
 use Rattle.orders.proofs.EventPlans.{start-rests}
 use Rattle.orders.proofs.Flags.{below-other, enters-exclusive, leaves-exclusive}
 use Rattle.orders.proofs.RestTables.{restBusy, resting, returns-exclusive}
 use Rattle.theory.proofs.Chains.{Leads, stays, both, arrives}
-use Rattle.theory.proofs.Columns.{same-column, update-twice}
-use Rattle.theory.proofs.Lengths.{gather-length}
 use Rattle.theory.proofs.PlanLengths.{movesFor, moves-more}
-use Rattle.theory.proofs.Quantifiers.{none-i}
-use Rattle.theory.proofs.Tests.{T-false, cond-yes, cond-no, cond-either, not-i}
-use Rattle.theory.proofs.Writes.{update-same, update-other, same-table}
+use Rattle.theory.proofs.Writes.{same-table}
 use Rattle.progress.specs.Progress.{mostProgress}
 use Rattle.progress.proofs.CalledTable.{calledTable, called-sound}
 

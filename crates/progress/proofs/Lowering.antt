@@ -14,12 +14,12 @@ use Rattle.definitions.specs.Table.{Table, update, applied, Storage}
 use Rattle.definitions.specs.Threads.{among}
 use Rattle.definitions.specs.declared.Request.{Request}
 use Rattle.theory.specs.Tables.{Keeps}
-use Rattle.theory.proofs.FlagCounts.{flagsSet, one-more, one-fewer}
-use Rattle.theory.proofs.Columns.{update-kept}
-use Rattle.theory.proofs.Quantifiers.{every-at, howMany-none, howMany-all, howMany-most}
+use Rattle.basics.proofs.FlagCounts.{flagsSet, one-more, one-fewer}
+use Rattle.basics.proofs.Columns.{update-kept}
+use Rattle.basics.proofs.Quantifiers.{every-at, howMany-none, howMany-all, howMany-most}
+use Rattle.basics.proofs.Tests.{not-i, ne-T, same?}
 use Rattle.theory.proofs.SoundChanges.{Column, put, keep, bit-0, in-phase, holder-alone, nobody-holds}
 use Rattle.theory.proofs.Soundness.{All, Sound, sound-e}
-use Rattle.theory.proofs.Tests.{not-i, ne-T, same?}
 use Rattle.theory.proofs.Storages.{accepts-e, accepted-table}
 use Rattle.theory.proofs.Ways.{Accepted, accepted-e, Way, way}
 use Rattle.theory.proofs.Ways.{call-shared, raise-busy, find-open, find-forbidden, back-off, try-again, hold-mutex, give-back, enter-shared, leave-shared, lower-busy, return-shared}

@@ -13,13 +13,14 @@ use Rattle.definitions.specs.Bounds.{lastPhase}
 use Rattle.definitions.specs.Phases.{rows, holds}
 use Rattle.definitions.specs.Table.{Table, freshTable}
 use Rattle.definitions.specs.Threads.{every, sumOf, between}
-use Rattle.theory.proofs.FlagCounts.{flagsSet}
-use Rattle.theory.proofs.Cases.{or-at, none-of, is-holder}
-use Rattle.theory.proofs.Quantifiers.{every-at, howMany-pos, howMany-all, howMany-most}
+use Rattle.basics.proofs.FlagCounts.{flagsSet}
+use Rattle.basics.proofs.Cases.{or-at, none-of}
+use Rattle.basics.proofs.Quantifiers.{every-at, howMany-pos, howMany-all, howMany-most}
+use Rattle.basics.proofs.Sums.{sum-but-below, sum-most, sum-zero}
+use Rattle.basics.proofs.Tests.{decided, cond-yes, cond-no, eq-T}
+use Rattle.theory.proofs.PhaseCases.{is-holder}
 use Rattle.theory.proofs.SoundChanges.{Column, in-phase}
 use Rattle.theory.proofs.Soundness.{Sound}
-use Rattle.theory.proofs.Sums.{sum-but-below, sum-most, sum-zero}
-use Rattle.theory.proofs.Tests.{decided, cond-yes, cond-no, eq-T}
 use Rattle.progress.specs.Progress.{mostProgress}
 
 -- ---- the number

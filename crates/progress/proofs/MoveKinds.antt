@@ -12,8 +12,8 @@ use Rattle.definitions.specs.Phases.{rows, hasMove}
 use Rattle.definitions.specs.Table.{Table, Write, mutex≔, target≔, phase≔, busy≔, forbidden≔}
 use Rattle.definitions.specs.Threads.{among}
 use Rattle.definitions.specs.declared.Request.{Request}
-use Rattle.theory.proofs.Cases.{or-at, none-of}
-use Rattle.theory.proofs.Tests.{T-false, decided, no-both}
+use Rattle.basics.proofs.Cases.{or-at, none-of}
+use Rattle.basics.proofs.Tests.{T-false, decided, no-both}
 
 -- the request is no call and no retry
 abbrev pub Advances : Table → Request → Type 0

@@ -18,12 +18,12 @@ use Rattle.definitions.specs.declared.Request.{Request}
 use Rattle.progress.specs.Progress.{CanMove}
 use Rattle.theory.specs.Statements.{NotFree}
 use Rattle.theory.specs.Tables.{SoundBytes}
+use Rattle.basics.proofs.Quantifiers.{every-at}
+use Rattle.basics.proofs.Tests.{and-l, and-r, or-e, not-i, T-ne, decided, implies-e}
 use Rattle.theory.proofs.Bytes.{sized-e}
 use Rattle.theory.proofs.Chains.{one, all-16}
-use Rattle.theory.proofs.Quantifiers.{every-at}
 use Rattle.theory.proofs.Soundness.{Sound, some-in, none-in, sound-e, sound-i}
 use Rattle.theory.proofs.Storages.{accepts-i}
-use Rattle.theory.proofs.Tests.{and-l, and-r, or-e, not-i, T-ne, decided, implies-e}
 use Rattle.theory.proofs.Ways.{Accepted, accepted-i}
 
 -- a phase whose node isn't Free has go or set, by trying the phases

@@ -18,7 +18,7 @@ use Rattle.definitions.specs.Sound.{sound}
 use Rattle.definitions.specs.Table.{Table, update, itself, fresh}
 use Rattle.definitions.specs.Threads.{listOf}
 use Rattle.definitions.specs.declared.Request.{Request}
-use Rattle.theory.proofs.FlagCounts.{flagsSet}
+use Rattle.basics.proofs.FlagCounts.{flagsSet}
 use Rattle.plain_lock.specs.Permitted.{pairFits, permittedFrom}
 use Rattle.plain_lock.proofs.PlainLaws.{permitted-is}
 use Rattle.orders.proofs.EventPlans.{before, by-event, start-rests}
@@ -26,16 +26,16 @@ use Rattle.orders.proofs.PairTests.{Permits, permits-e}
 use Rattle.orders.proofs.RestTables.{resting, PlanLeads}
 use Rattle.orders.specs.Histories.{pairOf}
 use Rattle.orders.specs.Rounds.{restPhase}
-use Rattle.theory.proofs.Cases.{or-at, none-of, among-range}
+use Rattle.basics.proofs.Cases.{or-at, none-of, among-range}
+use Rattle.basics.proofs.Quantifiers.{howMany-all}
+use Rattle.basics.proofs.Sums.{sum-but-below}
+use Rattle.basics.proofs.Tests.{and-l, and-r, T-true, decided, not-i, cond-no, T-ne}
+use Rattle.basics.proofs.Columns.{update-same, update-other}
 use Rattle.theory.proofs.Chains.{retries-fresh, retries-append}
 use Rattle.theory.proofs.PlanLengths.{movesFor, event-moves}
-use Rattle.theory.proofs.Quantifiers.{howMany-all}
 use Rattle.theory.proofs.Soundness.{sound-e}
 use Rattle.theory.proofs.Stages.{fresh-fits}
 use Rattle.theory.proofs.Storages.{own-keeps, accepted-reply}
-use Rattle.theory.proofs.Sums.{sum-but-below}
-use Rattle.theory.proofs.Tests.{and-l, and-r, T-true, decided, not-i, cond-no, T-ne}
-use Rattle.theory.proofs.Writes.{update-same, update-other}
 use Rattle.progress.specs.Progress.{progressesIn}
 use Rattle.progress.proofs.Counting.{parts, all-advance}
 use Rattle.progress.proofs.Measure.{alone, holding, part, total, measure, unheld}

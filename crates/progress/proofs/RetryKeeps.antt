@@ -14,14 +14,14 @@ use Rattle.definitions.specs.Phases.{rows, hasMove}
 use Rattle.definitions.specs.Table.{Table, applied, tableOf, byteTable}
 use Rattle.definitions.specs.Threads.{among}
 use Rattle.definitions.specs.declared.Request.{Request}
+use Rattle.basics.proofs.Cases.{or-at, none-of}
+use Rattle.basics.proofs.Quantifiers.{every-at}
+use Rattle.basics.proofs.Tests.{T-true, no-both, or-e}
 use Rattle.theory.proofs.Bytes.{byte-keeps}
-use Rattle.theory.proofs.Cases.{or-at, none-of}
 use Rattle.theory.proofs.Figure1.{stays}
-use Rattle.theory.proofs.Quantifiers.{every-at}
 use Rattle.theory.proofs.SoundChanges.{in-phase}
 use Rattle.theory.proofs.Soundness.{Sound, sound-e}
 use Rattle.theory.proofs.Storages.{accepts-e, accepted-reply, accepted-table}
-use Rattle.theory.proofs.Tests.{T-true, no-both, or-e}
 use Rattle.theory.proofs.Ways.{Accepted, accepted-e, Way, way}
 use Rattle.theory.proofs.Ways.{call-shared, raise-busy, find-open, find-forbidden, back-off, try-again, hold-mutex, give-back, enter-shared, leave-shared, lower-busy, return-shared}
 use Rattle.theory.proofs.Ways.{call-exclusive, take-mutex, set-flag, find-busy, last-flag, next-flag, relents, give-up, enter-exclusive, leave-exclusive}

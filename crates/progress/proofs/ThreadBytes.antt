@@ -11,10 +11,10 @@ use lib.Seq.{getD-append-add}
 use Rattle.definitions.specs.Bounds.{mostThreads}
 use Rattle.definitions.specs.Table.{Table, tableOf, sized}
 use Rattle.definitions.specs.Threads.{gather}
+use Rattle.basics.proofs.Gathering.{gather-length}
+use Rattle.basics.proofs.Tests.{cond-yes, same?, below?}
 use Rattle.orders.proofs.Flags.{below-other}
 use Rattle.theory.proofs.Bytes.{sized-i}
-use Rattle.theory.proofs.Lengths.{gather-length}
-use Rattle.theory.proofs.Tests.{cond-yes, same?, below?}
 use Rattle.theory.proofs.Writes.{same-table}
 
 -- byte m of thread j's three

@@ -14,16 +14,16 @@ use Rattle.definitions.specs.Plan.{bytesOf}
 use Rattle.definitions.specs.Scripts.{linesTests, requestsIn, scriptTests, statedBy, Listed, readEntry}
 use Rattle.definitions.specs.Table.{countFits}
 use Rattle.definitions.specs.Texts.{Line, linesOf}
+use Rattle.basics.specs.Outputs.{RoomAt, PutAt, Delivered}
 use Rattle.opening.specs.FirstLine.{ThreadsAt, NoThreads}
-use Rattle.theory.specs.Outputs.{RoomAt, PutAt, Delivered}
 use Rattle.line_moves.specs.Moves.{AllTaken, TurnedDown}
+use Rattle.basics.proofs.Outputs.{put-front, turned-down, no-room, whole, delivered-as, filled-up}
+use Rattle.basics.proofs.Replies.{passed, failed, pass}
+use Rattle.basics.proofs.TestLists.{other-answer}
+use Rattle.basics.proofs.Tests.{true-T, false-T}
 use Rattle.opening.proofs.FirstLines.{read-tests, read-count, read-bad}
 use Rattle.runs.proofs.Lines.{lines-size, stated-few}
 use Rattle.theory.proofs.Lengths.{bytes-length}
-use Rattle.theory.proofs.Outputs.{put-front, turned-down, no-room, whole, delivered-as, filled-up}
-use Rattle.theory.proofs.Replies.{passed, failed, pass}
-use Rattle.theory.proofs.TestLists.{other-answer}
-use Rattle.theory.proofs.Tests.{true-T, false-T}
 
 module _ (script out : List ℕ) where
   abbrev none : Listed

@@ -1,15 +1,15 @@
 // Scripts read: the moves that a script states, as byte triples, and its N. The lines are read by the functions that the run uses.
+use codes::count_fits;
 use definitions::Answer;
 use definitions::MOST_SCRIPT;
 use definitions::Reading;
 use definitions::Refusal;
-use definitions::count_fits;
 use opening::First;
 use opening::first_line;
 use script_moves::take_lines;
 use triples::put_triples;
 ghost use Rattle.definitions.specs.Scripts.{readingReply, readEntry};
-ghost use Rattle.theory.specs.Outputs.{Delivered};
+ghost use Rattle.basics.specs.Outputs.{Delivered};
 
 // The triples of a script are three bytes for every nine of it at most.
 const MOST_TRIPLES: usize = MOST_SCRIPT / 3;

@@ -8,8 +8,8 @@ use lib.Dec.{T, eqb}
 use Rattle.definitions.specs.Bounds.{lastPhase}
 use Rattle.definitions.specs.Threads.{every}
 use Rattle.dispatching.specs.Ready.{readyBy}
-use Rattle.theory.proofs.Quantifiers.{every-at}
-use Rattle.theory.proofs.Tests.{T-true, T-false, decided}
+use Rattle.basics.proofs.Quantifiers.{every-at}
+use Rattle.basics.proofs.Tests.{T-true, T-false, decided}
 use Rattle.phase_moves.specs.MoveBits.{bitsBelow, hasBit}
 use Rattle.phase_moves.proofs.Bits.{agrees-eq}
 use Rattle.ready.specs.ReadyBits.{readyBits}

@@ -7,9 +7,9 @@ use Rattle.definitions.specs.Moves.{ask}
 use Rattle.definitions.specs.Plan.{bytesOf}
 use Rattle.definitions.specs.Threads.{gather}
 use Rattle.definitions.specs.declared.Request.{Request}
-use Rattle.theory.specs.Outputs.{RoomAt, PutAt}
-use Rattle.theory.proofs.Outputs.{none}
-use Rattle.theory.proofs.Parts.{room-as, put-as, Partly, no-part, room-part, part-put, last-part, Parts, gatherFrom, gather-start, gather-next, gather-end}
+use Rattle.basics.specs.Outputs.{RoomAt, PutAt}
+use Rattle.basics.proofs.Outputs.{none}
+use Rattle.basics.proofs.Parts.{room-as, put-as, Partly, no-part, room-part, part-put, last-part, Parts, gatherFrom, gather-start, gather-next, gather-end}
 use Rattle.theory.proofs.Triples.{bytes-append}
 
 -- nothing put

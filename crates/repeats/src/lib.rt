@@ -4,7 +4,7 @@ use definitions::GO;
 use definitions::SET;
 use triples::put_triple;
 ghost use Rattle.definitions.specs.Plan.{bytesOf};
-ghost use Rattle.theory.specs.Outputs.{RoomAt, PutAt};
+ghost use Rattle.basics.specs.Outputs.{RoomAt, PutAt};
 ghost use Rattle.repeats.specs.Requests.{goTimes, setEach, clearEach};
 
 // Go, `count` times.

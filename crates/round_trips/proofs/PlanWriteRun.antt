@@ -21,8 +21,10 @@ use Rattle.definitions.specs.Scripts.{scriptOf, writeEntry}
 use Rattle.definitions.specs.Table.{countFits, freshTable, tableOf, byteTable, fresh}
 use Rattle.definitions.specs.Texts.{Line, linesOf}
 use Rattle.definitions.specs.declared.Request.{Request}
-use Rattle.theory.specs.Outputs.{Delivered}
+use Rattle.basics.specs.Outputs.{Delivered}
 use Rattle.round_trips.specs.Exchange.{Writable}
+use Rattle.basics.proofs.Outputs.{whole, delivered-as, answered-so, text-first}
+use Rattle.basics.proofs.Tests.{and-l, and-r, and-i, cond-yes}
 use Rattle.theory.proofs.Chains.{accepts-fresh, accepted-numbers, all-numbers}
 use Rattle.orders.proofs.CheckReply.{passes-i}
 use Rattle.orders.proofs.EveryOrder.{checked, planned, plan-run}
@@ -31,10 +33,8 @@ use Rattle.runs.proofs.StepsAndEvents.{pair-line}
 use Rattle.runs.proofs.Suffices.{never-refused}
 use Rattle.theory.proofs.Bytes.{sized-e}
 use Rattle.theory.proofs.LineTurns.{first-printed, first-retries, request-turn}
-use Rattle.theory.proofs.Outputs.{whole, delivered-as, answered-so, text-first}
 use Rattle.theory.proofs.SoundKept.{accepted-sound}
 use Rattle.theory.proofs.Storages.{accepts-e, accepted-reply}
-use Rattle.theory.proofs.Tests.{and-l, and-r, and-i, cond-yes}
 use Rattle.theory.proofs.Ways.{accepted-e}
 use Rattle.theory.proofs.Triples.{bytes-read}
 use Rattle.round_trips.proofs.WrittenLines.{lineOf, linesFor, script-lines, writable-e, bytes-writable, count-read, move-read}

@@ -14,13 +14,13 @@ use Rattle.definitions.specs.Scripts.{scriptOf, linesTests, requestsIn, scriptT
 use Rattle.definitions.specs.Table.{countFits}
 use Rattle.definitions.specs.Texts.{Line, linesOf}
 use Rattle.definitions.specs.declared.Request.{Request}
-use Rattle.theory.specs.Outputs.{Delivered}
+use Rattle.basics.specs.Outputs.{Delivered}
 use Rattle.round_trips.specs.Exchange.{Writable, Readable}
-use Rattle.theory.proofs.Outputs.{whole, delivered-as, answered-so, text-first}
-use Rattle.theory.proofs.Replies.{pass, no-test}
+use Rattle.basics.proofs.Outputs.{whole, delivered-as, answered-so, text-first}
+use Rattle.basics.proofs.Replies.{pass, no-test}
+use Rattle.basics.proofs.TestLists.{passes-join}
 use Rattle.theory.proofs.RequestNumbers.{NumbersFit, AllNumbersFit, numbers-i}
 use Rattle.theory.proofs.Stages.{count-most}
-use Rattle.theory.proofs.TestLists.{passes-join}
 use Rattle.theory.proofs.Triples.{triples-written}
 use Rattle.round_trips.proofs.WrittenLines.{lineOf, linesFor, script-lines, writable-e, count-read, move-read}
 

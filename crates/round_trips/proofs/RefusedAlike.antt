@@ -22,13 +22,13 @@ use Rattle.definitions.specs.declared.Request.{Request}
 use Rattle.forms.specs.Grammar.{Spells}
 use Rattle.round_trips.specs.Exchange.{judged, readReply, IfRefused, readNumbers, ReadRefusal, setAside, stopFrom, stopFor, stopOf, RunRefused}
 use Rattle.theory.specs.Tables.{SoundBytes}
+use Rattle.basics.proofs.Replies.{behind, in-front, passed-or-refused}
+use Rattle.basics.proofs.Tests.{no-both, cond-yes, cond-no, cond-either}
 use Rattle.forms.proofs.Spelling.{read-spelled}
 use Rattle.runs.proofs.LastLine.{refused-once, steps-not-refused}
 use Rattle.theory.proofs.Discipline.{disciplined}
 use Rattle.theory.proofs.LineTurns.{numbers, later, move-answers, request-turn}
-use Rattle.theory.proofs.Replies.{behind, in-front, passed-or-refused}
 use Rattle.theory.proofs.SoundKept.{fresh-is-sound, sound-kept}
-use Rattle.theory.proofs.Tests.{no-both, cond-yes, cond-no, cond-either}
 
 -- ---- refusals
 

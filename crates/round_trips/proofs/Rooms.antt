@@ -11,13 +11,13 @@ use Rattle.definitions.specs.Bounds.{mostScript}
 use Rattle.definitions.specs.Forms.{Form, threads, request, note, bad, threadsLine, lineForm, firstTests}
 use Rattle.definitions.specs.Scripts.{requestsIn, scriptTests, statedBy, writeEntry, readEntry}
 use Rattle.definitions.specs.Texts.{bytes, Line, linesOf}
-use Rattle.theory.specs.ShortestLines.{shortestThreads, shortestMove}
+use Rattle.basics.specs.ShortestLines.{shortestThreads, shortestMove}
 use Rattle.round_trips.specs.Exchange.{Writable, Readable, enoughTriples}
+use Rattle.basics.proofs.Numbers.{decimal-some}
+use Rattle.basics.proofs.Replies.{peel}
+use Rattle.basics.proofs.TestLists.{passes-split}
 use Rattle.runs.proofs.Lines.{lineSize, sizeOf, lines-size, stated-few}
 use Rattle.theory.proofs.Lengths.{bytes-length}
-use Rattle.theory.proofs.Numbers.{decimal-some}
-use Rattle.theory.proofs.Replies.{peel}
-use Rattle.theory.proofs.TestLists.{passes-split}
 use Rattle.round_trips.proofs.WrittenLines.{lineOf, writable-e}
 use Rattle.round_trips.proofs.WrittenRead.{LineIs, line-is}
 

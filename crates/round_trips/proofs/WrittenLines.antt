@@ -20,14 +20,14 @@ use Rattle.definitions.specs.Texts.{bytes, lineFeed, Line, inFront, linesOf, de
 use Rattle.definitions.specs.declared.Request.{Request}
 use Rattle.forms.specs.Grammar.{numberBound, Spellable}
 use Rattle.round_trips.specs.Exchange.{Writable}
+use Rattle.basics.proofs.Numbers.{decimal-small, decimal-more, by-tens}
+use Rattle.basics.proofs.Replies.{peel, pass, no-test}
+use Rattle.basics.proofs.TestLists.{passes-split, passes-join}
+use Rattle.basics.proofs.Tests.{T-false, and-l, and-r, and-i, ne-T, eq-T}
 use Rattle.forms.proofs.Spelling.{threads-read, request-read}
 use Rattle.theory.proofs.Lengths.{bytes-length}
-use Rattle.theory.proofs.Numbers.{decimal-small, decimal-more, by-tens}
-use Rattle.theory.proofs.Replies.{peel, pass, no-test}
 use Rattle.theory.proofs.RequestNumbers.{NumbersFit, AllNumbersFit, numbers-e, numbers-i}
 use Rattle.theory.proofs.Stages.{count-most}
-use Rattle.theory.proofs.TestLists.{passes-split, passes-join}
-use Rattle.theory.proofs.Tests.{T-false, and-l, and-r, and-i, ne-T, eq-T}
 use Rattle.theory.proofs.Triples.{bytes-read}
 
 -- ---- no line feed

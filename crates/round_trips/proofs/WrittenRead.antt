@@ -17,15 +17,15 @@ use Rattle.definitions.specs.Scripts.{ended, movesText, scriptOf, linesTests, r
 use Rattle.definitions.specs.Table.{countFits}
 use Rattle.definitions.specs.Texts.{Line, linesOf}
 use Rattle.definitions.specs.declared.Request.{Request}
+use Rattle.basics.specs.Outputs.{Delivered}
 use Rattle.forms.specs.Grammar.{Spells}
-use Rattle.theory.specs.Outputs.{Delivered}
 use Rattle.round_trips.specs.Exchange.{Writable, Readable, isNote, withoutNotes}
+use Rattle.basics.proofs.Outputs.{whole, delivered-as, answered-so, text-first}
+use Rattle.basics.proofs.Replies.{peel}
+use Rattle.basics.proofs.TestLists.{passes-split}
 use Rattle.forms.proofs.Spelling.{read-spelled}
 use Rattle.runs.proofs.Lines.{lineSize, sizeOf, lines-size}
-use Rattle.theory.proofs.Outputs.{whole, delivered-as, answered-so, text-first}
-use Rattle.theory.proofs.Replies.{peel}
 use Rattle.theory.proofs.RequestNumbers.{AllNumbersFit, numbers-e}
-use Rattle.theory.proofs.TestLists.{passes-split}
 use Rattle.theory.proofs.Triples.{bytes-read}
 use Rattle.round_trips.proofs.WrittenLines.{lineOf, bytes-writable}
 

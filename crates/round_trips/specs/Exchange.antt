@@ -16,7 +16,7 @@ use Rattle.definitions.specs.Scripts.{ended, scriptTests, writeTests, readEntry
 use Rattle.definitions.specs.Table.{fresh}
 use Rattle.definitions.specs.Texts.{Line, linesOf}
 use Rattle.definitions.specs.Threads.{among}
-use Rattle.theory.specs.ShortestLines.{shortestThreads, shortestMove}
+use Rattle.basics.specs.ShortestLines.{shortestThreads, shortestMove}
 
 -- writing turns the list down by 12 at most
 abbrev pub Writable : ℕ → List ℕ → Type 0

@@ -11,7 +11,7 @@ use Rattle.definitions.specs.Plan.{plan, bytesOf, planEntry}
 use Rattle.definitions.specs.Run.{eventLines, stepsLine, refusedLine, runOutputOf, runEntry}
 use Rattle.definitions.specs.Scripts.{scriptOf, writeEntry, Listed, readEntry}
 use Rattle.definitions.specs.Texts.{linesOf}
-use Rattle.theory.specs.Outputs.{Delivered}
+use Rattle.basics.specs.Outputs.{Delivered}
 use Rattle.round_trips.specs.Exchange.{Writable, withoutNotes, readReply, ReadRefusal, stopOf, RunRefused}
 
 pub record WrittenAndRead : Type 0 where

@@ -12,10 +12,10 @@ use lib.ListN.{length, length-append}
 use Rattle.definitions.specs.Bounds.{mostThreads}
 use Rattle.definitions.specs.Phases.{rows}
 use Rattle.definitions.specs.Table.{Table}
+use Rattle.basics.specs.EachOnce.{EachOnce, allIn, sumIn}
 use Rattle.soundness.specs.Pass.{foundOf}
-use Rattle.theory.specs.EachOnce.{EachOnce, allIn, sumIn}
-use Rattle.theory.proofs.EachOnce.{all-behind, sum-behind, all-once, sum-once}
-use Rattle.theory.proofs.Tests.{and-l, and-r}
+use Rattle.basics.proofs.EachOnce.{all-behind, sum-behind, all-once, sum-once}
+use Rattle.basics.proofs.Tests.{and-l, and-r}
 use Rattle.rows.specs.Rows.{oneBad, rowFor, rowAt, stateIn, high, fewAt, threadRow, threadWord, foundBy}
 use Rattle.rows.proofs.Packed.{packed}
 use Rattle.rows.proofs.RowBounds.{row-most}

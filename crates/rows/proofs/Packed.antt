@@ -18,10 +18,10 @@ use Rattle.definitions.specs.Threads.{every, howMany, sumOf}
 use Rattle.soundness.specs.Pass.{threadFits, forbiddenReader, holderPhase, tallyBelow, fitBelow, foundOf}
 use Rattle.soundness.specs.declared.Found.the-variants.{Good, Bad}
 use Rattle.tallies.specs.declared.Tally.{Tally}
-use Rattle.theory.proofs.Cases.{holder-phase}
-use Rattle.theory.proofs.Quantifiers.{every-at, every-i, howMany-most}
+use Rattle.basics.proofs.Quantifiers.{every-at, every-i, howMany-most}
+use Rattle.basics.proofs.Tests.{and-l, and-r, and-i, cond-yes, cond-no, cond-either, decided, T-true}
+use Rattle.theory.proofs.PhaseCases.{holder-phase}
 use Rattle.theory.proofs.Soundness.{busy-bit}
-use Rattle.theory.proofs.Tests.{and-l, and-r, and-i, cond-yes, cond-no, cond-either, decided, T-true}
 use Rattle.rows.specs.Rows.{oneFlag, oneReader, oneBacked, oneBad, rowFor, fewBits, high, fewAt, threadRow, foundBy}
 
 -- ---- threads that fit by themselves

@@ -8,8 +8,8 @@ use Rattle.definitions.specs.Phases.{holds}
 use Rattle.definitions.specs.Sound.{backedOff}
 use Rattle.rows.specs.Rows.{oneBad, rowFor, rowAt}
 use Rattle.soundness.specs.Pass.{threadFits, forbiddenReader}
-use Rattle.theory.proofs.Cases.{holder-phase}
-use Rattle.theory.proofs.Tests.{one-most}
+use Rattle.basics.proofs.Tests.{one-most}
+use Rattle.theory.proofs.PhaseCases.{holder-phase}
 
 phase-most : (b : Bool) (phase : ℕ) → (T b → phase ≤ lastPhase) → cond b phase 0 ≤ lastPhase
 phase-most true phase h = h tt

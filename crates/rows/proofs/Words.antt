@@ -8,7 +8,7 @@ use mathlib.Core.Path.{_≡_, refl, sym, ap, ap₂, _∙_}
 use lib.Arith.{bin-ind, digits-div, digits-mod}
 use lib.Bits.{bitAnd, bitOr, and-step, or-step, and-shr, or-shr, and-block, and-high, and-zero-r, and-le-l, and-le-r, or-add-and}
 use lib.Dec.{T, ltb, eqb, eqb→eq, ltb→lt, lt→ltb}
-use Rattle.theory.proofs.Tests.{and-l, and-r, and-i, eq-T, same-test}
+use Rattle.basics.proofs.Tests.{and-l, and-r, and-i, eq-T, same-test}
 use Rattle.rows.specs.Rows.{rowFor, fewBits, stateOf, rowAt, wordOf, stateIn, high}
 
 -- ---- the state in a word

@@ -22,10 +22,10 @@ use Rattle.views.specs.declared.Decided.{Decided}
 use Rattle.views.specs.declared.View.{View}
 use Rattle.theory.specs.Statements.{subjectOf}
 use Rattle.arms.proofs.Steps.{asking, follows}
-use Rattle.theory.proofs.Matches.{NoneOf, not-among, backwards}
-use Rattle.theory.proofs.Quantifiers.{every-at, every-i}
+use Rattle.basics.proofs.Matches.{NoneOf, not-among, backwards}
+use Rattle.basics.proofs.Quantifiers.{every-at, every-i}
+use Rattle.basics.proofs.Tests.{and-l, and-r, and-i, or-e, or-r, no-both, same-test, implies-e}
 use Rattle.theory.proofs.Soundness.{sound-e}
-use Rattle.theory.proofs.Tests.{and-l, and-r, and-i, or-e, or-r, no-both, same-test, implies-e}
 use Rattle.theory.proofs.Ways.{accepted-e, goPhases, phases-6, only}
 use Rattle.theory.proofs.MoveWrites.{subject-by, subject-thread}
 

@@ -15,23 +15,23 @@ use Rattle.definitions.specs.Texts.{linesOf}
 use Rattle.definitions.specs.declared.Refusal.{Refusal}
 use Rattle.definitions.specs.declared.Refusal.the-variants.{BadForm}
 use Rattle.apply.specs.MoveMade.{TestedTable}
+use Rattle.basics.specs.Outputs.{RoomAt}
+use Rattle.basics.specs.ShortestLines.{shortestMove}
 use Rattle.lines.specs.Lines.{LineAt, UnendedAt, DoneAt}
 use Rattle.endings.specs.LastLine.{endingLine}
 use Rattle.endings.specs.declared.Ending.{Ending}
 use Rattle.endings.specs.declared.Ending.the-variants.{Steps, Refused}
-use Rattle.theory.specs.Outputs.{RoomAt}
-use Rattle.theory.specs.ShortestLines.{shortestMove}
 use Rattle.theory.specs.Tables.{SoundBytes}
 use Rattle.turns.specs.Steps.{pairBytes, added, tableBehind, movesMade, retriesMade, PassedOn, StoppedBy, Stepped}
 use Rattle.turns.specs.declared.Step.{Step}
 use Rattle.turns.specs.declared.Step.the-variants.{Stopped, Passed}
 use Rattle.running.specs.Records.{Roomy, Begun, Recorded}
 use Rattle.running.specs.declared.Ran.{Ran}
+use Rattle.basics.proofs.Numbers.{decimal-some}
+use Rattle.basics.proofs.Outputs.{same-size, put-front}
+use Rattle.basics.proofs.Tests.{one-most}
 use Rattle.runs.proofs.Lines.{Does, line-does}
-use Rattle.theory.proofs.Numbers.{decimal-some}
-use Rattle.theory.proofs.Outputs.{same-size, put-front}
 use Rattle.theory.proofs.SoundKept.{sound-kept}
-use Rattle.theory.proofs.Tests.{one-most}
 use Rattle.running.proofs.Histories.{linesIn, lines-append}
 use Rattle.running.proofs.PrintedText.{turnAt, at-done, at-unended, at-stop, at-pass, none-done, none-unended, none-stop, counted-pass}
 

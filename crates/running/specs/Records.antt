@@ -6,7 +6,7 @@ use lib.ListN.{length, take}
 use Rattle.definitions.specs.Bounds.{mostScript}
 use Rattle.definitions.specs.Run.{printed, retriesFrom}
 use Rattle.definitions.specs.Texts.{Line}
-use Rattle.theory.specs.ShortestLines.{shortestMove}
+use Rattle.basics.specs.ShortestLines.{shortestMove}
 use Rattle.apply.specs.MoveMade.{TestedTable}
 use Rattle.printing.specs.Output.{outputOf}
 use Rattle.running.specs.declared.Ran.{Ran}

@@ -8,9 +8,9 @@ use lib.Dec.{T, leb, leb→le, le→leb}
 use lib.ListN.{length, getD, drop, length-reverse}
 use Rattle.definitions.specs.Run.{stepsLine, refusedLine}
 use Rattle.definitions.specs.Texts.{bytes, isDigit, digitsOf, valueFrom, decimal}
-use Rattle.theory.proofs.Digits.{value-printed}
-use Rattle.theory.proofs.Numbers.{decimal-small, decimal-more, by-tens, decimal-some}
-use Rattle.theory.proofs.Tests.{and-i, and-r, cond-yes}
+use Rattle.basics.proofs.Digits.{value-printed}
+use Rattle.basics.proofs.Numbers.{decimal-small, decimal-more, by-tens, decimal-some}
+use Rattle.basics.proofs.Tests.{and-i, and-r, cond-yes}
 
 -- ---- numbers
 

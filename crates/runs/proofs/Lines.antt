@@ -17,14 +17,14 @@ use Rattle.definitions.specs.Scripts.{requestsIn, moveLines, statedBy}
 use Rattle.definitions.specs.Texts.{bytes, same, starts, lineFeed, Line, inFront, linesOf, decimalWithin, decimal, NumberRead, numberRead}
 use Rattle.definitions.specs.Threads.{every, implies}
 use Rattle.definitions.specs.declared.Request.{Request}
-use Rattle.theory.specs.ShortestLines.{shortestMove}
+use Rattle.basics.specs.ShortestLines.{shortestMove}
+use Rattle.basics.proofs.Numbers.{decimal-some}
+use Rattle.basics.proofs.Quantifiers.{every-at}
+use Rattle.basics.proofs.Tests.{T-true, and-l, and-r, implies-e, cond-either}
+use Rattle.basics.proofs.Texts.{starts-length}
 use Rattle.theory.proofs.Lengths.{bytes-length}
 use Rattle.theory.proofs.LineTurns.{numbers, request-either}
-use Rattle.theory.proofs.Numbers.{decimal-some}
 use Rattle.theory.proofs.PlainMoves.{plain-e, plain-form}
-use Rattle.theory.proofs.Quantifiers.{every-at}
-use Rattle.theory.proofs.Tests.{T-true, and-l, and-r, implies-e, cond-either}
-use Rattle.theory.proofs.Texts.{starts-length}
 use Rattle.runs.proofs.Numbers.{printed-digits, digits-split}
 
 -- ---- the bytes of lines

@@ -8,9 +8,9 @@ use lib.Dec.{T, leb, eqb, leb→le}
 use lib.ListN.{length, getD, drop, length-drop}
 use Rattle.definitions.specs.Texts.{digitsOf, numberFits, valueFrom, decimal}
 use Rattle.definitions.specs.Threads.{between}
-use Rattle.theory.proofs.Digits.{digits-within, take-digits, value-below}
-use Rattle.theory.proofs.Numbers.{decimal-short}
-use Rattle.theory.proofs.Tests.{and-l}
+use Rattle.basics.proofs.Digits.{digits-within, take-digits, value-below}
+use Rattle.basics.proofs.Numbers.{decimal-short}
+use Rattle.basics.proofs.Tests.{and-l}
 
 -- digits read are at least as many as the value's printed ones
 pub printed-digits : (xs : List ℕ) → T (numberFits (digitsOf xs)) → length (decimal (valueFrom 0 (digitsOf xs))) ≤ length (digitsOf xs)

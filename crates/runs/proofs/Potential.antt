@@ -16,13 +16,13 @@ use Rattle.definitions.specs.Texts.{bytes, decimal}
 use Rattle.definitions.specs.Threads.{every, sumOf, among, implies}
 use Rattle.definitions.specs.declared.Request.{Request}
 use Rattle.runs.specs.Length.{credit}
+use Rattle.basics.proofs.Numbers.{decimal-some}
+use Rattle.basics.proofs.Quantifiers.{every-at}
+use Rattle.basics.proofs.Sums.{sum-update, sum-zero}
+use Rattle.basics.proofs.Tests.{implies-e}
 use Rattle.theory.proofs.Bytes.{byte-keeps, fresh-table}
 use Rattle.theory.proofs.Lengths.{event-size}
-use Rattle.theory.proofs.Numbers.{decimal-some}
-use Rattle.theory.proofs.Quantifiers.{every-at}
 use Rattle.theory.proofs.Storages.{accepts-e, accepted-reply, accepted-table}
-use Rattle.theory.proofs.Sums.{sum-update, sum-zero}
-use Rattle.theory.proofs.Tests.{implies-e}
 use Rattle.theory.proofs.Ways.{accepted-e, Way, way}
 use Rattle.theory.proofs.Ways.{call-shared, raise-busy, find-open, find-forbidden, back-off, try-again, hold-mutex, give-back, enter-shared, leave-shared, lower-busy, return-shared}
 use Rattle.theory.proofs.Ways.{call-exclusive, take-mutex, set-flag, find-busy, last-flag, next-flag, relents, give-up, enter-exclusive, leave-exclusive}

@@ -15,9 +15,9 @@ use Rattle.definitions.specs.Scripts.{threadsOf}
 use Rattle.definitions.specs.Table.{countFits, fresh}
 use Rattle.definitions.specs.Texts.{Line, linesOf}
 use Rattle.runs.specs.Requests.{movesFrom, movesFirst, movesOf}
-use Rattle.theory.specs.ShortestLines.{shortestMove}
-use Rattle.theory.proofs.Numbers.{decimal-some}
-use Rattle.theory.proofs.Tests.{one-most}
+use Rattle.basics.specs.ShortestLines.{shortestMove}
+use Rattle.basics.proofs.Numbers.{decimal-some}
+use Rattle.basics.proofs.Tests.{one-most}
 use Rattle.runs.proofs.Lines.{lineSize, sizeOf, behind-size, lines-size, Does, line-does}
 
 -- ---- the lines behind the first

@@ -22,9 +22,9 @@ use Rattle.definitions.specs.Table.{countFits, byteTable, fresh}
 use Rattle.definitions.specs.Texts.{Line, linesOf}
 use Rattle.definitions.specs.declared.Request.{Request}
 use Rattle.runs.specs.Requests.{movesFrom, movesFirst, movesOfLines, movesOf, noLine, firstTurn, turnAt, GoesOn, Closes}
+use Rattle.basics.proofs.Replies.{passed, failed, all-passed, no-test}
+use Rattle.basics.proofs.Tests.{true-T, false-T, and-i}
 use Rattle.theory.proofs.LineTurns.{first-printed, request-either}
-use Rattle.theory.proofs.Replies.{passed, failed, all-passed, no-test}
-use Rattle.theory.proofs.Tests.{true-T, false-T, and-i}
 use Rattle.runs.proofs.LastLine.{steps-once, steps-not-refused}
 
 -- ---- events

@@ -13,13 +13,13 @@ use Rattle.definitions.specs.Moves.{moveTable}
 use Rattle.definitions.specs.Run.{eventLine, stepsLine, refusedLine, Turn, stops, passes, makes, turnOf, printed, printedFirst, runText, runOutputOf, runRetries, runEntry}
 use Rattle.definitions.specs.Table.{tableOf, countFits, fresh}
 use Rattle.definitions.specs.Texts.{bytes, Line, linesOf}
-use Rattle.theory.specs.Outputs.{Delivered}
+use Rattle.basics.specs.Outputs.{Delivered}
 use Rattle.runs.specs.Length.{longestOutput}
+use Rattle.basics.proofs.Numbers.{tens, decimal-short}
+use Rattle.basics.proofs.Outputs.{whole}
+use Rattle.basics.proofs.Replies.{pass, no-test}
+use Rattle.basics.proofs.Tests.{cond-either}
 use Rattle.theory.proofs.LineTurns.{first-printed}
-use Rattle.theory.proofs.Numbers.{tens, decimal-short}
-use Rattle.theory.proofs.Outputs.{whole}
-use Rattle.theory.proofs.Replies.{pass, no-test}
-use Rattle.theory.proofs.Tests.{cond-either}
 use Rattle.runs.proofs.Lines.{lineSize, sizeOf, behind-size, lines-size, lines-count, Does, line-does}
 use Rattle.runs.proofs.Potential.{potential, fresh-potential, move-cost}
 

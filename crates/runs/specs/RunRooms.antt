@@ -6,7 +6,7 @@ use Rattle.definitions.specs.Answers.{accepted, filled}
 use Rattle.definitions.specs.Bounds.{mostScript, enoughOutput}
 use Rattle.definitions.specs.Run.{runOutputOf, runRetries, runEntry}
 use Rattle.definitions.specs.Texts.{linesOf}
-use Rattle.theory.specs.Outputs.{Delivered}
+use Rattle.basics.specs.Outputs.{Delivered}
 
 pub record RunRooms : Type 0 where
   -- 65,536 bytes hold the output of any run, which is at most twice its script and 18 bytes.

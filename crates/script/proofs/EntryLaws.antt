@@ -13,14 +13,14 @@ use Rattle.definitions.specs.Texts as texts
 use Rattle.definitions.specs.declared.Answer.{Answer}
 use Rattle.definitions.specs.declared.Answer.the-variants as answer
 use Rattle.definitions.specs.declared.Refusal.{Refusal}
+use Rattle.basics.specs.Outputs.{answering, Delivered}
 use Rattle.printing.specs.Output.{outputOf, Measurable}
-use Rattle.theory.specs.Outputs.{answering, Delivered}
 use Rattle.running.specs.Records.{Recorded}
 use Rattle.running.specs.declared.Ran.{Ran}
+use Rattle.basics.proofs.Outputs.{turned-down, with-answer}
+use Rattle.basics.proofs.Replies.{failed, pass, no-test}
+use Rattle.basics.proofs.Tests.{true-T}
 use Rattle.runs.proofs.Suffices.{suffices}
-use Rattle.theory.proofs.Outputs.{turned-down, with-answer}
-use Rattle.theory.proofs.Replies.{failed, pass, no-test}
-use Rattle.theory.proofs.Tests.{true-T}
 
 module _ (script out : List ℕ) where
   pub too-long : mostScript < length script → Delivered (runEntry script) out out (refused 8 0)

@@ -7,7 +7,7 @@ use definitions::Running;
 use fresh_runs::run_script;
 use printing::print;
 ghost use Rattle.definitions.specs.Run.{runningReply, runEntry};
-ghost use Rattle.theory.specs.Outputs.{Delivered};
+ghost use Rattle.basics.specs.Outputs.{Delivered};
 
 // A history of so many bytes has room for an event of every move that a script can make.
 const MOST_SHOWN: usize = 2 * MOST_MOVES;

@@ -10,15 +10,15 @@ use Rattle.definitions.specs.Forms.{formOf, lineTests, requestIn}
 use Rattle.definitions.specs.Plan.{bytesOf}
 use Rattle.definitions.specs.Scripts.{linesTests, requestsIn}
 use Rattle.definitions.specs.Texts.{Line, linesOf}
+use Rattle.basics.specs.Outputs.{RoomAt}
 use Rattle.lines.specs.Lines.{LineAt, UnendedAt, DoneAt}
-use Rattle.theory.specs.Outputs.{RoomAt}
 use Rattle.line_moves.specs.Moves.{AllTaken, TurnedDown}
 use Rattle.script_moves.specs.AllLines.{Roomy}
+use Rattle.basics.proofs.Parts.{Partly, no-part, room-by, put-by, all-by}
+use Rattle.basics.proofs.Replies.{behind, in-front}
+use Rattle.basics.proofs.TestLists.{answered-e}
 use Rattle.runs.proofs.Lines.{lines-size, stated-few}
-use Rattle.theory.proofs.Parts.{Partly, no-part, room-by, put-by, all-by}
 use Rattle.theory.proofs.Lengths.{bytes-length}
-use Rattle.theory.proofs.Replies.{behind, in-front}
-use Rattle.theory.proofs.TestLists.{answered-e}
 use Rattle.theory.proofs.Triples.{bytes-append}
 
 -- what the lines from a place on say, and the triples that they state

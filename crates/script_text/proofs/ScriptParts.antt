@@ -11,11 +11,11 @@ use Rattle.definitions.specs.Forms.{threadsLine, spelled}
 use Rattle.definitions.specs.Moves.{numberTests}
 use Rattle.definitions.specs.Scripts.{ended, movesText, scriptOf, triplesTests}
 use Rattle.definitions.specs.declared.Request.{Request}
-use Rattle.theory.specs.ShortestLines.{shortestMove}
+use Rattle.basics.specs.ShortestLines.{shortestMove}
+use Rattle.basics.proofs.Parts.{Parts}
+use Rattle.basics.proofs.TestLists.{passes-split}
 use Rattle.spelling.proofs.LineTexts.{move-least}
-use Rattle.theory.proofs.Parts.{Parts}
 use Rattle.theory.proofs.RequestNumbers.{numbers-e}
-use Rattle.theory.proofs.TestLists.{passes-split}
 use Rattle.theory.proofs.Triples.{tripleAt, triplesFrom, triples-next, triples-end}
 
 module _ (triples : List ℕ) where

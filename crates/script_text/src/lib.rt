@@ -8,8 +8,8 @@ ghost use mathlib.Core.Path.{_≡_};
 ghost use lib.ListN.{length};
 ghost use Rattle.definitions.specs.Chains.{requestsOf};
 ghost use Rattle.definitions.specs.Scripts.{movesText, scriptOf};
-ghost use Rattle.theory.specs.Outputs.{RoomAt, PutAt};
-ghost use Rattle.theory.specs.ShortestLines.{mostScriptMoves};
+ghost use Rattle.basics.specs.Outputs.{RoomAt, PutAt};
+ghost use Rattle.basics.specs.ShortestLines.{mostScriptMoves};
 
 // How many bytes the script has.
 pub fn script_length(threads: u16, triples: &[u8]) -> usize

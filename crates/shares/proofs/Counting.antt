@@ -11,10 +11,10 @@ use Rattle.definitions.specs.PlainLock.{pairsOf, checkTests, checkReply}
 use Rattle.definitions.specs.Plan.{planOf, plan}
 use Rattle.definitions.specs.declared.Request.{Request}
 use Rattle.shares.specs.Shares.{each, movesOf, ShareOf}
+use Rattle.basics.proofs.TestLists.{answered-e}
 use Rattle.history.proofs.CheckLaws.{tests-e}
 use Rattle.theory.proofs.Lengths.{pairs-length}
 use Rattle.theory.proofs.Pairs.{pairAt, pairs-next, pairs-end}
-use Rattle.theory.proofs.TestLists.{answered-e}
 
 -- ---- the plan of the pairs from index k on
 

@@ -11,9 +11,9 @@ use Rattle.definitions.specs.Bounds.{lastPhase}
 use Rattle.definitions.specs.Phases.{rows, holds}
 use Rattle.definitions.specs.Threads.{every, some, howMany, implies, sumOf}
 use Rattle.soundness.specs.Pass.{holderPhase}
-use Rattle.theory.proofs.Cases.{holder-phase}
-use Rattle.theory.proofs.Quantifiers.{every-at}
-use Rattle.theory.proofs.Tests.{implies-e, not-i, T-false, T-true, true-T}
+use Rattle.basics.proofs.Quantifiers.{every-at}
+use Rattle.basics.proofs.Tests.{implies-e, not-i, T-false, T-true, true-T}
+use Rattle.theory.proofs.PhaseCases.{holder-phase}
 
 -- the phases of two holders add up to more than any phase, by trying the phases
 holder-high : (p : ℕ) → T (holds p) → lastPhase < p + p

@@ -16,8 +16,9 @@ use Rattle.soundness.specs.Pass.{tallyBelow, fitBelow, foundOf, soundBy,
 use Rattle.tallies.specs.Rules.{mutexAgrees, someElsewhere, aimFits, restFits}
 use Rattle.soundness.specs.declared.Found.the-variants.{Good, Bad}
 use Rattle.tallies.specs.declared.Tally.{Tally}
-use Rattle.theory.proofs.Cases.{or-at, none-of, is-holder}
-use Rattle.theory.proofs.Tests.{and-cong, and-l, and-r}
+use Rattle.basics.proofs.Cases.{or-at, none-of}
+use Rattle.basics.proofs.Tests.{and-cong, and-l, and-r}
+use Rattle.theory.proofs.PhaseCases.{is-holder}
 use Rattle.theory.specs.Tables.{headOf, taskOf}
 use Rattle.soundness.proofs.Holders.{Holders, none, one, many, holders}
 use Rattle.soundness.proofs.Rules.{each-fits, flags-of, mutex-is, target-is, open-is, is-10, is-11, is-13, is-15, elsewhere-is}

@@ -16,10 +16,10 @@ use Rattle.definitions.specs.Threads.{every, some, howMany, between, implies}
 use Rattle.soundness.specs.Pass.{threadFits, forbiddenReader, tallyBelow, fitBelow}
 use Rattle.tallies.specs.Rules.{mutexAgrees, someElsewhere}
 use Rattle.tallies.specs.declared.Tally.{Tally}
-use Rattle.theory.proofs.Quantifiers.{every-at, every-i, every-same, howMany-most, some-howMany}
+use Rattle.basics.proofs.Quantifiers.{every-at, every-i, every-same, howMany-most, some-howMany}
+use Rattle.basics.proofs.Tests.{and-cong, and-l, and-r, and-i, T-true, same-test}
 use Rattle.theory.proofs.Soundness.{busy-bit}
 use Rattle.theory.proofs.Stages.{range-holds, opened-holds}
-use Rattle.theory.proofs.Tests.{and-cong, and-l, and-r, and-i, T-true, same-test}
 use Rattle.soundness.proofs.Bools.{implies-cong, not-not}
 use Rattle.soundness.proofs.Holders.{holder-is, holder-any}
 use Rattle.soundness.proofs.Threads.{some-not-none, every-count, none-count, except-count}

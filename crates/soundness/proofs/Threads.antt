@@ -9,7 +9,7 @@ use mathlib.Core.Path.{_≡_, refl, sym, subst, ap, _∙_}
 use borrow.Author.Tests.{eq-eqb, ne-eqb}
 use lib.Dec.{eqb, eqb·suc-suc}
 use Rattle.definitions.specs.Threads.{every, some, howMany}
-use Rattle.theory.proofs.Quantifiers.{every-same, howMany-at, howMany-most, some-howMany}
+use Rattle.basics.proofs.Quantifiers.{every-same, howMany-at, howMany-most, some-howMany}
 
 -- the words as counts
 pub every-count : (n : ℕ) (f : ℕ → Bool) → every n f ≡ eqb (howMany n f) n

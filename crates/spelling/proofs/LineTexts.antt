@@ -9,9 +9,9 @@ use Rattle.definitions.specs.Forms.{threadsLine, spelled, actText}
 use Rattle.definitions.specs.Moves.{ask}
 use Rattle.definitions.specs.Scripts.{ended}
 use Rattle.definitions.specs.Texts.{bytes, decimal}
-use Rattle.theory.specs.ShortestLines.{shortestMove}
+use Rattle.basics.specs.ShortestLines.{shortestMove}
 use Rattle.acts.proofs.ActTexts.{act-least}
-use Rattle.theory.proofs.Numbers.{decimal-some}
+use Rattle.basics.proofs.Numbers.{decimal-some}
 
 -- the threads line
 pub threads-text : (n : ℕ) → ended (threadsLine n) ≡ bytes "(threads " ++ (decimal n ++ bytes ")\n")

@@ -10,7 +10,7 @@ ghost use lib.ListN.{length};
 ghost use Rattle.definitions.specs.Forms.{threadsLine, spelled};
 ghost use Rattle.definitions.specs.Moves.{ask};
 ghost use Rattle.definitions.specs.Scripts.{ended};
-ghost use Rattle.theory.specs.Outputs.{RoomAt, PutAt};
+ghost use Rattle.basics.specs.Outputs.{RoomAt, PutAt};
 
 // The bytes of `(threads `, and of `)` with its line feed.
 const AROUND_THREADS: u16 = 11;

@@ -13,7 +13,7 @@ use Rattle.definitions.specs.declared.Refusal.the-variants.{BadSize, Unsound}
 use Rattle.theory.specs.Tables.{SoundBytes, forbiddenCount}
 use Rattle.table.specs.TableTests.{examinedOf}
 use Rattle.table.specs.declared.tests.Examined.the-variants.{Sound, Refused}
-use Rattle.theory.proofs.Replies.{pass, no-test}
+use Rattle.basics.proofs.Replies.{pass, no-test}
 
 -- whatever would be answered otherwise
 module _ {A : Type 0} (a : A) (n k : ℕ) (x : Refusal) where

@@ -1,8 +1,8 @@
 // A fresh table: "A fresh table has mutex 0, target 255, all else 0."
+use codes::count_fits;
 use definitions::Answer;
 use definitions::NO_TARGET;
 use definitions::Refusal;
-use definitions::count_fits;
 use layout::TARGET_AT;
 use layout::THREADS_AT;
 use layout::size_of;
@@ -11,7 +11,7 @@ ghost use mathlib.Core.Path.{_≡_};
 ghost use lib.ListN.{length};
 ghost use Rattle.definitions.specs.Answers.{answerReply, filled};
 ghost use Rattle.definitions.specs.Table.{size, fresh, freshEntry};
-ghost use Rattle.theory.specs.Outputs.{Delivered};
+ghost use Rattle.basics.specs.Outputs.{Delivered};
 
 // Its bytes, written to the front of an output that has room for them.
 fn write_fresh(threads: u8, bytes: usize, out: &mut [u8])

@@ -1,6 +1,6 @@
 // The tests of the refusals 1 and 2.
+use codes::count_fits;
 use definitions::Refusal;
-use definitions::count_fits;
 use layout::THREADS_AT;
 use layout::read_head;
 use layout::read_task;

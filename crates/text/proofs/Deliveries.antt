@@ -6,8 +6,8 @@ use mathlib.Core.Path.{ap, _∙_}
 use lib.Dec.{T}
 use lib.ListN.{length}
 use Rattle.definitions.specs.Answers.{accepted, refused, Test, passesAll, counted}
-use Rattle.theory.specs.Outputs.{PutAt, Delivered}
-use Rattle.theory.proofs.Outputs.{filled-up, no-room, whole, delivered-as}
+use Rattle.basics.specs.Outputs.{PutAt, Delivered}
+use Rattle.basics.proofs.Outputs.{filled-up, no-room, whole, delivered-as}
 
 module _ (tests : List Test) (text out : List ℕ) (tested : T (passesAll tests)) where
   pub short-refused : length out < length text → Delivered (counted tests text) out out (refused 12 0)

@@ -4,7 +4,7 @@ use definitions::Answer;
 use definitions::Refusal;
 ghost use mathlib.Core.List.{[], _∷_};
 ghost use Rattle.definitions.specs.Answers.{answerReply, counted};
-ghost use Rattle.theory.specs.Outputs.{RoomAt, PutAt, Delivered};
+ghost use Rattle.basics.specs.Outputs.{RoomAt, PutAt, Delivered};
 
 // One byte.
 pub fn put_byte(out: &mut [u8], at: usize, byte: u8) -> usize

@@ -11,9 +11,10 @@ use Rattle.definitions.specs.Bounds.{mostThreads}
 use Rattle.definitions.specs.Table.{Table, countFits, freshTable, Write, mutex≔, target≔, phase≔, busy≔, forbidden≔, update, appliedOne}
 use Rattle.definitions.specs.Table.{applied, size, phaseAt, busyAt, forbiddenAt, tableOf, sized, storedOne, stored, byteTable, fresh}
 use Rattle.theory.specs.Tables.{Sized, WriteFits, WritesFit, Keeps}
-use Rattle.theory.proofs.Lists.{zeros}
-use Rattle.theory.proofs.Tests.{and-l, and-r, and-i, eq-T, same?}
-use Rattle.theory.proofs.Writes.{update-same, update-other, same-table, applied-threads, applied-keeps}
+use Rattle.basics.proofs.Lists.{zeros}
+use Rattle.basics.proofs.Tests.{and-l, and-r, and-i, eq-T, same?}
+use Rattle.basics.proofs.Columns.{update-same, update-other}
+use Rattle.theory.proofs.Writes.{same-table, applied-threads, applied-keeps}
 
 -- ---- one write to the bytes
 

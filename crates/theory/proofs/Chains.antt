@@ -20,7 +20,7 @@ use Rattle.theory.proofs.Bytes.{byte-keeps, fresh-table, fresh-sized}
 use Rattle.theory.proofs.RequestNumbers.{NumbersFit, AllNumbersFit, target-below}
 use Rattle.theory.proofs.SoundSteps.{kept-sound}
 use Rattle.theory.proofs.Storages.{accepts-e, accepts-i, accepted-reply, accepted-stores, history-same, after-same, retries-same, accepts-all-same}
-use Rattle.theory.proofs.Tests.{and-l, and-r, and-i}
+use Rattle.basics.proofs.Tests.{and-l, and-r, and-i}
 use Rattle.theory.proofs.Ways.{Accepted, accepted-e, accepted-i}
 use Rattle.theory.proofs.Writes.{applied-keeps}
 

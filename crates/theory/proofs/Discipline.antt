@@ -25,14 +25,15 @@ use Rattle.theory.specs.Statements.{writesMutex, writesFlag, writesTarge
 use Rattle.theory.specs.Statements.{readerRound, readerPhase, readerMove, atMutex, localMove, Agree}
 use Rattle.theory.specs.Tables.{SoundBytes}
 use Rattle.theory.proofs.Bytes.{byte-keeps}
-use Rattle.theory.proofs.Cases.{or-at, none-of, among-range, has-phase}
+use Rattle.basics.proofs.Cases.{or-at, none-of, among-range}
+use Rattle.theory.proofs.PhaseCases.{has-phase}
 use Rattle.theory.proofs.MoveWrites.{may-make}
 use Rattle.theory.proofs.Places.{place, Unwritten, untouched}
-use Rattle.theory.proofs.Replies.{passed}
+use Rattle.basics.proofs.Replies.{passed}
 use Rattle.theory.proofs.Soundness.{Sound, sound-e}
 use Rattle.theory.proofs.Stages.{between-e, between-i, opened-holds, opened-apart}
 use Rattle.theory.proofs.Storages.{accepts-e, accepted-stores, accepted-table, refused-stays, reply-same, table-step}
-use Rattle.theory.proofs.Tests.{T-true, T-false, eq-T, and-l, and-r, and-i, or-e, or-l, or-r, decided, no-both, not-i}
+use Rattle.basics.proofs.Tests.{T-true, T-false, eq-T, and-l, and-r, and-i, or-e, or-l, or-r, decided, no-both, not-i}
 use Rattle.theory.proofs.Ways.{Accepted, accepted-e, finds-free, phases-1, phases-6}
 
 -- ---- who writes what

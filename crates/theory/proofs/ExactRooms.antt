@@ -10,13 +10,13 @@ use Rattle.definitions.specs.Bounds.{mostThreads}
 use Rattle.definitions.specs.Nodes.{nodesOf, nodesEntry}
 use Rattle.definitions.specs.Phases.{nodeOf}
 use Rattle.definitions.specs.Table.{tableOf, size, fresh, freshEntry}
-use Rattle.theory.specs.Outputs.{Delivered}
+use Rattle.basics.specs.Outputs.{Delivered}
 use Rattle.theory.specs.Tables.{SoundBytes}
 use Rattle.theory.proofs.Lengths.{fresh-length}
-use Rattle.theory.proofs.Lists.{length-listOf}
-use Rattle.theory.proofs.Outputs.{whole, delivered-as}
-use Rattle.theory.proofs.Replies.{pass, no-test}
-use Rattle.theory.proofs.Tests.{and-i}
+use Rattle.basics.proofs.Lists.{length-listOf}
+use Rattle.basics.proofs.Outputs.{whole, delivered-as}
+use Rattle.basics.proofs.Replies.{pass, no-test}
+use Rattle.basics.proofs.Tests.{and-i}
 
 -- a text of the output's own length
 fills : (out text : List ℕ) → length out ≡ length text → filled out text ≡ text

@@ -21,17 +21,18 @@ use Rattle.definitions.specs.Threads.{every, listOf, among, between, implies}
 use Rattle.definitions.specs.declared.Request.{Request}
 use Rattle.theory.specs.Statements.{OutsideView}
 use Rattle.theory.proofs.Bytes.{byte-keeps}
-use Rattle.theory.proofs.Lists.{length-listOf, getD-listOf, listOf-same, listOf-set, anyIn-listOf}
-use Rattle.theory.proofs.Quantifiers.{every-at}
+use Rattle.basics.proofs.Lists.{length-listOf, getD-listOf, listOf-same, listOf-set}
+use Rattle.theory.proofs.AnyNode.{anyIn-listOf}
+use Rattle.basics.proofs.Quantifiers.{every-at}
 use Rattle.theory.proofs.SoundSteps.{settled}
 use Rattle.theory.proofs.Soundness.{All, Sound, sound-e}
 use Rattle.theory.proofs.Storages.{accepts-e, accepted-reply, accepted-table}
-use Rattle.theory.proofs.Tests.{not-i, implies-e, same?}
+use Rattle.basics.proofs.Tests.{not-i, implies-e, same?}
 use Rattle.theory.proofs.Ways.{Way, way, accepted-e}
 use Rattle.theory.proofs.Ways.{call-shared, raise-busy, find-open, find-forbidden, back-off, try-again, hold-mutex, give-back, enter-shared, leave-shared, lower-busy, return-shared}
 use Rattle.theory.proofs.Ways.{call-exclusive, take-mutex, set-flag, find-busy, last-flag, next-flag, relents, give-up, enter-exclusive, leave-exclusive}
 use Rattle.theory.proofs.Ways.{set-again, clear-flag, clear-last, release-mutex, return-exclusive}
-use Rattle.theory.proofs.Writes.{update-same, update-other}
+use Rattle.basics.proofs.Columns.{update-same, update-other}
 
 -- ---- the arrows by their place in the list
 

@@ -12,7 +12,7 @@ use Rattle.definitions.specs.Table.{tableOf, countFits, fresh}
 use Rattle.definitions.specs.Texts.{Line}
 use Rattle.definitions.specs.declared.Request.{Request}
 use Rattle.theory.specs.Tables.{SoundBytes}
-use Rattle.theory.proofs.Replies.{passed, all-passed, in-front, passed-or-refused}
+use Rattle.basics.proofs.Replies.{passed, all-passed, in-front, passed-or-refused}
 
 -- a threads line at the front
 pub first-printed : (n : ℕ) (ls : List Line) → printedFirst (threads n) ls ≡ cond (countFits n) (printed (fresh n) 2 0 ls) (refusedLine 1 1)

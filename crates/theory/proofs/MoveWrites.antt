@@ -12,7 +12,7 @@ use Rattle.definitions.specs.Threads.{between}
 use Rattle.definitions.specs.declared.Request.{Request}
 use Rattle.theory.specs.Statements.{subjectBy, subjectOf, MayMake, MayMakeAll}
 use Rattle.theory.specs.Tables.{WriteFits, WritesFit}
-use Rattle.theory.proofs.Cases.{or-at, none-of}
+use Rattle.basics.proofs.Cases.{or-at, none-of}
 use Rattle.theory.proofs.Soundness.{sound-e}
 use Rattle.theory.proofs.Ways.{Accepted, accepted-e, Way, way}
 use Rattle.theory.proofs.Ways.{call-shared, raise-busy, find-open, find-forbidden, back-off, try-again, hold-mutex, give-back, enter-shared, leave-shared, lower-busy, return-shared}

@@ -21,11 +21,11 @@ use Rattle.definitions.specs.declared.Request.{Request}
 use Rattle.theory.specs.Tables.{SoundBytes}
 use Rattle.theory.proofs.Bytes.{fresh-table}
 use Rattle.theory.proofs.Figure1.{figure-1}
-use Rattle.theory.proofs.Lists.{length-listOf, getD-listOf, each-member}
-use Rattle.theory.proofs.Quantifiers.{every-at}
+use Rattle.basics.proofs.Lists.{length-listOf, getD-listOf, each-member}
+use Rattle.basics.proofs.Quantifiers.{every-at}
 use Rattle.theory.proofs.Soundness.{Sound, sound-e}
 use Rattle.theory.proofs.Storages.{accepts-e}
-use Rattle.theory.proofs.Tests.{not-i, or-e, implies-e}
+use Rattle.basics.proofs.Tests.{not-i, or-e, implies-e}
 use Rattle.theory.proofs.Ways.{accepted-e}
 
 -- ---- a fresh table

@@ -18,10 +18,10 @@ use Rattle.definitions.specs.Table.{Table}
 use Rattle.definitions.specs.Threads.{every, howMany, gather, among}
 use Rattle.definitions.specs.declared.Request.{Request}
 use Rattle.theory.specs.Statements.{StandsAt, Stands}
-use Rattle.theory.proofs.Cases.{no-row}
-use Rattle.theory.proofs.Lengths.{gather-most, gather-counted}
-use Rattle.theory.proofs.Quantifiers.{below-suc, every-at}
-use Rattle.theory.proofs.Tests.{T-true, T-false, decided, no-both, cond-either, below?}
+use Rattle.theory.proofs.PhaseCases.{no-row}
+use Rattle.basics.proofs.Gathering.{gather-most, gather-counted}
+use Rattle.basics.proofs.Quantifiers.{below-suc, every-at}
+use Rattle.basics.proofs.Tests.{T-true, T-false, decided, no-both, cond-either, below?}
 use Rattle.theory.proofs.Ways.{Accepted, accepted-e}
 
 -- ---- lists of pairs and their bytes

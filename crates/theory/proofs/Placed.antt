@@ -16,10 +16,11 @@ use Rattle.definitions.specs.declared.Task.{Task}
 use Rattle.theory.specs.Statements.{subjectOf}
 use Rattle.theory.specs.Tables.{Keeps, Told, forbiddenCount, headOf, taskOf, flagged, headWrites, taskWrites, putTask, putBack, headWith, moverWith, flagWith, headAfter, moverAfter, flagAfter}
 use Rattle.theory.proofs.MoveWrites.{Within, WithinOne, effect-within, writes-fit, subject-thread}
-use Rattle.theory.proofs.Quantifiers.{howMany-change}
-use Rattle.theory.proofs.Tests.{same?}
+use Rattle.basics.proofs.Quantifiers.{howMany-change}
+use Rattle.basics.proofs.Tests.{same?}
 use Rattle.theory.proofs.Ways.{accepted-e}
-use Rattle.theory.proofs.Writes.{update-same, update-other, same-table}
+use Rattle.basics.proofs.Columns.{update-same, update-other}
+use Rattle.theory.proofs.Writes.{same-table}
 
 -- ---- columns
 

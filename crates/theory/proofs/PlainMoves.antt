@@ -10,9 +10,9 @@ use Rattle.definitions.specs.Forms.{Form, request, actText, plainMoves, plainFo
 use Rattle.definitions.specs.Moves.{ask, namesThread}
 use Rattle.definitions.specs.Texts.{same}
 use Rattle.definitions.specs.Threads.{among}
-use Rattle.theory.proofs.Cases.{among-here, among-unless}
-use Rattle.theory.proofs.Tests.{T-true, or-r, cond-either}
-use Rattle.theory.proofs.Texts.{same-eq}
+use Rattle.basics.proofs.Cases.{among-here, among-unless}
+use Rattle.basics.proofs.Tests.{T-true, or-r, cond-either}
+use Rattle.basics.proofs.Texts.{same-eq}
 
 pub plain-e : (mv : ℕ) → T (among mv plainMoves) → (mv ≤ lastMove) × T (not (namesThread mv))
 unfolding plainMoves

@@ -11,7 +11,7 @@ use Rattle.definitions.specs.PlainLock.{Pair}
 use Rattle.definitions.specs.Plan.{planRows, planOf, plan}
 use Rattle.definitions.specs.Threads.{gather}
 use Rattle.definitions.specs.declared.Request.{Request}
-use Rattle.theory.proofs.Lengths.{gather-length}
+use Rattle.basics.proofs.Gathering.{gather-length}
 
 -- ---- one event
 

@@ -8,7 +8,7 @@ use Rattle.definitions.specs.Answers.{passesAll}
 use Rattle.definitions.specs.Bounds.{lastMove}
 use Rattle.definitions.specs.Moves.{namesThread, targetFits, numberTests}
 use Rattle.definitions.specs.declared.Request.{Request}
-use Rattle.theory.proofs.Replies.{peel, pass, no-test}
+use Rattle.basics.proofs.Replies.{peel, pass, no-test}
 
 -- a request whose numbers fit n threads
 pub record NumbersFit (n : ℕ) (r : Request) : Type 0 where

@@ -12,11 +12,11 @@ use Rattle.definitions.specs.Answers.{accepted, refused, passesAll, filled, del
 use Rattle.definitions.specs.PlainLock.{pairsOf, checkTests, checkReply}
 use Rattle.definitions.specs.Plan.{plan, bytesOf, planEntry, planLengthReply}
 use Rattle.definitions.specs.declared.Request.{Request}
-use Rattle.theory.specs.Outputs.{Delivered}
+use Rattle.basics.specs.Outputs.{Delivered}
 use Rattle.theory.proofs.Lengths.{bytes-length}
-use Rattle.theory.proofs.Outputs.{turned-down, no-room, whole, answered-so}
-use Rattle.theory.proofs.Replies.{all-passed}
-use Rattle.theory.proofs.TestLists.{answered-e, other-answer}
+use Rattle.basics.proofs.Outputs.{turned-down, no-room, whole, answered-so}
+use Rattle.basics.proofs.Replies.{all-passed}
+use Rattle.basics.proofs.TestLists.{answered-e, other-answer}
 
 module _ (n : ℕ) (bytes : List ℕ) where
   abbrev moves : List Request

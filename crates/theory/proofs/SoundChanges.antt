@@ -13,11 +13,11 @@ use Rattle.definitions.specs.Phases.{busyIn, holds, reading}
 use Rattle.definitions.specs.Sound.{sound, opened, backedOff}
 use Rattle.definitions.specs.Table.{Table, mutex≔, phase≔, busy≔, update, applied}
 use Rattle.definitions.specs.Threads.{between}
-use Rattle.theory.proofs.Cases.{holder-phase}
+use Rattle.theory.proofs.PhaseCases.{holder-phase}
 use Rattle.theory.proofs.Soundness.{All, Some, In, Holds, Reads, Elsewhere, Sound, sound-i}
 use Rattle.theory.proofs.Stages.{range-holds, opened-holds, Fits, Stage, held-sound, nobody-sound}
-use Rattle.theory.proofs.Tests.{decided, no-both, same?}
-use Rattle.theory.proofs.Writes.{update-same, update-other}
+use Rattle.basics.proofs.Tests.{decided, no-both, same?}
+use Rattle.basics.proofs.Columns.{update-same, update-other}
 
 -- ---- columns
 

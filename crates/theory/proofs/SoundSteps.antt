@@ -15,18 +15,18 @@ use Rattle.definitions.specs.Sound.{sound, anyHolder, opened, backedOff}
 use Rattle.definitions.specs.Table.{Table, mutex≔, target≔, phase≔, forbidden≔, update, applied}
 use Rattle.definitions.specs.Threads.{every, between, implies}
 use Rattle.definitions.specs.declared.Request.{Request}
-use Rattle.theory.proofs.Quantifiers.{every-at, not-every}
-use Rattle.theory.proofs.Replies.{leaves-yes, leaves-no}
+use Rattle.basics.proofs.Quantifiers.{every-at, not-every}
+use Rattle.basics.proofs.Replies.{leaves-yes, leaves-no}
 use Rattle.theory.proofs.Soundness.{All, Some, Reads, Elsewhere, Sound, some-in, none-in, sound-e}
 use Rattle.theory.proofs.SoundChanges.{put, keep, put-back, bit-0, bit-1, other-elsewhere, elsewhere-after, phase-moves, busy-moves, flags-after}
 use Rattle.theory.proofs.SoundChanges.{read-before, in-phase, idle-target, holds-on, nobody-holds, idle, takes-mutex, lets-go}
 use Rattle.theory.proofs.Stages.{opened-holds, opened-apart, stage-10, stage-11, stage-13, stage-15, stage-opened}
-use Rattle.theory.proofs.Tests.{and-i, T-ne, decided, no-both, not-i, or-e, or-l, or-r, same?, eq-T, implies-e}
+use Rattle.basics.proofs.Tests.{and-i, T-ne, decided, no-both, not-i, or-e, or-l, or-r, same?, eq-T, implies-e}
 use Rattle.theory.proofs.Ways.{Way, way, accepted-e}
 use Rattle.theory.proofs.Ways.{call-shared, raise-busy, find-open, find-forbidden, back-off, try-again, hold-mutex, give-back, enter-shared, leave-shared, lower-busy, return-shared}
 use Rattle.theory.proofs.Ways.{call-exclusive, take-mutex, set-flag, find-busy, last-flag, next-flag, relents, give-up, enter-exclusive, leave-exclusive}
 use Rattle.theory.proofs.Ways.{set-again, clear-flag, clear-last, release-mutex, return-exclusive}
-use Rattle.theory.proofs.Writes.{update-same, update-other}
+use Rattle.basics.proofs.Columns.{update-same, update-other}
 
 -- "busy is 1" in phases 5 to 7, by trying the phases
 reading-busy : (q : ℕ) → q ≤ lastPhase → T (reading q) → busyIn q ≡ 1

@@ -14,8 +14,8 @@ use Rattle.definitions.specs.Table.{Table}
 use Rattle.definitions.specs.Threads.{every, some, howMany, between, allOf, implies}
 use Rattle.definitions.specs.declared.Task.{Task}
 use Rattle.theory.specs.Tables.{taskOf}
-use Rattle.theory.proofs.Quantifiers.{every-at, every-i, some-i, some-e, not-every, at-most-one, one-at-most}
-use Rattle.theory.proofs.Tests.{and-l, and-r, and-i, or-e, or-l, or-r, decided, no-both, not-i, implies-e, implies-i, cond-yes, cond-no, eq-T, T-ne}
+use Rattle.basics.proofs.Quantifiers.{every-at, every-i, some-i, some-e, not-every, at-most-one, one-at-most}
+use Rattle.basics.proofs.Tests.{and-l, and-r, and-i, or-e, or-l, or-r, decided, no-both, not-i, implies-e, implies-i, cond-yes, cond-no, eq-T, T-ne}
 
 -- of every thread of a table, and of some thread
 abbrev pub All : Table → (ℕ → Type 0) → Type 0

@@ -11,9 +11,9 @@ use Rattle.definitions.specs.Sound.{sound, opened, backedOff}
 use Rattle.definitions.specs.Table.{Table, countFits, freshTable, tableOf, fresh}
 use Rattle.definitions.specs.Threads.{every, between, implies}
 use Rattle.theory.proofs.Bytes.{fresh-table}
-use Rattle.theory.proofs.Quantifiers.{every-at}
+use Rattle.basics.proofs.Quantifiers.{every-at}
 use Rattle.theory.proofs.Soundness.{All, Some, In, Holds, Reads, Elsewhere, sound-i}
-use Rattle.theory.proofs.Tests.{and-l, and-r, and-i, or-e, decided, no-both, not-i, implies-e}
+use Rattle.basics.proofs.Tests.{and-l, and-r, and-i, or-e, decided, no-both, not-i, implies-e}
 
 -- ---- phases from a to b
 

@@ -15,9 +15,9 @@ use Rattle.definitions.specs.PlainLock.{Pair}
 use Rattle.definitions.specs.Table.{Table, applied, Storage, itself}
 use Rattle.definitions.specs.declared.Request.{Request}
 use Rattle.theory.specs.Tables.{Keeps}
-use Rattle.theory.proofs.Replies.{passed, all-passed, accepted-is, peel, leaves-yes, leaves-no}
+use Rattle.basics.proofs.Replies.{passed, all-passed, accepted-is, peel, leaves-yes, leaves-no}
 use Rattle.theory.proofs.MoveWrites.{writes-fit}
-use Rattle.theory.proofs.Tests.{decided}
+use Rattle.basics.proofs.Tests.{decided}
 
 -- the record's own step, as that of a storage
 own-reply : (s : Table) (r : Request) → replyIn itself s r ≡ stepReply s r

@@ -19,9 +19,10 @@ use Rattle.definitions.specs.Sound.{sound}
 use Rattle.definitions.specs.Table.{Table, mutex≔, target≔, phase≔, busy≔, forbidden≔}
 use Rattle.definitions.specs.Threads.{listOf, gather, among}
 use Rattle.definitions.specs.declared.Request.{Request}
-use Rattle.theory.proofs.Cases.{or-at, none-of, among-list, phasesWhere, has-phase}
-use Rattle.theory.proofs.Replies.{accepted-is, peel, pass, no-test}
-use Rattle.theory.proofs.Tests.{T-true, T-false, and-i, eq-T, decided, no-both}
+use Rattle.basics.proofs.Cases.{or-at, none-of, among-list}
+use Rattle.theory.proofs.PhaseCases.{phasesWhere, has-phase}
+use Rattle.basics.proofs.Replies.{accepted-is, peel, pass, no-test}
+use Rattle.basics.proofs.Tests.{T-true, T-false, and-i, eq-T, decided, no-both}
 
 -- ---- the tests of a request
 

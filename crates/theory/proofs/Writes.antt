@@ -1,16 +1,7 @@
--- Writes to a table's record: what a column has after one, and that N stays.
-use Prim.Native.Nat.{ℕ}
+-- Writes to a table's record: two records with equal fields, and that N stays.
 use mathlib.Core.List.{List, [], _∷_}
 use mathlib.Core.Path.{_≡_, refl, _∙_}
-use lib.Dec.{eqb}
-use Rattle.definitions.specs.Table.{Table, Write, mutex≔, target≔, phase≔, busy≔, forbidden≔, update, appliedOne, applied}
-use Rattle.theory.proofs.Tests.{cond-yes, cond-no, eq-T, ne-T}
-
-pub update-same : (f : ℕ → ℕ) (i v j : ℕ) → j ≡ i → update f i v j ≡ v
-update-same f i v j e = cond-yes (eqb j i) v (f j) (eq-T j i e)
-
-pub update-other : (f : ℕ → ℕ) (i v j : ℕ) → (j ≡ i → ⊥) → update f i v j ≡ f j
-update-other f i v j h = cond-no (eqb j i) v (f j) (ne-T j i h)
+use Rattle.definitions.specs.Table.{Table, Write, mutex≔, target≔, phase≔, busy≔, forbidden≔, appliedOne, applied}
 
 -- two records with equal fields
 pub same-table : (s t : Table) → s .threads ≡ t .threads → s .mutex ≡ t .mutex → s .target ≡ t .target → s .phase ≡ t .phase → s .busy ≡ t .busy → s .forbidden ≡ t .forbidden → s ≡ t

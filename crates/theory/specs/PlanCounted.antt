@@ -7,7 +7,7 @@ use lib.ListN.{length}
 use Rattle.definitions.specs.Answers.{accepted, refused, filled, deliveryReply}
 use Rattle.definitions.specs.PlainLock.{pairsOf, checkReply}
 use Rattle.definitions.specs.Plan.{plan, bytesOf, planEntry, planLengthReply}
-use Rattle.theory.specs.Outputs.{Delivered}
+use Rattle.basics.specs.Outputs.{Delivered}
 
 pub record PlanCounted : Type 0 where
   -- A number is answered exactly if the plan entry, with three bytes of output a move, answers it; with less it refuses by 12. The check's refusals are refused alike.

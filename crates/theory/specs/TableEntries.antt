@@ -12,7 +12,7 @@ use Rattle.definitions.specs.Nodes.{nodesOf, nodesEntry}
 use Rattle.definitions.specs.OpenMoves.{openEntry}
 use Rattle.definitions.specs.Table.{byteTable, tableOf, size, fresh, freshEntry}
 use Rattle.definitions.specs.declared.Request.{Request}
-use Rattle.theory.specs.Outputs.{Delivered}
+use Rattle.basics.specs.Outputs.{Delivered}
 use Rattle.theory.specs.Tables.{SoundBytes}
 
 pub record TableEntries : Type 0 where

@@ -14,7 +14,7 @@ use Rattle.definitions.specs.declared.Request.{Request}
 use Rattle.requests.specs.RequestTests.{testedAt}
 use Rattle.requests.specs.declared.Tested.{Tested}
 use Rattle.requests.specs.declared.Tested.the-variants.{Passed, Refused}
-use Rattle.theory.proofs.Replies.{accepted-is, behind, in-front}
+use Rattle.basics.proofs.Replies.{accepted-is, behind, in-front}
 use Rattle.theory.proofs.Triples.{tripleAt, triplesFrom, triples-next, triples-end}
 
 module _ (n : ℕ) (triples : List ℕ) where

@@ -5,7 +5,7 @@ ghost use mathlib.Core.Path.{_≡_};
 ghost use lib.ListN.{length};
 ghost use Rattle.definitions.specs.Moves.{ask};
 ghost use Rattle.definitions.specs.Plan.{bytesOf};
-ghost use Rattle.theory.specs.Outputs.{RoomAt, PutAt};
+ghost use Rattle.basics.specs.Outputs.{RoomAt, PutAt};
 
 // One triple.
 pub fn put_triple(out: &mut [u8], at: usize, thread: u8, mv: u8, target: u8) -> usize

@@ -10,12 +10,12 @@ use Rattle.definitions.specs.Sound.{anyHolder}
 use Rattle.definitions.specs.Table.{Table}
 use Rattle.definitions.specs.Threads.{between}
 use Rattle.dispatching.specs.Turns.{WaitsThere}
+use Rattle.basics.proofs.Cases.{or-at, none-of}
+use Rattle.basics.proofs.FlagCounts.{flagsSet}
+use Rattle.basics.proofs.Sums.{sum-same}
+use Rattle.basics.proofs.Tests.{decided}
 use Rattle.progress.proofs.Measure.{alone, part, total, all-set}
-use Rattle.theory.proofs.Cases.{or-at, none-of}
-use Rattle.theory.proofs.FlagCounts.{flagsSet}
 use Rattle.theory.proofs.Soundness.{All, Sound, some-in, none-in}
-use Rattle.theory.proofs.Sums.{sum-same}
-use Rattle.theory.proofs.Tests.{decided}
 use Rattle.turn_limit.proofs.Stops.{stop, taking, taking-or-none, stopsOf, at-mutex}
 use Rattle.turn_limit.proofs.TurnsLeft.{turnsLeft}
 

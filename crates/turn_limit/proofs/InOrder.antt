@@ -15,14 +15,14 @@ use Rattle.definitions.specs.Table.{Table}
 use Rattle.definitions.specs.Threads.{every, among, between, implies, listOf}
 use Rattle.dispatching.specs.Ready.{readyBy, ready}
 use Rattle.definitions.specs.declared.Request.{Request}
+use Rattle.basics.proofs.Cases.{or-at, none-of, among-range}
+use Rattle.basics.proofs.Lowest.{lowest-below}
+use Rattle.basics.proofs.Quantifiers.{implied}
+use Rattle.basics.proofs.Tests.{or-e, no-both, implies-e, T-ne, same?, below?}
 use Rattle.dispatching.proofs.Choice.{mover-is}
-use Rattle.theory.proofs.Cases.{or-at, none-of, among-range}
-use Rattle.theory.proofs.Lowest.{lowest-below}
-use Rattle.theory.proofs.Quantifiers.{implied}
 use Rattle.theory.proofs.SoundChanges.{put-all, in-phase}
 use Rattle.theory.proofs.Soundness.{All, Sound}
 use Rattle.theory.proofs.Stages.{between-e}
-use Rattle.theory.proofs.Tests.{or-e, no-both, implies-e, T-ne, same?, below?}
 use Rattle.turn_limit.proofs.NextPhases.{next, Next, tried}
 use Rattle.turn_limit.proofs.OneRequest.{request-fits, request-threads, request-next}
 

@@ -11,13 +11,13 @@ use Rattle.definitions.specs.Phases.{rows, busyIn, holds}
 use Rattle.definitions.specs.Sound.{sound}
 use Rattle.definitions.specs.Table.{Table, update}
 use Rattle.definitions.specs.Threads.{sumOf}
+use Rattle.basics.proofs.Quantifiers.{howMany-all}
+use Rattle.basics.proofs.Sums.{sum-same, sum-update, sum-each}
+use Rattle.basics.proofs.Tests.{eq-T, same?}
+use Rattle.basics.proofs.Columns.{update-other}
 use Rattle.progress.proofs.Measure.{alone, holding, part, total}
 use Rattle.progress.proofs.ThreadBytes.{of-thread, threadBytes, threadTable}
-use Rattle.theory.proofs.Quantifiers.{howMany-all}
 use Rattle.theory.proofs.Stages.{held-sound, stage-15}
-use Rattle.theory.proofs.Sums.{sum-same, sum-update, sum-each}
-use Rattle.theory.proofs.Tests.{eq-T, same?}
-use Rattle.theory.proofs.Writes.{update-other}
 use Rattle.turn_limit.specs.TurnLimit.{mostTurns}
 use Rattle.turn_limit.proofs.InOrder.{leaver, InOrder}
 use Rattle.turn_limit.proofs.Stops.{stop, taking-some, stopsOf}

@@ -13,9 +13,9 @@ use Rattle.definitions.specs.Table.{Table, update, applied}
 use Rattle.definitions.specs.Threads.{every, among, implies}
 use Rattle.definitions.specs.declared.Request.{Request}
 use Rattle.dispatching.specs.Ready.{readyBy, ready}
-use Rattle.theory.proofs.Quantifiers.{every-at, implied}
+use Rattle.basics.proofs.Quantifiers.{every-at, implied}
+use Rattle.basics.proofs.Tests.{T-ne}
 use Rattle.theory.proofs.SoundChanges.{Column, put, keep}
-use Rattle.theory.proofs.Tests.{T-ne}
 use Rattle.theory.proofs.Ways.{Accepted, Way, way}
 use Rattle.theory.proofs.Ways.{call-shared, raise-busy, find-open, find-forbidden, back-off, try-again, hold-mutex, give-back, enter-shared, leave-shared, lower-busy, return-shared}
 use Rattle.theory.proofs.Ways.{call-exclusive, take-mutex, set-flag, find-busy, last-flag, next-flag, relents, give-up, enter-exclusive, leave-exclusive}

@@ -15,7 +15,7 @@ use Rattle.dispatching.proofs.TurnKinds.{May, may-e, kind}
 use Rattle.progress.proofs.Lowering.{Judged, lowers, keeps, judged-in}
 use Rattle.progress.proofs.Measure.{measure}
 use Rattle.theory.specs.Tables.{SoundBytes, Keeps}
-use Rattle.theory.proofs.Replies.{leaves-yes}
+use Rattle.basics.proofs.Replies.{leaves-yes}
 use Rattle.theory.proofs.Soundness.{Sound, sound-e, sound-i}
 use Rattle.theory.proofs.SoundSteps.{step-sound}
 use Rattle.theory.proofs.Storages.{own-keeps, accepts-i, table-step, fits-step}

@@ -12,10 +12,11 @@ use Rattle.definitions.specs.Bounds.{lastPhase}
 use Rattle.definitions.specs.Phases.{rows, holds}
 use Rattle.definitions.specs.Table.{Table}
 use Rattle.definitions.specs.Threads.{every, some, sumOf, between}
+use Rattle.basics.proofs.Cases.{or-at, none-of}
+use Rattle.basics.proofs.Quantifiers.{implied, some-i, some-e, none-at, none-i}
+use Rattle.basics.proofs.Tests.{and-l, and-r, and-i, not-i, no-both, decided, cond-yes, cond-no, eq-T, ne-T, T-ne, same?}
 use Rattle.progress.proofs.Measure.{alone, holding, part}
-use Rattle.theory.proofs.Cases.{or-at, none-of, is-holder}
-use Rattle.theory.proofs.Quantifiers.{implied, some-i, some-e, none-at, none-i}
-use Rattle.theory.proofs.Tests.{and-l, and-r, and-i, not-i, no-both, decided, cond-yes, cond-no, eq-T, ne-T, T-ne, same?}
+use Rattle.theory.proofs.PhaseCases.{is-holder}
 
 -- ---- the number when all have stopped
 

@@ -11,13 +11,13 @@ use Rattle.definitions.specs.Phases.{rows, holds}
 use Rattle.definitions.specs.Table.{Table}
 use Rattle.definitions.specs.Threads.{every, among}
 use Rattle.dispatching.specs.Ready.{readyBy, ready}
+use Rattle.basics.proofs.Cases.{or-at, none-of}
+use Rattle.basics.proofs.Columns.{same-column}
+use Rattle.basics.proofs.Quantifiers.{implied}
+use Rattle.basics.proofs.Sums.{sum-but}
+use Rattle.basics.proofs.Tests.{and-l, or-e, eq-T, same?}
 use Rattle.progress.proofs.Measure.{alone, holding, part}
-use Rattle.theory.proofs.Cases.{or-at, none-of}
-use Rattle.theory.proofs.Columns.{same-column}
-use Rattle.theory.proofs.Quantifiers.{implied}
 use Rattle.theory.proofs.Soundness.{Sound}
-use Rattle.theory.proofs.Sums.{sum-but}
-use Rattle.theory.proofs.Tests.{and-l, or-e, eq-T, same?}
 use Rattle.turn_limit.proofs.NextPhases.{next, Next, tried}
 use Rattle.turn_limit.proofs.Stops.{stop, stopped, taking, taking-some, taking-none, stopsOf}
 

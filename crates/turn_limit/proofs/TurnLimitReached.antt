@@ -21,10 +21,10 @@ use Rattle.progress.proofs.CalledTable.{calledTable, called-table, called-sized
 use Rattle.progress.proofs.Measure.{alone, part, total}
 use Rattle.progress.proofs.ThreadBytes.{bytes-table, bytes-sized}
 use Rattle.theory.specs.Tables.{SoundBytes}
+use Rattle.basics.proofs.Tests.{same?}
 use Rattle.theory.proofs.Bytes.{byte-keeps}
 use Rattle.theory.proofs.Soundness.{sound-e}
 use Rattle.theory.proofs.Storages.{table-step}
-use Rattle.theory.proofs.Tests.{same?}
 use Rattle.turn_limit.specs.TurnLimit.{mostTurns, dispatcherIn, WaitsAfter, TurnsReached}
 use Rattle.turn_limit.proofs.InOrder.{InOrder, none-shared, mover-low, in-order-kept}
 use Rattle.turn_limit.proofs.LongestTable.{longestBytes, longestTable, longest-sound, longest-in-order, longest-left}

@@ -14,9 +14,9 @@ use Rattle.definitions.specs.Dispatch.{isWaiting}
 use Rattle.definitions.specs.Phases.{nodeOf}
 use Rattle.definitions.specs.Sound.{sound}
 use Rattle.definitions.specs.Table.{Table}
+use Rattle.basics.proofs.Tests.{decided}
 use Rattle.dispatching.proofs.WaitingMeans.{no-turn-means}
 use Rattle.theory.proofs.Soundness.{All, Sound, sound-e}
-use Rattle.theory.proofs.Tests.{decided}
 use Rattle.turn_limit.specs.AnyOrder.{Dispatcher, afterTurnsBy, WaitsAfterBy}
 use Rattle.turn_limit.specs.TurnLimit.{mostTurns}
 use Rattle.turn_limit.proofs.AllStopped.{none-left}

@@ -12,10 +12,10 @@ use Rattle.definitions.specs.Table.{Storage, tableOf, byteTable}
 use Rattle.definitions.specs.declared.Request.{Request}
 use Rattle.dispatching.proofs.Choice.{turn-may}
 use Rattle.theory.specs.Tables.{SoundBytes, Keeps}
+use Rattle.basics.proofs.Tests.{and-l, and-r, cond-yes, cond-no}
 use Rattle.theory.proofs.Bytes.{byte-keeps}
 use Rattle.theory.proofs.Soundness.{sound-e}
 use Rattle.theory.proofs.Storages.{table-step}
-use Rattle.theory.proofs.Tests.{and-l, and-r, cond-yes, cond-no}
 use Rattle.turn_limit.specs.AnyOrder.{dispatchesAllIn, dispatchesAll, WaitsAfterBy, Rule, NamesTurns, requestBy, turnBy}
 use Rattle.turn_limit.specs.TurnLimit.{mostTurns}
 use Rattle.turn_limit.proofs.OneRequest.{request-lowers, Passes, bytes-pass, step-passes, made-by}

@@ -11,13 +11,13 @@ use Rattle.definitions.specs.Phases.{rows, holds}
 use Rattle.definitions.specs.Sound.{anyHolder}
 use Rattle.definitions.specs.Table.{Table, update}
 use Rattle.definitions.specs.Threads.{sumOf}
+use Rattle.basics.proofs.FlagCounts.{flagsSet}
+use Rattle.basics.proofs.Quantifiers.{howMany-most}
+use Rattle.basics.proofs.Sums.{sum-update, sum-each, sum-zero, sum-within}
+use Rattle.basics.proofs.Tests.{decided, not-i, same?}
+use Rattle.basics.proofs.Columns.{update-same, update-other}
 use Rattle.progress.proofs.Measure.{alone, part, total, measure, some-set, all-set}
-use Rattle.theory.proofs.FlagCounts.{flagsSet}
-use Rattle.theory.proofs.Quantifiers.{howMany-most}
 use Rattle.theory.proofs.Soundness.{Sound, some-in, none-in}
-use Rattle.theory.proofs.Sums.{sum-update, sum-each, sum-zero, sum-within}
-use Rattle.theory.proofs.Tests.{decided, not-i, same?}
-use Rattle.theory.proofs.Writes.{update-same, update-other}
 use Rattle.turn_limit.specs.TurnLimit.{mostTurns}
 use Rattle.turn_limit.proofs.Stops.{stop, stopped, taking, taking-or-none, stopsOf, outside, Held, held, at-mutex}
 

@@ -20,13 +20,13 @@ use Rattle.moving.specs.declared.Made.{Made}
 use Rattle.act_forms.specs.Readings.{formFor}
 use Rattle.act_forms.specs.declared.Form.{Form}
 use Rattle.act_forms.specs.declared.Form.the-variants as form
-use Rattle.theory.specs.Outputs.{RoomAt, PutAt}
+use Rattle.basics.specs.Outputs.{RoomAt, PutAt}
 use Rattle.theory.specs.Tables.{SoundBytes}
 use Rattle.turns.specs.Steps.{pairBytes, added, PassedOn, StoppedBy, Stepped}
 use Rattle.turns.specs.declared.Step.{Step}
+use Rattle.basics.proofs.Outputs.{none}
 use Rattle.theory.proofs.Bytes.{sized-e}
 use Rattle.theory.proofs.LineTurns.{request-turn}
-use Rattle.theory.proofs.Outputs.{none}
 use Rattle.theory.proofs.Storages.{accepts-e}
 use Rattle.theory.proofs.Ways.{accepted-e}
 

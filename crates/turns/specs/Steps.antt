@@ -7,7 +7,7 @@ use Rattle.definitions.specs.Answers.{Seen, shown, quiet, numberOf}
 use Rattle.definitions.specs.Moves.{moveTable}
 use Rattle.definitions.specs.Run.{Turn, stops, passes, makes}
 use Rattle.definitions.specs.Table.{tableOf}
-use Rattle.theory.specs.Outputs.{PutAt}
+use Rattle.basics.specs.Outputs.{PutAt}
 use Rattle.theory.specs.Tables.{forbiddenCount}
 use Rattle.turns.specs.declared.Step.{Step}
 use Rattle.turns.specs.declared.Step.the-variants.{Stopped, Passed}

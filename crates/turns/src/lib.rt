@@ -1,5 +1,6 @@
 // A line's turn in a run: its form is read, its move made, and the event that this shows is added to the history, byte pairs, thread then event.
 use act_forms::Form;
+use codes::code_of;
 use definitions::Outcome;
 use definitions::Refusal;
 use definitions::Request;
@@ -11,7 +12,7 @@ ghost use Rattle.definitions.specs.Forms.{formOf};
 ghost use Rattle.definitions.specs.Moves.{moveReply};
 ghost use Rattle.definitions.specs.Run.{turnFor, turnOf};
 ghost use Rattle.apply.specs.MoveMade.{TestedTable};
-ghost use Rattle.theory.specs.Outputs.{RoomAt, PutAt};
+ghost use Rattle.basics.specs.Outputs.{RoomAt, PutAt};
 ghost use Rattle.turns.specs.Steps.{added, Stepped};
 
 // What a line did to the run.
@@ -60,7 +61,7 @@ fn make(table: &mut [u8], forbidden: usize, request: Request, history: &mut [u8]
             at,
         },
         Outcome::Shown(event) => {
-            let code = event.code();
+            let code = code_of(event);
             let at = add_pair(history, at, request.thread as u8, code);
             Step::Passed {
                 moves: 1,

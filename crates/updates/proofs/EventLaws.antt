@@ -18,13 +18,13 @@ use Rattle.plain_lock.specs.Counts.{total, totalAt, standingOf, Counted}
 use Rattle.plain_lock.specs.declared.Standing.{Standing}
 use Rattle.plain_lock.specs.declared.Verdict.{Verdict}
 use Rattle.plain_lock.specs.declared.Verdict.the-variants as verdict
+use Rattle.basics.proofs.Replies.{peel, behind, all-passed}
+use Rattle.basics.proofs.TestLists.{other-answer}
+use Rattle.basics.proofs.Tests.{and-r, below?}
+use Rattle.basics.proofs.Columns.{update-other}
 use Rattle.plain_lock.proofs.PlainLaws.{placesIn-set}
 use Rattle.plain_lock.proofs.StandingLaws.{few-inside, is-counted, same-standing}
 use Rattle.plain_lock.proofs.VerdictLaws.{VerdictOf, Fit, bad-verdict, fit-verdict}
-use Rattle.theory.proofs.Replies.{peel, behind, all-passed}
-use Rattle.theory.proofs.TestLists.{other-answer}
-use Rattle.theory.proofs.Tests.{and-r, below?}
-use Rattle.theory.proofs.Writes.{update-other}
 use Rattle.updates.specs.Updates.{Tested, changed, kept, Updates}
 use Rattle.consistency.proofs.RecordLaws.{round-e, Consistent, consistent-e, same-record, entries-are}
 

@@ -12,9 +12,9 @@ use Rattle.definitions.specs.Table.{countFits}
 use Rattle.definitions.specs.Watch.{started, startReply, startRecord, recordTests, eventReply, questionReply}
 use Rattle.definitions.specs.declared.Refusal.{Refusal}
 use Rattle.definitions.specs.declared.Watcher.{Watcher}
-use Rattle.theory.proofs.Replies.{passed, failed, all-passed, in-front}
-use Rattle.theory.proofs.TestLists.{answered-e, other-answer}
-use Rattle.theory.proofs.Tests.{true-T, false-T}
+use Rattle.basics.proofs.Replies.{passed, failed, all-passed, in-front}
+use Rattle.basics.proofs.TestLists.{answered-e, other-answer}
+use Rattle.basics.proofs.Tests.{true-T, false-T}
 use Rattle.updates.specs.Updates.{Tested, kept, Updates}
 use Rattle.updates.proofs.EventLaws.{refuses}
 

@@ -1,5 +1,6 @@
 // The watcher of 02 §2, by value: a record comes in as a value, and what an event changes of it goes out as one. A record is
 // tested (crate consistency), and then the event is judged (crate updates) or the question answered.
+use codes::count_fits;
 use consistency::Totals;
 use consistency::test_record;
 use definitions::Inside;
@@ -7,7 +8,6 @@ use definitions::MOST_THREADS;
 use definitions::Refusal;
 use definitions::Watched;
 use definitions::Watcher;
-use definitions::count_fits;
 use updates::Update;
 use updates::judged;
 use updates::turned_down;

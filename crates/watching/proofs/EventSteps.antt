@@ -14,9 +14,9 @@ use Rattle.definitions.specs.Table.{countFits}
 use Rattle.definitions.specs.Watch.{recordOf, consistent, recordTests, eventReply, eventRecord, watchReplies, watchRecord}
 use Rattle.definitions.specs.declared.Watcher.{Watcher}
 use Rattle.plain_lock.specs.Permitted.{pairFits, permittedFrom}
+use Rattle.basics.proofs.Replies.{pass, no-test, accepted-is, all-passed, behind, leaves-yes, leaves-no}
+use Rattle.basics.proofs.Tests.{and-l, and-i, decided, T-true}
 use Rattle.plain_lock.proofs.PlainLaws.{permitted-append, places-behind}
-use Rattle.theory.proofs.Replies.{pass, no-test, accepted-is, all-passed, behind, leaves-yes, leaves-no}
-use Rattle.theory.proofs.Tests.{and-l, and-i, decided, T-true}
 use Rattle.watching.specs.Verdicts.{verdictOn, keptWith, verdictsOn, acceptedOf}
 use Rattle.watching.proofs.ShownPlaces.{Shown, shown-start, shown-after, record-holds, record-consistent}
 

@@ -24,12 +24,12 @@ use Rattle.orders.specs.Histories.{historyBytes, AllBytes}
 use Rattle.orders.specs.Rounds.{placeOf, placesOf}
 use Rattle.watching.specs.Verdicts.{verdictOn, verdictsOn, acceptedOf, someInside}
 use Rattle.plain_lock.specs.Permitted.{permittedFrom}
+use Rattle.basics.proofs.Quantifiers.{some-howMany}
 use Rattle.plain_lock.proofs.PlainLaws.{permitted-is}
 use Rattle.theory.proofs.Chains.{history-fresh, after-fresh}
 use Rattle.orders.proofs.EveryOrder.{safe}
 use Rattle.orders.proofs.HistoryBytes.{all-bytes}
 use Rattle.orders.proofs.Safety.{shown-places}
-use Rattle.theory.proofs.Quantifiers.{some-howMany}
 use Rattle.theory.proofs.Stages.{fresh-fits}
 use Rattle.consistency.proofs.RecordLaws.{consistent-e, is-record}
 use Rattle.watching.proofs.EventSteps.{shown, all-permitted, all-answers, all-leave, one-permitted, whole-accepted, accepted-whole}

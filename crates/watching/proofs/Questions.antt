@@ -14,11 +14,11 @@ use Rattle.definitions.specs.Threads.{some, among}
 use Rattle.definitions.specs.Watch.{consistent, recordTests, questionReply}
 use Rattle.definitions.specs.declared.Watcher.{Watcher}
 use Rattle.plain_lock.specs.Permitted.{permittedFrom}
-use Rattle.theory.proofs.Cases.{or-at, none-of}
-use Rattle.theory.proofs.Quantifiers.{some-i, some-e, some-howMany}
-use Rattle.theory.proofs.Replies.{peel, all-passed}
-use Rattle.theory.proofs.TestLists.{answered-e}
-use Rattle.theory.proofs.Tests.{or-e, or-l, or-r, eq-T, same-test}
+use Rattle.basics.proofs.Cases.{or-at, none-of}
+use Rattle.basics.proofs.Quantifiers.{some-i, some-e, some-howMany}
+use Rattle.basics.proofs.Replies.{peel, all-passed}
+use Rattle.basics.proofs.TestLists.{answered-e}
+use Rattle.basics.proofs.Tests.{or-e, or-l, or-r, eq-T, same-test}
 use Rattle.consistency.proofs.RecordLaws.{consistent-e}
 use Rattle.watching.specs.Verdicts.{someInside}
 use Rattle.watching.proofs.EventSteps.{recordAfter, tested}

@@ -13,13 +13,12 @@ use Rattle.definitions.specs.Threads.{some, among, between}
 use Rattle.definitions.specs.Watch.{roundPlaces}
 use Rattle.orders.specs.Histories.{pairOf}
 use Rattle.plain_lock.specs.Permitted.{pairFits, permittedFrom}
+use Rattle.basics.proofs.Columns.{same-column, update-kept, update-twice, update-same, update-other}
+use Rattle.basics.proofs.Cases.{or-at, none-of}
+use Rattle.basics.proofs.Quantifiers.{none-i, howMany-pos, at-most-one}
+use Rattle.basics.proofs.Tests.{and-i, or-l, or-r, no-both, eq-T, ne-T, not-i, cond-yes, cond-no, cond-either, below?}
 use Rattle.plain_lock.proofs.PlainLaws.{permitted-append, places-append}
-use Rattle.theory.proofs.Columns.{same-column, update-kept, update-twice}
 use Rattle.orders.proofs.PairTests.{permits-i}
-use Rattle.theory.proofs.Cases.{or-at, none-of}
-use Rattle.theory.proofs.Quantifiers.{none-i, howMany-pos, at-most-one}
-use Rattle.theory.proofs.Tests.{and-i, or-l, or-r, no-both, eq-T, ne-T, not-i, cond-yes, cond-no, cond-either, below?}
-use Rattle.theory.proofs.Writes.{update-same, update-other}
 use Rattle.watching.proofs.ShownPlaces.{Shown}
 
 -- ---- from places to places

@@ -15,12 +15,12 @@ use Rattle.definitions.specs.Threads.{every, some, among, between, implies}
 use Rattle.definitions.specs.Watch.{recordOf, started, roundPlaces, consistent}
 use Rattle.definitions.specs.declared.Watcher.{Watcher}
 use Rattle.plain_lock.specs.Permitted.{pairFits, permittedFrom}
+use Rattle.basics.proofs.Lists.{length-listOf, zeros}
+use Rattle.basics.proofs.Quantifiers.{every-at, howMany-none, none-howMany}
+use Rattle.basics.proofs.Tests.{and-l, and-r, implies-e, cond-yes, cond-no, cond-either, not-i, same?, below?}
+use Rattle.basics.proofs.Columns.{update-other}
 use Rattle.plain_lock.proofs.PlainLaws.{comes-by, count-advanced}
 use Rattle.orders.proofs.PairTests.{Permits, permits-e}
-use Rattle.theory.proofs.Lists.{length-listOf, zeros}
-use Rattle.theory.proofs.Quantifiers.{every-at, howMany-none, none-howMany}
-use Rattle.theory.proofs.Tests.{and-l, and-r, implies-e, cond-yes, cond-no, cond-either, not-i, same?, below?}
-use Rattle.theory.proofs.Writes.{update-other}
 use Rattle.updates.proofs.EventLaws.{beyond}
 use Rattle.consistency.proofs.RecordLaws.{InRounds, Consistent, consistent-i, same-record, entries-are, entry-of}
 

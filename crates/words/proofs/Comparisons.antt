@@ -7,8 +7,8 @@ use mathlib.Core.Path.{_≡_, sym, ap, _∙_}
 use lib.ListN.{length, getD, take, drop, take-append-drop}
 use lib.Seq.{ext-getD}
 use Rattle.definitions.specs.Texts.{same, starts}
-use Rattle.theory.proofs.Tests.{T-true, T-false, not-i}
-use Rattle.theory.proofs.Texts.{same-refl, same-eq, starts-length}
+use Rattle.basics.proofs.Tests.{T-true, T-false, not-i}
+use Rattle.basics.proofs.Texts.{same-refl, same-eq, starts-length}
 
 pub same-ne : (xs ys : List ℕ) → (xs ≡ ys → ⊥) → same xs ys ≡ false
 same-ne xs ys h = T-false (same xs ys) (not-i (same xs ys) (λ t. h (same-eq xs ys (T-true (same xs ys) t))))

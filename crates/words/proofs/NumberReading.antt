@@ -13,8 +13,8 @@ use lib.Seq.{take-suc, getD-take}
 use Rattle.definitions.specs.Texts.{same, isDigit, digitsOf, numberFits, valueFrom, numberRead}
 use Rattle.words.specs.Numbers.{numberFor, closedFor}
 use Rattle.words.specs.declared.MaybeNumber.the-variants.{Known, Unknown}
-use Rattle.theory.proofs.Digits.{digits-within, take-digits, digit-more, digit-low, digit-high, value-behind, value-below}
-use Rattle.theory.proofs.Lists.{from-on}
+use Rattle.basics.proofs.Digits.{digits-within, take-digits, digit-more, digit-low, digit-high, value-behind, value-below}
+use Rattle.basics.proofs.Lists.{from-on}
 
 -- ---- digit by digit
 

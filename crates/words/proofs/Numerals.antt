@@ -13,9 +13,9 @@ use lib.ListN.{length, getD, drop, List·getD-append, take-append-drop}
 use lib.Seq.{drop-append-seam, take-length}
 use Rattle.definitions.specs.Texts.{isDigit, digitsOf, numberFits, valueFrom, decimal, numberRead}
 use Rattle.definitions.specs.Threads.{between}
-use Rattle.theory.proofs.Digits.{digits-yes, take-digits, digit-here, digit-low, digit-high, digit-is, value-below, value-printed}
-use Rattle.theory.proofs.Numbers.{decimal-small, decimal-more, by-tens, decimal-some, decimal-short}
-use Rattle.theory.proofs.Tests.{and-both, below?}
+use Rattle.basics.proofs.Digits.{digits-yes, take-digits, digit-here, digit-low, digit-high, digit-is, value-below, value-printed}
+use Rattle.basics.proofs.Numbers.{decimal-small, decimal-more, by-tens, decimal-some, decimal-short}
+use Rattle.basics.proofs.Tests.{and-both, below?}
 
 -- ---- the printed digits
 

@@ -15,12 +15,12 @@ use Rattle.definitions.specs.Table.{countFits}
 use Rattle.definitions.specs.declared.Answer.{Answer}
 use Rattle.definitions.specs.declared.Answer.the-variants.{Done, Refused}
 use Rattle.definitions.specs.declared.Refusal.{Refusal}
-use Rattle.theory.specs.Outputs.{PutAt, Delivered}
-use Rattle.theory.specs.ShortestLines.{mostScriptMoves}
-use Rattle.theory.proofs.Outputs.{turned-down, no-room, whole, delivered-as, filled-up}
-use Rattle.theory.proofs.Replies.{passed, failed, pass, no-test, behind, in-front}
-use Rattle.theory.proofs.TestLists.{answered-e, passes-join}
-use Rattle.theory.proofs.Tests.{true-T, false-T, ne-T, eq-T}
+use Rattle.basics.specs.Outputs.{PutAt, Delivered}
+use Rattle.basics.specs.ShortestLines.{mostScriptMoves}
+use Rattle.basics.proofs.Outputs.{turned-down, no-room, whole, delivered-as, filled-up}
+use Rattle.basics.proofs.Replies.{passed, failed, pass, no-test, behind, in-front}
+use Rattle.basics.proofs.TestLists.{answered-e, passes-join}
+use Rattle.basics.proofs.Tests.{true-T, false-T, ne-T, eq-T}
 use Rattle.theory.proofs.Triples.{triples-count}
 use Rattle.script_text.proofs.ScriptParts.{script-long}
 

@@ -1,15 +1,15 @@
 // Scripts written out: N and a list of moves, byte triples of thread, move and target, become the lines that a run reads.
+use codes::count_fits;
 use definitions::Answer;
 use definitions::MOST_MOVES;
 use definitions::MOST_SCRIPT;
 use definitions::Refusal;
-use definitions::count_fits;
 use script_text::put_script;
 use script_text::script_length;
 use triple_tests::test_triples;
 ghost use Rattle.definitions.specs.Answers.{answerReply};
 ghost use Rattle.definitions.specs.Scripts.{writeEntry};
-ghost use Rattle.theory.specs.Outputs.{Delivered};
+ghost use Rattle.basics.specs.Outputs.{Delivered};
 
 // The entry. Everything is tested and measured before a byte is written.
 pub fn write(threads: u16, triples: &[u8], out: &mut [u8]) -> Answer

@@ -8,8 +8,8 @@ use lib.ListN.{length, take, drop}
 use Rattle.definitions.specs.Codes.{setMove, clearMove}
 use Rattle.definitions.specs.Forms.{targetForm, aimedForm}
 use Rattle.definitions.specs.Texts.{bytes, starts, numberRead}
-use Rattle.theory.proofs.Lists.{from-on}
-use Rattle.theory.proofs.Texts.{starts-length}
+use Rattle.basics.proofs.Lists.{from-on}
+use Rattle.basics.proofs.Texts.{starts-length}
 use Rattle.act_forms.proofs.read_aimed.Statement.{statement}
 use Rattle.act_forms.proofs.read_aimed.Tie as tie
 

@@ -3,8 +3,8 @@ use mathlib.Core.Path.{sym}
 use borrow.Author.Needs.{needs}
 use Rattle.definitions.specs.Forms.{actText}
 use Rattle.definitions.specs.Texts.{bytes}
-use Rattle.theory.proofs.Parts.{room-as, put-as}
-use Rattle.theory.proofs.Outputs.{none}
+use Rattle.basics.proofs.Parts.{room-as, put-as}
+use Rattle.basics.proofs.Outputs.{none}
 use Rattle.acts.proofs.ActTexts.{no-act, act-text}
 use Rattle.acts.proofs.put_act.Statement.{statement}
 use Rattle.acts.proofs.put_act.Tie as tie

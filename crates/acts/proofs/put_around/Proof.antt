@@ -3,7 +3,7 @@ use Prim.Native.Nat.{ℕ}
 use mathlib.Core.List.{List, _++_}
 use borrow.Author.Needs.{needs}
 use Rattle.definitions.specs.Texts.{decimal}
-use Rattle.theory.proofs.Parts.{Partly, no-part, room-part, part-put, last-part}
+use Rattle.basics.proofs.Parts.{Partly, no-part, room-part, part-put, last-part}
 use Rattle.acts.proofs.put_around.Statement.{statement}
 use Rattle.acts.proofs.put_around.Tie as tie
 

@@ -26,8 +26,8 @@ enum-known-answer-2 c = search needs
 mul-result-2 : tie.Need-mul-result-2
 mul-result-2 c = omega (arith, small _ _ (c .before .answer2 .given .1) (c .before .before .before .pre))
 
-number-requires : tie.Need-number-requires
-number-requires c κs = search needs
+number-of-requires : tie.Need-number-of-requires
+number-of-requires c κs = search needs
 
 cast-result : tie.Need-cast-result
 cast-result c = search needs
@@ -48,7 +48,7 @@ returns-2 : tie.Need-returns-2
 unfolding encoded
 returns-2 c =
     let g = c .before .before .answer2 .given in
-    ap (λ (k : ℕ). 256 * g .0 .1 .0 + k) (c .number .ensures) ∙ sym (ap (λ (a : Answer). countNumber (answerReply a)) (g .1))
+    ap (λ (k : ℕ). 256 * g .0 .1 .0 + k) (c .number-of .ensures) ∙ sym (ap (λ (a : Answer). countNumber (answerReply a)) (g .1))
 
 pub answer-number-spec : {M : Type 1} → statement M
 answer-number-spec =
@@ -58,7 +58,7 @@ answer-number-spec =
     mul-result
     enum-known-answer-2
     mul-result-2
-    number-requires
+    number-of-requires
     cast-result
     add-result
     returns

@@ -17,8 +17,8 @@ enum-told-2 c = search needs
 enum-known-answer : tie.Need-enum-known-answer
 enum-known-answer c = search needs
 
-number-requires : tie.Need-number-requires
-number-requires c κs = search needs
+number-of-requires : tie.Need-number-of-requires
+number-of-requires c κs = search needs
 
 cast-result : tie.Need-cast-result
 cast-result c = search needs
@@ -33,8 +33,8 @@ returns-2 c = search needs
 
 returns-3 : tie.Need-returns-3
 unfolding encoded
-returns-3 c = c .number .ensures ∙ (sym (zero-add _) ∙ sym (ap (λ (a : Inside). insideNumber (insideReply a)) (c .before .before .answer .given .1)))
+returns-3 c = c .number-of .ensures ∙ (sym (zero-add _) ∙ sym (ap (λ (a : Inside). insideNumber (insideReply a)) (c .before .before .answer .given .1)))
 
 pub inside-number-spec : {M : Type 1} → statement M
 inside-number-spec =
-    tie.close (tie.spec enum-told enum-told-2 enum-known-answer number-requires cast-result returns returns-2 returns-3)
+    tie.close (tie.spec enum-told enum-told-2 enum-known-answer number-of-requires cast-result returns returns-2 returns-3)

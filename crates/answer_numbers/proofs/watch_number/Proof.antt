@@ -14,8 +14,8 @@ enum-told c = search needs
 enum-known-answer : tie.Need-enum-known-answer
 enum-known-answer c = search needs
 
-number-requires : tie.Need-number-requires
-number-requires c κs = search needs
+number-of-requires : tie.Need-number-of-requires
+number-of-requires c κs = search needs
 
 cast-result : tie.Need-cast-result
 cast-result c = search needs
@@ -26,7 +26,7 @@ returns c = search needs
 
 returns-2 : tie.Need-returns-2
 unfolding encoded
-returns-2 c = c .number .ensures ∙ (sym (zero-add _) ∙ sym (ap (λ (a : Watched). watchNumber (watchedReply a)) (c .before .before .answer .given .1)))
+returns-2 c = c .number-of .ensures ∙ (sym (zero-add _) ∙ sym (ap (λ (a : Watched). watchNumber (watchedReply a)) (c .before .before .answer .given .1)))
 
 pub watch-number-spec : {M : Type 1} → statement M
-watch-number-spec = tie.close (tie.spec enum-told enum-known-answer number-requires cast-result returns returns-2)
+watch-number-spec = tie.close (tie.spec enum-told enum-known-answer number-of-requires cast-result returns returns-2)

@@ -11,7 +11,7 @@ use Rattle.definitions.specs.PlainLock.{placesIn}
 use Rattle.definitions.specs.Threads.{every, howMany}
 use Rattle.consistency.specs.Pass.{Room, withPlace, foundIn}
 use Rattle.consistency.specs.declared.Found.{Found}
-use Rattle.theory.proofs.Quantifiers.{howMany-most}
+use Rattle.basics.proofs.Quantifiers.{howMany-most}
 use Rattle.consistency.proofs.find.Statement.{statement}
 use Rattle.consistency.proofs.find.Tie as tie
 

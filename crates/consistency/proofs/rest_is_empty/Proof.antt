@@ -10,8 +10,8 @@ use lib.Dec.{leb, eqb, leb→le, le→leb}
 use Rattle.definitions.specs.Bounds.{mostThreads}
 use Rattle.definitions.specs.PlainLock.{placesIn}
 use Rattle.definitions.specs.Threads.{every, implies}
-use Rattle.theory.proofs.Quantifiers.{every-i}
-use Rattle.theory.proofs.Tests.{T-true, implies-i, cond-yes}
+use Rattle.basics.proofs.Quantifiers.{every-i}
+use Rattle.basics.proofs.Tests.{T-true, implies-i, cond-yes}
 use Rattle.consistency.specs.Pass.{emptyUpTo}
 use Rattle.consistency.proofs.rest_is_empty.Statement.{statement}
 use Rattle.consistency.proofs.rest_is_empty.Tie as tie

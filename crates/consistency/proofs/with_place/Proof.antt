@@ -2,7 +2,7 @@
 use native.Mathlib.Omega.{arith}
 use borrow.Author.Needs.{needs}
 use lib.Dec.{eqb}
-use Rattle.theory.proofs.Casts.{cast-is, cast-most}
+use Rattle.basics.proofs.Casts.{cast-is, cast-most}
 use Rattle.consistency.proofs.with_place.Statement.{statement}
 use Rattle.consistency.proofs.with_place.Tie as tie
 

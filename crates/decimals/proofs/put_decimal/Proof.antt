@@ -4,7 +4,7 @@ use native.Mathlib.Omega.{arith}
 use mathlib.Core.Path.{_≡_, refl, ap, _∙_}
 use lib.ListN.{length}
 use Rattle.definitions.specs.Texts.{decimal}
-use Rattle.theory.proofs.Numbers.{decimal-small, decimal-some}
+use Rattle.basics.proofs.Numbers.{decimal-small, decimal-some}
 use Rattle.decimals.proofs.Decimals.{Lower, lower-none, lower-room, lower-more, lower-all}
 use Rattle.decimals.proofs.put_decimal.Statement.{statement}
 use Rattle.decimals.proofs.put_decimal.Tie as tie

@@ -11,7 +11,7 @@ returns c = omega (arith, steps-length (c .before .before .ending .given .1))
 returns-2 : tie.Need-returns-2
 returns-2 c =
     let n = c .before .before in
-    omega (arith, refused-length (n .before .before .ending2 .given .1) (n .number .ensures))
+    omega (arith, refused-length (n .before .before .ending2 .given .1) (n .number-of .ensures))
 
 pub ending-length-spec : {M : Type 1} → statement M
 ending-length-spec =

@@ -1,7 +1,7 @@
 -- `endings::put_ending` meets its contract, by the case of the ending.
 use mathlib.Core.Path.{sym}
 use borrow.Author.Needs.{needs}
-use Rattle.theory.proofs.Parts.{room-as, put-as}
+use Rattle.basics.proofs.Parts.{room-as, put-as}
 use Rattle.endings.proofs.Endings.{steps-line, refused-line}
 use Rattle.endings.proofs.put_ending.Statement.{statement}
 use Rattle.endings.proofs.put_ending.Tie as tie
@@ -12,7 +12,7 @@ put-steps-requires c κs = let e = c .before .before in room-as (steps-line (e .
 put-refused-requires : tie.Need-put-refused-requires
 put-refused-requires c κs =
     let e = c .before .before .before in
-    room-as (refused-line (e .ending2 .given .1) (c .before .number .ensures)) (e .before .before .before .pre)
+    room-as (refused-line (e .ending2 .given .1) (c .before .number-of .ensures)) (e .before .before .before .pre)
 
 returns : tie.Need-returns
 returns c =
@@ -22,7 +22,7 @@ returns c =
 returns-2 : tie.Need-returns-2
 returns-2 c =
     let n = c .before .before .before .before in
-    put-as (sym (refused-line (n .before .before .ending2 .given .1) (n .number .ensures))) (c .before .before .put-refused .ensures)
+    put-as (sym (refused-line (n .before .before .ending2 .given .1) (n .number-of .ensures))) (c .before .before .put-refused .ensures)
 
 pub put-ending-spec : {M : Type 1} → statement M
 put-ending-spec =

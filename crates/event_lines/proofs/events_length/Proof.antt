@@ -1,7 +1,7 @@
 -- `event_lines::events_length` meets its contract. The loop's invariant: the lines of the pairs passed are measured. The measure is how many pairs are left.
 use Prim.Native.Nat.{_-_}
 use native.Mathlib.Omega.{arith}
-use Rattle.theory.proofs.Parts.{PartsMeasured, measured-none, measured-more, measured-most, measured-all}
+use Rattle.basics.proofs.Parts.{PartsMeasured, measured-none, measured-more, measured-most, measured-all}
 use Rattle.event_lines.proofs.EventLines.{eventParts}
 use Rattle.event_lines.proofs.events_length.Statement.{statement}
 use Rattle.event_lines.proofs.events_length.Tie as tie

@@ -5,7 +5,7 @@ use borrow.Author.Needs.{needs}
 use Rattle.definitions.specs.Answers.{shown}
 use Rattle.definitions.specs.Run.{eventName, eventLine}
 use Rattle.definitions.specs.Texts.{bytes, decimal}
-use Rattle.theory.proofs.Parts.{Partly, no-part, room-part, part-put, last-part}
+use Rattle.basics.proofs.Parts.{Partly, no-part, room-part, part-put, last-part}
 use Rattle.event_lines.proofs.put_event.Statement.{statement}
 use Rattle.event_lines.proofs.put_event.Tie as tie
 

@@ -1,7 +1,7 @@
 -- `event_lines::put_events` meets its contract. The loop's invariant: the lines of the pairs passed are put. The measure is how many pairs are left.
 use Prim.Native.Nat.{_-_}
 use native.Mathlib.Omega.{arith}
-use Rattle.theory.proofs.Parts.{PartsPut, parts-none, parts-room, parts-more, parts-all}
+use Rattle.basics.proofs.Parts.{PartsPut, parts-none, parts-room, parts-more, parts-all}
 use Rattle.event_lines.proofs.EventLines.{eventParts}
 use Rattle.event_lines.proofs.put_events.Statement.{statement}
 use Rattle.event_lines.proofs.put_events.Tie as tie

@@ -3,8 +3,8 @@ use mathlib.Core.Path.{sym, ap}
 use borrow.Author.Needs.{needs}
 use Rattle.definitions.specs.Run.{eventName}
 use Rattle.definitions.specs.Texts.{bytes}
-use Rattle.theory.proofs.Parts.{room-as, put-as}
-use Rattle.theory.proofs.Outputs.{none}
+use Rattle.basics.proofs.Parts.{room-as, put-as}
+use Rattle.basics.proofs.Outputs.{none}
 use Rattle.event_names.proofs.Names.{no-name}
 use Rattle.event_names.proofs.put_name.Statement.{statement}
 use Rattle.event_names.proofs.put_name.Tie as tie

@@ -10,7 +10,7 @@ use Rattle.definitions.specs.declared.Event.{Event}
 use Rattle.definitions.specs.declared.Event.the-variants.{EnterSharedCall, EnterSharedReturn, LeaveSharedCall, LeaveSharedReturn}
 use Rattle.definitions.specs.declared.Event.the-variants.{EnterExclusiveCall, EnterExclusiveReturn, LeaveExclusiveCall, LeaveExclusiveReturn}
 use Rattle.definitions.specs.declared.Request.{Request}
-use Rattle.theory.specs.Outputs.{RoomAt, PutAt}
+use Rattle.basics.specs.Outputs.{RoomAt, PutAt}
 use Rattle.event_plans.proofs.EventCodes.{known-code, no-plan}
 use Rattle.repeats.proofs.RequestBytes.{put-none}
 use Rattle.event_plans.proofs.write_pair.Statement.{statement}
@@ -29,7 +29,7 @@ text c code = let a = entry c .args in bytesOf (planOf (a .threads) (record { th
 -- in the arm of event f the code is f's
 code-is : (c : tie.After-known-told) (f : Event) → event c ≡ f → codeOf f ≡ entry c .args .code
 code-is c f q =
-    ap codeOf (sym q) ∙ known-code (entry c .args .code) (event c) (sym (c .before .found .given .1) ∙ c .before .before .before .from-code .ensures)
+    ap codeOf (sym q) ∙ known-code (entry c .args .code) (event c) (sym (c .before .found .given .1) ∙ c .before .before .before .event-of .ensures)
 
 room : (c : tie.After-known-told) (f : Event) → event c ≡ f → RoomAt (entry c .args .out .now) (entry c .args .at) (text c (codeOf f))
 room c f q = subst (λ (k : ℕ). RoomAt (entry c .args .out .now) (entry c .args .at) (text c k)) (sym (code-is c f q)) (entry c .pre)
@@ -44,7 +44,7 @@ nothing out at rs e = rw e (put-none out at)
 returns : tie.Need-returns
 returns c =
     let a = c .before .before .before .before .args in
-    nothing (a .out .now) (a .at) _ (no-plan (a .threads) (a .thread) (a .code) (sym (c .enum-told .given .1) ∙ c .before .before .from-code .ensures))
+    nothing (a .out .now) (a .at) _ (no-plan (a .threads) (a .thread) (a .code) (sym (c .enum-told .given .1) ∙ c .before .before .event-of .ensures))
 
 put-triple-requires : tie.Need-put-triple-requires
 unfolding planOf gather

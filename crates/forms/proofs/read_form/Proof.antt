@@ -7,8 +7,8 @@ use borrow.Author.Needs.{needs}
 use lib.ListN.{length}
 use Rattle.definitions.specs.Forms.{noteForm, threadsForm, moveForm, formOf}
 use Rattle.definitions.specs.Texts.{bytes, starts, numberRead}
-use Rattle.theory.proofs.Lists.{from-on}
-use Rattle.theory.proofs.Texts.{starts-length}
+use Rattle.basics.proofs.Lists.{from-on}
+use Rattle.basics.proofs.Texts.{starts-length}
 use Rattle.forms.proofs.read_form.Statement.{statement}
 use Rattle.forms.proofs.read_form.Tie as tie
 

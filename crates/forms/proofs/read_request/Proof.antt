@@ -2,7 +2,7 @@
 use mathlib.Core.Path.{sym, ap, _∙_}
 use borrow.Author.Needs.{needs}
 use Rattle.definitions.specs.Forms.{actForm}
-use Rattle.theory.proofs.Lists.{from-on}
+use Rattle.basics.proofs.Lists.{from-on}
 use Rattle.words.proofs.NumberReading.{Found, found, missing}
 use Rattle.forms.proofs.read_request.Statement.{statement}
 use Rattle.forms.proofs.read_request.Tie as tie

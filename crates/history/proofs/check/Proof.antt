@@ -5,8 +5,8 @@ use borrow.Author.Needs.{needs}
 use borrow.Author.Tests.{not-true, not-false}
 use Rattle.definitions.specs.PlainLock.{checkReply}
 use Rattle.definitions.specs.Table.{countFits}
+use Rattle.basics.proofs.Tests.{true-T}
 use Rattle.theory.proofs.Stages.{count-most}
-use Rattle.theory.proofs.Tests.{true-T}
 use Rattle.history.proofs.CheckLaws.{bad-size, bad-form, good-form}
 use Rattle.history.proofs.check.Statement.{statement}
 use Rattle.history.proofs.check.Tie as tie

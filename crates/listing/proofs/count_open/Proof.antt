@@ -3,7 +3,7 @@ use Prim.Native.Nat.{suc, _-_, _*_, _≤_}
 use native.Mathlib.Omega.{arith}
 use Rattle.definitions.specs.Bounds.{mostThreads, lastMove}
 use Rattle.listing.specs.Pairs.{openTargets, pairsBelow}
-use Rattle.theory.proofs.Parts.{PartsMeasured, measured-none, measured-more, measured-all}
+use Rattle.basics.proofs.Parts.{PartsMeasured, measured-none, measured-more, measured-all}
 use Rattle.listing.proofs.PairLists.{pairs-length, openParts, targets-most}
 use Rattle.listing.proofs.count_open.Statement.{statement}
 use Rattle.listing.proofs.count_open.Tie as tie

@@ -6,8 +6,8 @@ use borrow.Author.Needs.{needs}
 use lib.Dec.{T}
 use Rattle.definitions.specs.Phases.{hasMove}
 use Rattle.phase_moves.specs.MoveBits.{hasBit}
+use Rattle.basics.proofs.Tests.{and-cong}
 use Rattle.phase_moves.proofs.Bits.{bit-is}
-use Rattle.theory.proofs.Tests.{and-cong}
 use Rattle.listing.proofs.is_open.Statement.{statement}
 use Rattle.listing.proofs.is_open.Tie as tie
 

@@ -5,8 +5,8 @@ use mathlib.Core.Path.{ap}
 use borrow.Author.Needs.{needs}
 use Rattle.definitions.specs.Answers.{accepted, counted}
 use Rattle.listing.specs.Pairs.{openPairs}
-use Rattle.theory.proofs.Outputs.{no-room, whole, delivered-as, filled-up}
-use Rattle.theory.proofs.Replies.{no-test}
+use Rattle.basics.proofs.Outputs.{no-room, whole, delivered-as, filled-up}
+use Rattle.basics.proofs.Replies.{no-test}
 use Rattle.listing.proofs.list_open.Statement.{statement}
 use Rattle.listing.proofs.list_open.Tie as tie
 

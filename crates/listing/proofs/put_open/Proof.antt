@@ -4,7 +4,7 @@ use native.Mathlib.Omega.{arith}
 use mathlib.Core.Path.{sym, ap}
 use Rattle.definitions.specs.Bounds.{lastMove}
 use Rattle.listing.specs.Pairs.{pairs, pairsBelow}
-use Rattle.theory.proofs.Parts.{room-as, put-as, PartsPut, parts-none, parts-room, parts-more, parts-all}
+use Rattle.basics.proofs.Parts.{room-as, put-as, PartsPut, parts-none, parts-room, parts-more, parts-all}
 use Rattle.listing.proofs.PairLists.{openParts, targets-most}
 use Rattle.listing.proofs.put_open.Statement.{statement}
 use Rattle.listing.proofs.put_open.Tie as tie

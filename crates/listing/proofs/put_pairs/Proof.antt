@@ -5,8 +5,8 @@ use native.Mathlib.Omega.{arith}
 use mathlib.Core.List.{[], _∷_}
 use lib.ListN.{length, length-set}
 use Rattle.listing.specs.Pairs.{pairs}
-use Rattle.theory.proofs.Outputs.{stored}
-use Rattle.theory.proofs.Parts.{PartsPut, parts-none, parts-room, parts-more, parts-all}
+use Rattle.basics.proofs.Outputs.{stored}
+use Rattle.basics.proofs.Parts.{PartsPut, parts-none, parts-room, parts-more, parts-all}
 use Rattle.listing.proofs.PairLists.{pairParts}
 use Rattle.listing.proofs.put_pairs.Statement.{statement}
 use Rattle.listing.proofs.put_pairs.Tie as tie

@@ -49,8 +49,8 @@ enum-told c = search needs
 enum-known-answer-2 : tie.Need-enum-known-answer-2
 enum-known-answer-2 c = search needs
 
-number-requires : tie.Need-number-requires
-number-requires c κs = search needs
+number-of-requires : tie.Need-number-of-requires
+number-of-requires c κs = search needs
 
 cast-result : tie.Need-cast-result
 cast-result c = search needs
@@ -65,7 +65,7 @@ unfolding encoded
 returns-2 c = sym (ap number (c .enum-told .given .1))
 
 returns-3 : tie.Need-returns-3
-returns-3 c = of-refusal _ _ _ (c .before .before .answer2 .given .1) (c .number .ensures)
+returns-3 c = of-refusal _ _ _ (c .before .before .answer2 .given .1) (c .number-of .ensures)
 
 pub dispatched-number-spec : {M : Type 1} → statement M
 dispatched-number-spec =
@@ -76,7 +76,7 @@ dispatched-number-spec =
     made-number-requires
     enum-told
     enum-known-answer-2
-    number-requires
+    number-of-requires
     cast-result
     returns
     returns-2

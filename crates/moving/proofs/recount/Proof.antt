@@ -6,7 +6,7 @@ use mathlib.Core.Path.{_≡_}
 use borrow.Author.Needs.{needs}
 use lib.Dec.{eqb}
 use mir.Val.{boolByte}
-use Rattle.theory.proofs.Casts.{cast-is, cast-most}
+use Rattle.basics.proofs.Casts.{cast-is, cast-most}
 use Rattle.moving.proofs.recount.Statement.{statement}
 use Rattle.moving.proofs.recount.Tie as tie
 

@@ -10,10 +10,10 @@ use Rattle.definitions.specs.Bounds.{lastPhase}
 use Rattle.definitions.specs.Codes.{Free}
 use Rattle.definitions.specs.Phases.{Row, rows, nodeOf}
 use Rattle.definitions.specs.Threads.{every, among, implies}
-use Rattle.theory.proofs.Cases.{no-row}
-use Rattle.theory.proofs.Matches.{NoneOf, not-among}
-use Rattle.theory.proofs.Quantifiers.{every-at}
-use Rattle.theory.proofs.Tests.{and-l, and-r, and-i, implies-e, below?}
+use Rattle.basics.proofs.Matches.{NoneOf, not-among}
+use Rattle.basics.proofs.Quantifiers.{every-at}
+use Rattle.basics.proofs.Tests.{and-l, and-r, and-i, implies-e, below?}
+use Rattle.theory.proofs.PhaseCases.{no-row}
 use Rattle.nodes.proofs.node_of.Statement.{statement}
 use Rattle.nodes.proofs.node_of.Tie as tie
 

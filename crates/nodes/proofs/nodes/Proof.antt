@@ -3,8 +3,8 @@ use mathlib.Core.Path.{sym, _∙_}
 use borrow.Author.Needs.{needs}
 use Rattle.definitions.specs.Answers.{numberOf}
 use Rattle.definitions.specs.Nodes.{nodesEntry}
+use Rattle.basics.proofs.Outputs.{turned-down}
 use Rattle.table.proofs.TableTests.{refusal-is, sound-is}
-use Rattle.theory.proofs.Outputs.{turned-down}
 use Rattle.nodes.proofs.nodes.Statement.{statement}
 use Rattle.nodes.proofs.nodes.Tie as tie
 

@@ -11,13 +11,13 @@ use Rattle.definitions.specs.Phases.{nodeOf}
 use Rattle.definitions.specs.Table.{tableOf}
 use Rattle.definitions.specs.Threads.{listOf}
 use Rattle.definitions.specs.declared.Task.{Task}
-use Rattle.theory.specs.Outputs.{PutAt, Delivered}
+use Rattle.basics.specs.Outputs.{PutAt, Delivered}
 use Rattle.theory.specs.Tables.{SoundBytes}
+use Rattle.basics.proofs.Lists.{length-listOf}
+use Rattle.basics.proofs.Outputs.{no-room, whole, delivered-as, stored, filled-up}
+use Rattle.basics.proofs.Parts.{listed, put-as, PartsPut, parts-none, parts-room, parts-more, parts-all}
 use Rattle.table.proofs.TableTests.{sound-passes}
 use Rattle.theory.proofs.Bytes.{sized-e}
-use Rattle.theory.proofs.Lists.{length-listOf}
-use Rattle.theory.proofs.Outputs.{no-room, whole, delivered-as, stored, filled-up}
-use Rattle.theory.proofs.Parts.{listed, put-as, PartsPut, parts-none, parts-room, parts-more, parts-all}
 use Rattle.nodes.proofs.put_nodes.Statement.{statement}
 use Rattle.nodes.proofs.put_nodes.Tie as tie
 

@@ -6,7 +6,7 @@ use Rattle.definitions.specs.Bounds.{lastPhase}
 use Rattle.definitions.specs.Phases.{rows}
 use Rattle.definitions.specs.Threads.{listOf, among}
 use Rattle.phase_moves.specs.MoveBits.{bitsBelow, moveBits}
-use Rattle.theory.proofs.Lists.{getD-listOf}
+use Rattle.basics.proofs.Lists.{getD-listOf}
 use Rattle.phase_moves.proofs.moves_in.Statement.{statement}
 use Rattle.phase_moves.proofs.moves_in.Tie as tie
 

@@ -9,8 +9,8 @@ use Rattle.definitions.specs.Codes.{hold}
 use Rattle.definitions.specs.Moves.{takesMutex}
 use Rattle.definitions.specs.Phases.{rows, hasMove}
 use Rattle.definitions.specs.Threads.{every, among, implies}
-use Rattle.theory.proofs.Quantifiers.{every-at}
-use Rattle.theory.proofs.Tests.{implies-e}
+use Rattle.basics.proofs.Quantifiers.{every-at}
+use Rattle.basics.proofs.Tests.{implies-e}
 use Rattle.phase_moves.proofs.Bits.{agrees-eq}
 use Rattle.phase_moves.proofs.must_wait.Statement.{statement}
 use Rattle.phase_moves.proofs.must_wait.Tie as tie

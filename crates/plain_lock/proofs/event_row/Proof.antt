@@ -5,8 +5,8 @@ use mathlib.Core.Path.{_≡_, refl, sym, ap, _∙_}
 use lib.Dec.{leb, leb→le}
 use Rattle.definitions.specs.Threads.{between}
 use Rattle.plain_lock.specs.Rows.{unknownRow, eventRow}
-use Rattle.theory.proofs.Matches.{NoneOf, downFrom, above}
-use Rattle.theory.proofs.Tests.{and-r, not-i}
+use Rattle.basics.proofs.Matches.{NoneOf, downFrom, above}
+use Rattle.basics.proofs.Tests.{and-r, not-i}
 use Rattle.plain_lock.proofs.RowLaws.{row-unknown}
 use Rattle.plain_lock.proofs.event_row.Statement.{statement}
 use Rattle.plain_lock.proofs.event_row.Tie as tie

@@ -14,7 +14,7 @@ use Rattle.definitions.specs.Threads.{between}
 use Rattle.plain_lock.specs.Counts.{countsMeet, countTests, standingAfter, Counted}
 use Rattle.plain_lock.specs.Rows.{eventRow, movedBy}
 use Rattle.plain_lock.specs.declared.Standing.{Standing}
-use Rattle.theory.proofs.Tests.{T-true, true-T, decided, and-both}
+use Rattle.basics.proofs.Tests.{T-true, true-T, decided, and-both}
 use Rattle.plain_lock.proofs.RowLaws.{next-known, met-known, moved-known, next-unknown}
 use Rattle.plain_lock.proofs.judge.Statement.{statement}
 use Rattle.plain_lock.proofs.judge.Tie as tie

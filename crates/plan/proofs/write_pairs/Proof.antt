@@ -1,8 +1,8 @@
 -- `write_pairs` meets its contract. The loop's invariant: the triples of the pairs passed are put. The measure is the number of pairs left.
 use Prim.Native.Nat.{_-_}
 use native.Mathlib.Omega.{arith}
-use Rattle.theory.proofs.Outputs.{filled-up}
-use Rattle.theory.proofs.Parts.{PartsPut, parts-none, parts-room, parts-more, parts-all}
+use Rattle.basics.proofs.Outputs.{filled-up}
+use Rattle.basics.proofs.Parts.{PartsPut, parts-none, parts-room, parts-more, parts-all}
 use Rattle.plan.proofs.PlanParts.{planParts}
 use Rattle.plan.proofs.write_pairs.Statement.{statement}
 use Rattle.plan.proofs.write_pairs.Tie as tie

@@ -14,8 +14,8 @@ use Rattle.definitions.specs.Table.{countFits}
 use Rattle.definitions.specs.Texts.{linesOf}
 use Rattle.opening.specs.FirstLine.{FirstAt, ThreadsAt}
 use Rattle.line_moves.specs.Moves.{Taken, AllTaken}
+use Rattle.basics.proofs.Tests.{true-T}
 use Rattle.theory.proofs.Stages.{count-most}
-use Rattle.theory.proofs.Tests.{true-T}
 use Rattle.reading.proofs.EntryLaws.{too-long, bad-first, bad-count, bad-line, no-room-left, within, triples-room, triples-whole, all-read}
 use Rattle.reading.proofs.read.Statement.{statement}
 use Rattle.reading.proofs.read.Tie as tie

@@ -5,7 +5,7 @@ use mathlib.Core.Path.{_≡_, refl, sym, ap, _∙_}
 use borrow.Author.Tests.{ne-eqb}
 use Rattle.definitions.specs.Codes.{go}
 use Rattle.dispatching.specs.Ready.{moveBy}
-use Rattle.theory.proofs.Matches.{NoneOf}
+use Rattle.basics.proofs.Matches.{NoneOf}
 use Rattle.ready.proofs.move_in.Statement.{statement}
 use Rattle.ready.proofs.move_in.Tie as tie
 

@@ -7,8 +7,8 @@ use lib.Dec.{eqb}
 use mir.Val.{boolByte}
 use Rattle.dispatching.specs.Ready.{readyBy}
 use Rattle.phase_moves.specs.MoveBits.{bitsBelow}
-use Rattle.theory.proofs.Casts.{cast-most}
-use Rattle.theory.proofs.Tests.{T-true, T-false, decided}
+use Rattle.basics.proofs.Casts.{cast-most}
+use Rattle.basics.proofs.Tests.{T-true, T-false, decided}
 use Rattle.ready.proofs.ready_phases.Statement.{statement}
 use Rattle.ready.proofs.ready_phases.Tie as tie
 

@@ -6,9 +6,9 @@ use Rattle.definitions.specs.Codes.{go, setMove}
 use Rattle.definitions.specs.Moves.{ask}
 use Rattle.definitions.specs.Plan.{bytesOf}
 use Rattle.definitions.specs.declared.Request.{Request}
-use Rattle.theory.specs.Outputs.{RoomAt}
-use Rattle.theory.proofs.Outputs.{room-first, room-second, both}
-use Rattle.theory.proofs.Parts.{PartsPut, parts-none, parts-room, parts-more, parts-all}
+use Rattle.basics.specs.Outputs.{RoomAt}
+use Rattle.basics.proofs.Outputs.{room-first, room-second, both}
+use Rattle.basics.proofs.Parts.{PartsPut, parts-none, parts-room, parts-more, parts-all}
 use Rattle.repeats.proofs.RequestBytes.{requestParts}
 use Rattle.repeats.proofs.set_each.Statement.{statement}
 use Rattle.repeats.proofs.set_each.Tie as tie

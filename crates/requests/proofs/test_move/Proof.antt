@@ -8,7 +8,7 @@ use Rattle.definitions.specs.Answers.{answered}
 use Rattle.definitions.specs.Bounds.{lastMove}
 use Rattle.definitions.specs.Moves.{targetFits}
 use Rattle.definitions.specs.Phases.{hasMove}
-use Rattle.theory.proofs.Tests.{true-T}
+use Rattle.basics.proofs.Tests.{true-T}
 use Rattle.requests.proofs.test_move.Statement.{statement}
 use Rattle.requests.proofs.test_move.Tie as tie
 

@@ -6,7 +6,7 @@ use borrow.Author.Needs.{needs}
 use Rattle.definitions.specs.Bounds.{lastMove}
 use Rattle.definitions.specs.Codes.{go, callShared, callExclusive, setMove, clearMove, relent, hold}
 use Rattle.definitions.specs.Moves.{effect, isRetry}
-use Rattle.theory.proofs.Matches.{above}
+use Rattle.basics.proofs.Matches.{above}
 use Rattle.arms.proofs.Steps.{unseen-says, move-arm}
 use Rattle.rules.proofs.Arms.{called, hold-retry, no-arm}
 use Rattle.rules.proofs.decide.Statement.{statement}

@@ -1,7 +1,7 @@
 -- `script_text::put_moves` meets its contract. The loop's invariant: the lines of the triples passed are put. The measure is how many triples are left.
 use Prim.Native.Nat.{_-_}
 use native.Mathlib.Omega.{arith}
-use Rattle.theory.proofs.Parts.{PartsPut, parts-none, parts-room, parts-more, parts-all}
+use Rattle.basics.proofs.Parts.{PartsPut, parts-none, parts-room, parts-more, parts-all}
 use Rattle.script_text.proofs.ScriptParts.{moveParts}
 use Rattle.script_text.proofs.put_moves.Statement.{statement}
 use Rattle.script_text.proofs.put_moves.Tie as tie

@@ -3,7 +3,7 @@ use borrow.Author.Needs.{needs}
 use Rattle.definitions.specs.Chains.{requestsOf}
 use Rattle.definitions.specs.Forms.{threadsLine}
 use Rattle.definitions.specs.Scripts.{ended, movesText, scriptOf}
-use Rattle.theory.proofs.Outputs.{room-first, room-second, both}
+use Rattle.basics.proofs.Outputs.{room-first, room-second, both}
 use Rattle.script_text.proofs.put_script.Statement.{statement}
 use Rattle.script_text.proofs.put_script.Tie as tie
 

@@ -7,7 +7,7 @@ use lib.ListN.{length}
 use Rattle.definitions.specs.Chains.{requestsOf}
 use Rattle.definitions.specs.Forms.{threadsLine}
 use Rattle.definitions.specs.Scripts.{ended}
-use Rattle.theory.proofs.Parts.{PartsMeasured, measured-none, measured-more, measured-all}
+use Rattle.basics.proofs.Parts.{PartsMeasured, measured-none, measured-more, measured-all}
 use Rattle.script_text.proofs.ScriptParts.{moveParts, script-size}
 use Rattle.script_text.proofs.script_length.Statement.{statement}
 use Rattle.script_text.proofs.script_length.Tie as tie

@@ -5,7 +5,7 @@ use mathlib.Core.Logic.{inr}
 use mathlib.Core.Path.{_≡_, sym, ap, _∙_}
 use lib.ListN.{length, getD}
 use Rattle.shares.specs.Shares.{each, movesOf, ShareOf}
-use Rattle.theory.proofs.Matches.{NoneOf, downFrom, above}
+use Rattle.basics.proofs.Matches.{NoneOf, downFrom, above}
 use Rattle.theory.proofs.PlanLengths.{eventLengths, movesFor, event-moves, plan-past}
 use Rattle.shares.proofs.share_of.Statement.{statement}
 use Rattle.shares.proofs.share_of.Tie as tie

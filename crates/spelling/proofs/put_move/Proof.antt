@@ -5,7 +5,7 @@ use mathlib.Core.Path.{sym}
 use borrow.Author.Needs.{needs}
 use Rattle.definitions.specs.Forms.{actText}
 use Rattle.definitions.specs.Texts.{bytes, decimal}
-use Rattle.theory.proofs.Parts.{Partly, no-part, room-part, part-put, last-part, room-as, put-as}
+use Rattle.basics.proofs.Parts.{Partly, no-part, room-part, part-put, last-part, room-as, put-as}
 use Rattle.spelling.proofs.LineTexts.{move-text}
 use Rattle.spelling.proofs.put_move.Statement.{statement}
 use Rattle.spelling.proofs.put_move.Tie as tie

@@ -2,7 +2,7 @@
 use mathlib.Core.Path.{sym}
 use borrow.Author.Needs.{needs}
 use Rattle.definitions.specs.Texts.{bytes}
-use Rattle.theory.proofs.Parts.{room-as, put-as}
+use Rattle.basics.proofs.Parts.{room-as, put-as}
 use Rattle.spelling.proofs.LineTexts.{threads-text}
 use Rattle.spelling.proofs.put_threads.Statement.{statement}
 use Rattle.spelling.proofs.put_threads.Tie as tie

@@ -13,10 +13,10 @@ use Rattle.definitions.specs.Threads.{every, between, implies}
 use Rattle.definitions.specs.declared.Task.{Task}
 use Rattle.tallies.specs.Rules.{aimFits}
 use Rattle.tallies.specs.declared.Tally.{Tally}
-use Rattle.theory.proofs.Cases.{no-row}
-use Rattle.theory.proofs.Casts.{cast-is}
-use Rattle.theory.proofs.Quantifiers.{every-at}
-use Rattle.theory.proofs.Tests.{and-r, same-test, implies-e, below?}
+use Rattle.basics.proofs.Casts.{cast-is}
+use Rattle.basics.proofs.Quantifiers.{every-at}
+use Rattle.basics.proofs.Tests.{and-r, same-test, implies-e, below?}
+use Rattle.theory.proofs.PhaseCases.{no-row}
 use Rattle.tallies.proofs.aim_fits.Statement.{statement}
 use Rattle.tallies.proofs.aim_fits.Tie as tie
 

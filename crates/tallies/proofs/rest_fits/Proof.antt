@@ -6,7 +6,7 @@ use mathlib.Core.Path.{_≡_, refl, sym, ap, _∙_}
 use borrow.Author.Tests.{ne-eqb}
 use Rattle.tallies.specs.Rules.{restFits}
 use Rattle.tallies.specs.declared.Tally.{Tally}
-use Rattle.theory.proofs.Matches.{NoneOf}
+use Rattle.basics.proofs.Matches.{NoneOf}
 use Rattle.tallies.proofs.rest_fits.Statement.{statement}
 use Rattle.tallies.proofs.rest_fits.Tie as tie
 

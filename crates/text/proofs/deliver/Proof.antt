@@ -1,7 +1,7 @@
 -- `text::deliver` meets its contract: the text has no room, or it is put at the front.
 use mathlib.Core.List.{[]}
 use borrow.Author.Needs.{needs}
-use Rattle.theory.proofs.Replies.{no-test}
+use Rattle.basics.proofs.Replies.{no-test}
 use Rattle.text.proofs.Deliveries.{short-refused, put-delivered}
 use Rattle.text.proofs.deliver.Statement.{statement}
 use Rattle.text.proofs.deliver.Tie as tie

@@ -1,7 +1,7 @@
 -- `text::put_byte` meets its contract.
 use mathlib.Core.List.{[], _∷_}
 use borrow.Author.Needs.{needs}
-use Rattle.theory.proofs.Outputs.{stored}
+use Rattle.basics.proofs.Outputs.{stored}
 use Rattle.text.proofs.put_byte.Statement.{statement}
 use Rattle.text.proofs.put_byte.Tie as tie
 

@@ -2,7 +2,7 @@
 use Prim.Native.Nat.{_-_}
 use native.Mathlib.Omega.{arith}
 use lib.ListN.{length}
-use Rattle.theory.proofs.Parts.{bytewise, PartsPut, parts-none, parts-room, parts-more, parts-all}
+use Rattle.basics.proofs.Parts.{bytewise, PartsPut, parts-none, parts-room, parts-more, parts-all}
 use Rattle.text.proofs.put_text.Statement.{statement}
 use Rattle.text.proofs.put_text.Tie as tie
 

@@ -5,7 +5,7 @@ use mathlib.Core.List.{[], _∷_}
 use borrow.Author.Needs.{needs}
 use lib.ListN.{length-set}
 use Rattle.definitions.specs.Plan.{bytesOf}
-use Rattle.theory.proofs.Outputs.{stored}
+use Rattle.basics.proofs.Outputs.{stored}
 use Rattle.triples.proofs.put_triple.Statement.{statement}
 use Rattle.triples.proofs.put_triple.Tie as tie
 

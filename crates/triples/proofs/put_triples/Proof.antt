@@ -6,7 +6,7 @@ use mathlib.Core.Path.{_≡_, refl, sym, ap, _∙_}
 use lib.ListN.{length, getD, drop, drop-of-length-le}
 use Rattle.definitions.specs.Moves.{ask}
 use Rattle.definitions.specs.Plan.{bytesOf}
-use Rattle.theory.proofs.Parts.{Partly, no-part, room-by, put-by, all-by}
+use Rattle.basics.proofs.Parts.{Partly, no-part, room-by, put-by, all-by}
 use Rattle.theory.proofs.Triples.{triple-bytes}
 use Rattle.triples.proofs.put_triples.Statement.{statement}
 use Rattle.triples.proofs.put_triples.Tie as tie

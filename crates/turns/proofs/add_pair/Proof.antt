@@ -1,7 +1,7 @@
 -- `turns::add_pair` meets its contract: two bytes, one behind the other.
 use mathlib.Core.List.{[], _∷_}
 use borrow.Author.Needs.{needs}
-use Rattle.theory.proofs.Outputs.{both}
+use Rattle.basics.proofs.Outputs.{both}
 use Rattle.turns.proofs.add_pair.Statement.{statement}
 use Rattle.turns.proofs.add_pair.Tie as tie
 

@@ -27,8 +27,8 @@ enum-told-2 c = search needs
 enum-known-outcome-2 : tie.Need-enum-known-outcome-2
 enum-known-outcome-2 c = search needs
 
-code-requires : tie.Need-code-requires
-code-requires c κs = search needs
+code-of-requires : tie.Need-code-of-requires
+code-of-requires c κs = search needs
 
 cast-add-pair : tie.Need-cast-add-pair
 cast-add-pair c =
@@ -38,7 +38,7 @@ cast-add-pair c =
 add-pair-requires : tie.Need-add-pair-requires
 add-pair-requires c κs =
     let o = c .before .before .before .before in
-    event-room _ _ _ _ (tried (o .before .before)) _ (o .outcome2 .given .1) _ (c .before .before .code .ensures) _ _ (start (o .before .before) .pre .1)
+    event-room _ _ _ _ (tried (o .before .before)) _ (o .outcome2 .given .1) _ (c .before .before .code-of .ensures) _ _ (start (o .before .before) .pre .1)
 
 same-length : tie.Need-same-length
 same-length c = search needs
@@ -69,7 +69,7 @@ returns-4 c =
     let p = c .before .before in
     let k = p .before .before .before in
     let o = k .before .before in
-    event-passes _ _ _ _ (tried (o .before .before)) _ (o .outcome2 .given .1) _ (k .code .ensures) _ _ _ _ (p .add-pair .ensures)
+    event-passes _ _ _ _ (tried (o .before .before)) _ (o .outcome2 .given .1) _ (k .code-of .ensures) _ _ _ _ (p .add-pair .ensures)
 
 pub make-spec : {M : Type 1} → statement M
 make-spec =
@@ -80,7 +80,7 @@ make-spec =
     enum-told
     enum-told-2
     enum-known-outcome-2
-    code-requires
+    code-of-requires
     cast-add-pair
     add-pair-requires
     same-length

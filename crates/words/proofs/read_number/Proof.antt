@@ -7,7 +7,7 @@ use mathlib.Core.Logic.{_≢_}
 use mathlib.Core.Path.{_≡_, sym, _∙_}
 use lib.ListN.{length}
 use Rattle.definitions.specs.Texts.{digitsOf}
-use Rattle.theory.proofs.Digits.{digits-within, digit-end}
+use Rattle.basics.proofs.Digits.{digits-within, digit-end}
 use Rattle.words.proofs.NumberReading.{ReadSoFar, Next, none-read, next, number-none, number-long, number-no, number-yes}
 use Rattle.words.proofs.read_number.Statement.{statement}
 use Rattle.words.proofs.read_number.Tie as tie

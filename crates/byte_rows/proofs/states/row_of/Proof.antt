@@ -7,7 +7,7 @@ use borrow.Author.Tests.{lt-leb}
 use Rattle.definitions.specs.Bounds.{lastPhase}
 use Rattle.definitions.specs.Phases.{rows}
 use Rattle.rows.specs.Rows.{oneBad, rowFor, rowAt}
-use Rattle.theory.proofs.Matches.{above}
+use Rattle.basics.proofs.Matches.{above}
 use Rattle.byte_rows.proofs.states.row_of.Statement.{statement}
 use Rattle.byte_rows.proofs.states.row_of.Tie as tie
 

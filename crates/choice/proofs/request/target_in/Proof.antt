@@ -8,7 +8,7 @@ use lib.Dec.{eqb}
 use Rattle.definitions.specs.Dispatch.{targetFor}
 use Rattle.definitions.specs.Table.{Table, tableOf}
 use Rattle.definitions.specs.Threads.{lowest}
-use Rattle.theory.proofs.Matches.{NoneOf}
+use Rattle.basics.proofs.Matches.{NoneOf}
 use Rattle.choice.proofs.request.target_in.Statement.{statement}
 use Rattle.choice.proofs.request.target_in.Tie as tie
 

@@ -6,7 +6,7 @@ use mathlib.Core.Path.{_≡_, subst, _∙_}
 use lib.Dec.{T}
 use Rattle.definitions.specs.Table.{tableOf}
 use Rattle.dispatching.specs.Ready.{ready}
-use Rattle.theory.proofs.Tests.{true-T, false-T}
+use Rattle.basics.proofs.Tests.{true-T, false-T}
 use Rattle.choice.proofs.SearchLaws.{Passed, starts, one-further, found-here, found-none, phase-fits, ready-read}
 use Rattle.choice.proofs.searches.lowest_ready.Statement.{statement}
 use Rattle.choice.proofs.searches.lowest_ready.Tie as tie

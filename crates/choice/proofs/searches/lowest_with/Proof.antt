@@ -8,7 +8,7 @@ use lib.Dec.{eqb}
 use Rattle.definitions.specs.Table.{tableOf}
 use Rattle.definitions.specs.Threads.{lowest}
 use Rattle.definitions.specs.declared.Task.{Task}
-use Rattle.theory.proofs.Tests.{eq-T, ne-T}
+use Rattle.basics.proofs.Tests.{eq-T, ne-T}
 use Rattle.choice.specs.Choosing.{lowestFrom}
 use Rattle.choice.proofs.SearchLaws.{Passed, starts, one-further, found-here, found-none, of-all}
 use Rattle.choice.proofs.searches.lowest_with.Statement.{statement}

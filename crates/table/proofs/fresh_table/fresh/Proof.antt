@@ -11,11 +11,11 @@ use lib.ListN.{length}
 use Rattle.definitions.specs.Answers.{accepted, refused, test, filled}
 use Rattle.definitions.specs.Bounds.{mostThreads}
 use Rattle.definitions.specs.Table.{countFits, size, fresh, freshEntry}
-use Rattle.theory.specs.Outputs.{Delivered}
+use Rattle.basics.specs.Outputs.{Delivered}
+use Rattle.basics.proofs.Outputs.{turned-down, no-room, whole, delivered-as}
+use Rattle.basics.proofs.Replies.{failed, pass, no-test}
+use Rattle.basics.proofs.Tests.{and-r, true-T, false-T}
 use Rattle.theory.proofs.Lengths.{fresh-length}
-use Rattle.theory.proofs.Outputs.{turned-down, no-room, whole, delivered-as}
-use Rattle.theory.proofs.Replies.{failed, pass, no-test}
-use Rattle.theory.proofs.Tests.{and-r, true-T, false-T}
 use Rattle.table.proofs.fresh_table.fresh.Statement.{statement}
 use Rattle.table.proofs.fresh_table.fresh.Tie as tie
 

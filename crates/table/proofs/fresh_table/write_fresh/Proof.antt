@@ -7,8 +7,8 @@ use lib.ListN.{length, set, replicate, length-set, length-replicate}
 use Rattle.definitions.specs.Answers.{filled}
 use Rattle.definitions.specs.Bounds.{noTarget}
 use Rattle.definitions.specs.Table.{size, fresh}
-use Rattle.theory.proofs.Outputs.{stored, filled-up}
-use Rattle.theory.proofs.Parts.{Parts, PartsPut, parts-none, parts-room, parts-more, parts-all}
+use Rattle.basics.proofs.Outputs.{stored, filled-up}
+use Rattle.basics.proofs.Parts.{Parts, PartsPut, parts-none, parts-room, parts-more, parts-all}
 use Rattle.table.proofs.fresh_table.write_fresh.Statement.{statement}
 use Rattle.table.proofs.fresh_table.write_fresh.Tie as tie
 

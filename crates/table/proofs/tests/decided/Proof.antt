@@ -7,7 +7,7 @@ use Rattle.definitions.specs.Table.{tableOf}
 use Rattle.definitions.specs.declared.Head.{Head}
 use Rattle.soundness.specs.Pass.{soundBy, aimedAt, passes}
 use Rattle.theory.specs.Tables.{headOf, taskOf}
-use Rattle.theory.proofs.Tests.{cond-either}
+use Rattle.basics.proofs.Tests.{cond-either}
 use Rattle.table.proofs.tests.decided.Statement.{statement}
 use Rattle.table.proofs.tests.decided.Tie as tie
 

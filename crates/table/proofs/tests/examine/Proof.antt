@@ -16,9 +16,9 @@ use Rattle.tallies.specs.declared.Tally.{Tally}
 use Rattle.theory.specs.Tables.{Sized, forbiddenCount}
 use Rattle.table.specs.TableTests.{examinedOf}
 use Rattle.table.specs.declared.tests.Examined.the-variants.{Sound, Refused}
+use Rattle.basics.proofs.Tests.{true-T}
 use Rattle.soundness.proofs.OnePass.{one-pass}
 use Rattle.theory.proofs.Bytes.{sized-e}
-use Rattle.theory.proofs.Tests.{true-T}
 use Rattle.table.proofs.tests.examine.Statement.{statement}
 use Rattle.table.proofs.tests.examine.Tie as tie
 

@@ -9,10 +9,10 @@ use mathlib.Core.Logic.{_⊎_, inl, inr}
 use mathlib.Core.Path.{_≡_, refl, sym, subst, ap, _∙_}
 use lib.Dec.{T, ltb, eqb, eqb→eq, ltb→lt, lt→ltb}
 use Rattle.definitions.specs.Threads.{every, sumOf, listOf}
-use Rattle.theory.specs.EachOnce.{timesIn, EachOnce, allIn, sumIn}
-use Rattle.theory.proofs.Quantifiers.{every-at, every-i}
-use Rattle.theory.proofs.Sums.{sum-same, sum-but, sum-zero}
-use Rattle.theory.proofs.Tests.{and-l, and-r, and-i, same-test, decided, cond-yes, cond-no, not-i, eq-T, ne-T, below?, same?}
+use Rattle.basics.specs.EachOnce.{timesIn, EachOnce, allIn, sumIn}
+use Rattle.basics.proofs.Quantifiers.{every-at, every-i}
+use Rattle.basics.proofs.Sums.{sum-same, sum-but, sum-zero}
+use Rattle.basics.proofs.Tests.{and-l, and-r, and-i, same-test, decided, cond-yes, cond-no, not-i, eq-T, ne-T, below?, same?}
 
 -- ---- lists behind each other
 

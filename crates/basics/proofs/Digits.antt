@@ -9,8 +9,8 @@ use borrow.Author.Tests.{leb-true, le-leb}
 use lib.Dec.{leb}
 use lib.ListN.{length, take, getD}
 use Rattle.definitions.specs.Texts.{isDigit, digitsOf, valueFrom, decimal}
-use Rattle.theory.proofs.Numbers.{decimal-small, decimal-more, by-tens, tens}
-use Rattle.theory.proofs.Tests.{and-both}
+use Rattle.basics.proofs.Numbers.{decimal-small, decimal-more, by-tens, tens}
+use Rattle.basics.proofs.Tests.{and-both}
 
 -- ---- how far the digits go
 

@@ -1,20 +1,15 @@
--- Cases of a number: one of a list (`or-at`), one of f 0, f 1, .. (`among-list`), one of a range (`among-range`), a phase that has a move (`has-phase`) or holds the mutex (`is-holder`).
-use Prim.Native.Nat.{ℕ, zero, suc, _+_, _-_, _≤_, _<_}
+-- Cases of a number: one of a list (`or-at`), one of f 0, f 1, .. (`among-list`), one of a range (`among-range`).
+use Prim.Native.Nat.{ℕ, zero, suc, _+_, _-_, _<_}
 use native.Mathlib.Nat.{not-suc-le-zero}
 use native.Mathlib.Omega.{arith}
 use mathlib.Core.Bool.{Bool, cond, not}
 use mathlib.Core.List.{List, [], _∷_, _++_}
-use mathlib.Core.Logic.{_⊎_, ⊎-elim}
-use mathlib.Core.Path.{_≡_, refl, sym, subst, ap}
+use mathlib.Core.Logic.{⊎-elim}
+use mathlib.Core.Path.{_≡_, sym, subst, ap}
 use lib.Dec.{T, leb, eqb, leb→le, eqb→eq}
-use lib.ListN.{List·getD-eq-default}
-use Rattle.definitions.specs.Bounds.{lastPhase}
-use Rattle.definitions.specs.Phases.{Row, noRow, rows, rowOf, hasMove, holds}
 use Rattle.definitions.specs.Threads.{listOf, gather, among, between}
-use Rattle.theory.proofs.Quantifiers.{below-suc}
-use Rattle.theory.proofs.Tests.{and-l, and-r, or-e, or-l, or-r, eq-T, T-true, T-false, decided, below?}
-
--- ---- a number of a list
+use Rattle.basics.proofs.Quantifiers.{below-suc}
+use Rattle.basics.proofs.Tests.{and-l, and-r, or-e, or-l, or-r, eq-T, T-true, T-false, decided}
 
 -- x is the first number of a list, or one of the others
 module _ {P : Type 0} (x : ℕ) where
@@ -81,41 +76,3 @@ among-range p a b t =
     let h = leb→le p b (and-r (leb a p) (leb p b) t) in
     let back : a + (p - a) ≡ p = omega arith in
     subst (λ (k : ℕ). T (among k (listOf (suc b - a) (λ j. a + j)))) back (among-list (λ j. a + j) (suc b - a) (p - a) (omega arith))
-
--- ---- phases
-
--- a number that is no phase has no row
-pub no-row : (p : ℕ) → lastPhase < p → rowOf p ≡ noRow
-unfolding rows
-no-row p h = List·getD-eq-default rows noRow h
-
--- nor does it hold the mutex, so a holder's number is a phase
-no-holder : (p : ℕ) → lastPhase < p → T (holds p) → ⊥
-no-holder p l t = subst (λ (row : Row). T (row .holder)) (no-row p l) t
-
-pub holder-phase : (p : ℕ) → T (holds p) → p ≤ lastPhase
-holder-phase p t = ⊎-elim (λ l. omega arith) (λ l. absurd (no-holder p l t)) (below? (suc lastPhase) p)
-
--- the phases of which f holds, by trying them all
-unfoldable pub phasesWhere : (ℕ → Bool) → List ℕ
-phasesWhere f = gather (suc lastPhase) (λ p. cond (f p) (p ∷ []) [])
-
--- f holds of no other number
-module _ (f : ℕ → Bool) (outside : (p : ℕ) → lastPhase < p → T (f p) → ⊥) where
-  is-phase : (p : ℕ) (ks : List ℕ) → phasesWhere f ≡ ks → T (f p) → T (among p ks)
-  unfolding phasesWhere
-  is-phase p ks e t = subst (λ (xs : List ℕ). T (among p xs)) e (⊎-elim inside (λ l. absurd (outside p l t)) (below? (suc lastPhase) p))
-    where
-      inside : p < suc lastPhase → T (among p (gather (suc lastPhase) (λ q. cond (f q) (q ∷ []) [])))
-      inside l =
-          among-gather p (λ q. cond (f q) (q ∷ []) []) (suc lastPhase) p l
-          (subst (λ (b : Bool). T (among p (cond b (p ∷ []) []))) (sym (T-true (f p) t)) (among-here p p [] refl))
-
--- a phase that has a move
-pub has-phase : (mv p : ℕ) (ks : List ℕ) → phasesWhere (hasMove mv) ≡ ks → T (hasMove mv p) → T (among p ks)
-has-phase mv = is-phase (hasMove mv) (λ p l t. none-of mv (subst (λ (row : Row). T (among mv (row .moves))) (no-row p l) t))
-
--- a phase that holds the mutex
-pub is-holder : (p : ℕ) → T (holds p) → T (among p (10 ∷ 11 ∷ 12 ∷ 13 ∷ 14 ∷ 15 ∷ 16 ∷ 18 ∷ []))
-unfolding rows gather phasesWhere
-is-holder p t = is-phase holds no-holder p _ refl t

@@ -1,10 +1,16 @@
--- A column is a number for every thread; `update` changes one entry. How `update` goes with a function of the entries, with itself, and with the tests of all threads.
+-- A column is a number for every thread; `update` changes one entry. What it has then, and how `update` goes with a function of the entries, with itself, and with the tests of all threads.
 use Prim.Native.Nat.{ℕ}
 use mathlib.Core.Logic.{_⊎_, inl, inr}
 use mathlib.Core.Path.{_≡_, refl, sym, ap, _∙_, fun-ext}
+use lib.Dec.{eqb}
 use Rattle.definitions.specs.Table.{update}
-use Rattle.theory.proofs.Tests.{same?}
-use Rattle.theory.proofs.Writes.{update-same, update-other}
+use Rattle.basics.proofs.Tests.{cond-yes, cond-no, eq-T, ne-T, same?}
+
+pub update-same : (f : ℕ → ℕ) (i v j : ℕ) → j ≡ i → update f i v j ≡ v
+update-same f i v j e = cond-yes (eqb j i) v (f j) (eq-T j i e)
+
+pub update-other : (f : ℕ → ℕ) (i v j : ℕ) → (j ≡ i → ⊥) → update f i v j ≡ f j
+update-other f i v j h = cond-no (eqb j i) v (f j) (ne-T j i h)
 
 -- a function of each entry
 abbrev pub along {ℓ} : {A : Type ℓ} → (ℕ → A) → (ℕ → ℕ) → ℕ → A

@@ -8,7 +8,7 @@ use borrow.Author.Tests.{eq-eqb, eqb-true}
 use lib.Dec.{eqb}
 use lib.ListN.{length, take, length-take}
 use Rattle.definitions.specs.Texts.{same, starts}
-use Rattle.theory.proofs.Tests.{and-both}
+use Rattle.basics.proofs.Tests.{and-both}
 
 pub same-refl : (xs : List ℕ) → same xs xs ≡ true
 unfolding same

@@ -7,7 +7,7 @@ use mathlib.Core.Path.{_≡_, sym, ap, _∙_}
 use borrow.Author.Tests.{lt-ltb, le-ltb}
 use lib.ListN.{length, length-append}
 use Rattle.definitions.specs.Texts.{decimalWithin, decimal}
-use Rattle.theory.proofs.Tests.{below?}
+use Rattle.basics.proofs.Tests.{below?}
 
 -- ---- the last digit
 

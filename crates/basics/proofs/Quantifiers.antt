@@ -8,7 +8,7 @@ use mathlib.Core.Logic.{_⊎_, inl, inr, ⊎-elim}
 use mathlib.Core.Path.{_≡_, refl, sym, subst, ap, _∙_}
 use lib.Dec.{T, eqb, eqb·suc-zero}
 use Rattle.definitions.specs.Threads.{every, some, howMany, implies}
-use Rattle.theory.proofs.Tests.{and-l, and-r, and-i, or-e, or-l, or-r, T-true, T-false, decided, no-both, not-i, implies-e}
+use Rattle.basics.proofs.Tests.{and-l, and-r, and-i, or-e, or-l, or-r, T-true, T-false, decided, no-both, not-i, implies-e}
 
 -- below suc n: below n, or n itself
 pub below-suc : (i n : ℕ) → i < suc n → (i ≡ n) ⊎ (i < n)

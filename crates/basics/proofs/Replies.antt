@@ -6,7 +6,7 @@ use mathlib.Core.Logic.{_⊎_, inl, inr}
 use mathlib.Core.Path.{_≡_, refl, sym, subst, ap, _∙_}
 use lib.Dec.{T}
 use Rattle.definitions.specs.Answers.{Reply, accepted, refused, isAccepted, leaves, Test, answered, passesAll}
-use Rattle.theory.proofs.Tests.{and-l, and-r, and-i, cond-yes, cond-no}
+use Rattle.basics.proofs.Tests.{and-l, and-r, and-i, cond-yes, cond-no}
 
 -- ---- one test
 

@@ -1,8 +1,8 @@
 -- `count_fits` meets its contract: the two comparisons are the definition's.
 use mathlib.Core.Path.{refl}
 use borrow.Author.Needs.{needs}
-use Rattle.definitions.proofs.count_fits.Statement.{statement}
-use Rattle.definitions.proofs.count_fits.Tie as tie
+use Rattle.codes.proofs.count_fits.Statement.{statement}
+use Rattle.codes.proofs.count_fits.Tie as tie
 
 cast-result : tie.Need-cast-result
 cast-result c = search needs

@@ -11,8 +11,8 @@ use mathlib.Core.Path.{_≡_, refl, sym, subst, ap, _∙_}
 use lib.ListN.{length, getD, drop, length-append}
 use lib.Seq.{drop-cons, drop-length}
 use Rattle.definitions.specs.Threads.{listOf, gather}
-use Rattle.theory.specs.Outputs.{RoomAt, PutAt}
-use Rattle.theory.proofs.Outputs.{none, same-size, room-first, room-second, both}
+use Rattle.basics.specs.Outputs.{RoomAt, PutAt}
+use Rattle.basics.proofs.Outputs.{none, same-size, room-first, room-second, both}
 
 -- the same text, said otherwise
 module _ {out : List ℕ} {at : ℕ} {s t : List ℕ} (e : s ≡ t) where

@@ -6,8 +6,8 @@ use mathlib.Core.Logic.{⊎-elim}
 use mathlib.Core.Path.{_≡_, refl, sym, subst, ap}
 use Rattle.definitions.specs.Table.{update}
 use Rattle.definitions.specs.Threads.{sumOf}
-use Rattle.theory.proofs.Quantifiers.{below-suc}
-use Rattle.theory.proofs.Writes.{update-same, update-other}
+use Rattle.basics.proofs.Quantifiers.{below-suc}
+use Rattle.basics.proofs.Columns.{update-same, update-other}
 
 -- two functions that agree below n
 pub sum-same : (n : ℕ) (f g : ℕ → ℕ) → ((j : ℕ) → j < n → g j ≡ f j) → sumOf n g ≡ sumOf n f

@@ -10,9 +10,9 @@ use lib.Dec.{T, leb, leb→le}
 use lib.ListN.{length, take, drop, length-append, length-take, length-drop, take-append-drop}
 use lib.Seq.{take-at, drop-drop, drop-append-add, sets, sets-eq}
 use Rattle.definitions.specs.Answers.{Reply, accepted, refused, leaves, Test, passesAll, answered, filled, Delivery, counted, roomTest, deliveryReply, deliveryOutput}
-use Rattle.theory.specs.Outputs.{answering, putAt, RoomAt, PutAt, Delivered}
-use Rattle.theory.proofs.Replies.{peel, behind, in-front}
-use Rattle.theory.proofs.TestLists.{passes-split, answered-e}
+use Rattle.basics.specs.Outputs.{answering, putAt, RoomAt, PutAt, Delivered}
+use Rattle.basics.proofs.Replies.{peel, behind, in-front}
+use Rattle.basics.proofs.TestLists.{passes-split, answered-e}
 
 -- ---- what is left in the output
 

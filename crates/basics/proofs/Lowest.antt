@@ -8,8 +8,8 @@ use mathlib.Core.Logic.{_⊎_, inl, inr, ⊎-elim}
 use mathlib.Core.Path.{_≡_, refl, sym, subst, _∙_}
 use lib.Dec.{T}
 use Rattle.definitions.specs.Threads.{some, lowest}
-use Rattle.theory.proofs.Quantifiers.{below-suc, some-i, none-at, none-i}
-use Rattle.theory.proofs.Tests.{or-e, cond-yes, cond-no, decided, no-both, below?}
+use Rattle.basics.proofs.Quantifiers.{below-suc, some-i, none-at, none-i}
+use Rattle.basics.proofs.Tests.{or-e, cond-yes, cond-no, decided, no-both, below?}
 
 module _ (f : ℕ → Bool) where
   -- with one thread more it is the one before, or the new one, or there is still none

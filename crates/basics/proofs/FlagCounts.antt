@@ -6,8 +6,8 @@ use mathlib.Core.Path.{_≡_, refl, sym, ap}
 use lib.Dec.{eqb}
 use Rattle.definitions.specs.Table.{update}
 use Rattle.definitions.specs.Threads.{howMany}
-use Rattle.theory.proofs.Quantifiers.{howMany-change}
-use Rattle.theory.proofs.Writes.{update-same, update-other}
+use Rattle.basics.proofs.Quantifiers.{howMany-change}
+use Rattle.basics.proofs.Columns.{update-same, update-other}
 
 -- how many flags are set
 abbrev pub flagsSet : ℕ → (ℕ → ℕ) → ℕ

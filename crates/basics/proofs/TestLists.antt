@@ -10,9 +10,9 @@ use mathlib.Core.Path.{_≡_, refl, sym, subst, ap, _∙_}
 use lib.Dec.{T}
 use Rattle.definitions.specs.Answers.{Reply, accepted, refused, isAccepted, Test, answered, passesAll}
 use Rattle.definitions.specs.Threads.{every, gather}
-use Rattle.theory.proofs.Quantifiers.{below-suc}
-use Rattle.theory.proofs.Replies.{accepted-is, all-passed, behind, in-front}
-use Rattle.theory.proofs.Tests.{and-l, and-r, and-i, decided, no-both}
+use Rattle.basics.proofs.Quantifiers.{below-suc}
+use Rattle.basics.proofs.Replies.{accepted-is, all-passed, behind, in-front}
+use Rattle.basics.proofs.Tests.{and-l, and-r, and-i, decided, no-both}
 
 pub passes-append : (ts us : List Test) → passesAll (ts ++ us) ≡ passesAll ts && passesAll us
 unfolding passesAll

@@ -8,9 +8,9 @@ use mathlib.Core.Logic.{_⊎_, inl, inr, ⊎-elim}
 use mathlib.Core.Path.{_≡_, sym}
 use lib.Dec.{T, eqb, eqb→eq}
 use Rattle.definitions.specs.Threads.{every, among}
-use Rattle.theory.proofs.Cases.{or-at, none-of}
-use Rattle.theory.proofs.Quantifiers.{every-at}
-use Rattle.theory.proofs.Tests.{not-i, or-e, below?}
+use Rattle.basics.proofs.Cases.{or-at, none-of}
+use Rattle.basics.proofs.Quantifiers.{every-at}
+use Rattle.basics.proofs.Tests.{not-i, or-e, below?}
 
 -- x is none of the numbers of the arms, the last first
 abbrev pub NoneOf : ℕ → List ℕ → Type 0

@@ -1,0 +1,20 @@
+-- Facts on tests, on all, some and many threads, on lists, columns and sums, on texts and numbers, on replies, and on outputs; each file says what it shows.
+pub mod Tests
+pub mod Quantifiers
+pub mod Lowest
+pub mod Cases
+pub mod Casts
+pub mod Matches
+pub mod Lists
+pub mod Gathering
+pub mod Texts
+pub mod Numbers
+pub mod Digits
+pub mod Replies
+pub mod TestLists
+pub mod Outputs
+pub mod Parts
+pub mod Columns
+pub mod Sums
+pub mod EachOnce
+pub mod FlagCounts
