@@ -74,7 +74,9 @@ made-fits table (made r a) e =
 
 turn-fits : (table : List ℕ) → Fits TurnFits (dispatchReply table)
 unfolding turnReplyIn
-turn-fits table = fits-answer TurnFits _ (turnAnswer moverIn (tableOf table)) (omega arith) (λ p. made-fits table (turnAnswer moverIn (tableOf table)) (all-passed (turnAnswer moverIn (tableOf table)) _ p))
+turn-fits table =
+    let turn = turnAnswer moverIn (tableOf table) in
+    fits-answer TurnFits _ turn (omega arith) (λ p. made-fits table turn (all-passed turn _ p))
 
 pub turn-told : (a b : List ℕ) → turnNumber (dispatchReply a) ≡ turnNumber (dispatchReply b) → dispatchReply a ≡ dispatchReply b
 turn-told a b e = told TurnFits turnValue turn-tells (dispatchReply a) (dispatchReply b) (turn-fits a) (turn-fits b) e

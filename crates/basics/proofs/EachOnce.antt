@@ -118,9 +118,11 @@ module _ (f : ℕ → ℕ) (n : ℕ) where
   weighed (x ∷ xs) h =
       let here = one-yes (eqb x x) (eq-T x x refl) in
       let rest = weighed xs (λ i l. h i (omega arith)) in
-      let more = sum-but n (λ i. timesIn i xs * f i) (λ i. timesIn i (x ∷ xs) * f i) x (h x (omega arith)) (λ j d. ap (λ (k : ℕ). (k + timesIn j xs) * f j) (one-no (eqb x j) (ne-T x j (λ e. d (sym e))))
-      ∙ ap (λ (k : ℕ). k * f j) (zero-add (timesIn j xs))) in
-      let one : timesIn x (x ∷ xs) * f x ≡ f x + timesIn x xs * f x = ap (λ (k : ℕ). (k + timesIn x xs) * f x) here ∙ (add-mul 1 (timesIn x xs) (f x) ∙ ap (λ (k : ℕ). k + timesIn x xs * f x) (one-mul (f x))) in
+      let other : (j : ℕ) → (j ≡ x → ⊥) → timesIn j (x ∷ xs) * f j ≡ timesIn j xs * f j = λ j d.
+      ap (λ (k : ℕ). (k + timesIn j xs) * f j) (one-no (eqb x j) (ne-T x j (λ e. d (sym e)))) ∙ ap (λ (k : ℕ). k * f j) (zero-add (timesIn j xs)) in
+      let more = sum-but n (λ i. timesIn i xs * f i) (λ i. timesIn i (x ∷ xs) * f i) x (h x (omega arith)) other in
+      let one : timesIn x (x ∷ xs) * f x ≡ f x + timesIn x xs * f x =
+      ap (λ (k : ℕ). (k + timesIn x xs) * f x) here ∙ (add-mul 1 (timesIn x xs) (f x) ∙ ap (λ (k : ℕ). k + timesIn x xs * f x) (one-mul (f x))) in
       omega arith
 
   pub sum-once : {xs : List ℕ} → EachOnce n xs → sumIn f xs ≡ sumOf n f

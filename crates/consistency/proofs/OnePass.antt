@@ -11,7 +11,7 @@ use Rattle.definitions.specs.Watch.{roundPlaces, placesFit, consistent}
 use Rattle.basics.proofs.Quantifiers.{every-same}
 use Rattle.basics.proofs.Tests.{and-l, and-r, and-i, ne-T, T-ne, same-test}
 use Rattle.consistency.specs.Pass.{inRound, foundIn, emptyUpTo, foundFits}
-use Rattle.consistency.specs.Records.{held}
+use Rattle.consistency.specs.Records.{watcherOf}
 use Rattle.consistency.specs.declared.Totals.{Totals}
 use Rattle.consistency.proofs.RecordLaws.{round-e, round-i}
 
@@ -44,7 +44,7 @@ module _ (totals : Totals) (places : List ℕ) where
   abbrev apart : Bool
   apart = eqb (howManyAt n p 6) 0 || eqb (howManyAt n p 2) 0
 
-  pub one-pass : foundFits totals (foundIn places n) empty ≡ consistent (held totals places)
+  pub one-pass : foundFits totals (foundIn places n) empty ≡ consistent (watcherOf totals places)
   unfolding consistent placesFit allOf
   one-pass =
       and-assoc readers writers (empty && (every n (λ t. inRound (p t)) && (alone && apart)))

@@ -8,8 +8,8 @@ use Rattle.definitions.specs.declared.Watcher.{Watcher}
 use Rattle.consistency.specs.declared.Totals.{Totals}
 
 -- the record of N and the totals, and a list of places
-abbrev pub held : Totals → List ℕ → Watcher
-held totals places = record { threads = totals .threads; shared = totals .shared; exclusive = totals .exclusive; places = places }
+abbrev pub watcherOf : Totals → List ℕ → Watcher
+watcherOf totals places = record { threads = totals .threads; shared = totals .shared; exclusive = totals .exclusive; places = places }
 
 -- 200 places, and no more threads than these
 pub record Small (threads : ℕ) (places : List ℕ) : Type 0 where

@@ -10,7 +10,7 @@ ghost use Rattle.definitions.specs.Answers.{answered};
 ghost use Rattle.definitions.specs.Bounds.{mostThreads};
 ghost use Rattle.definitions.specs.Watch.{consistent, watchedReply, recordTests};
 ghost use Rattle.consistency.specs.Pass.{Room, withPlace, foundIn, emptyUpTo, foundFits};
-ghost use Rattle.consistency.specs.Records.{held, Small};
+ghost use Rattle.consistency.specs.Records.{watcherOf, Small};
 
 // A record but for its places: N and the two totals.
 pub struct Totals {
@@ -90,7 +90,7 @@ fn found_fits(totals: Totals, found: Found, empty: bool) -> bool
 // One pass over the 200 entries.
 fn is_consistent(totals: Totals, places: &[u8]) -> bool
     requires { ⌜ Small (totals .threads) (now places) ⌝ }
-    ensures { λ r. ⌜ r ≡ consistent (held totals (now (places .entry))) ⌝ }
+    ensures { λ r. ⌜ r ≡ consistent (watcherOf totals (now (places .entry))) ⌝ }
 {
     let found = find(totals.threads, places);
     let empty = rest_is_empty(totals.threads, places);
@@ -100,7 +100,7 @@ fn is_consistent(totals: Totals, places: &[u8]) -> bool
 // Refusals 1 and 13.
 pub fn test_record(totals: Totals, places: &[u8]) -> Watched
     requires { ⌜ length (now places) ≡ mostThreads ⌝ }
-    ensures { λ r. ⌜ watchedReply r ≡ answered (recordTests (held totals (now (places .entry)))) tt ⌝ }
+    ensures { λ r. ⌜ watchedReply r ≡ answered (recordTests (watcherOf totals (now (places .entry)))) tt ⌝ }
 {
     let count = totals.threads as usize;
     if !count_fits(count) {

@@ -1,6 +1,7 @@
 -- Demand 3 holds with a dispatcher (02 §8): whatever requests a host makes to a fresh table, with any numbers and refused ones among them, and wherever it lets a dispatcher take a turn,
--- by whatever choice of a thread that has one, what is shown is permitted (`steps-safe`). For the host's requests, with each turn's move in its place, show the same and leave the same table (`as-requests`):
--- a turn that made a move is that request, and the others show and change nothing.
+-- by whatever choice of a thread that has one, what is shown is permitted (`steps-safe`).
+-- For the host's requests, with each turn's move in its place, show the same and leave the same table (`as-requests`): a turn that made a move is that request, and the others show and change
+-- nothing.
 use Prim.Native.Nat.{ℕ, _≤_}
 use mathlib.Core.List.{List, [], _∷_, _++_}
 use mathlib.Core.Path.{_≡_, refl, sym, subst, ap, ap₂, _∙_}

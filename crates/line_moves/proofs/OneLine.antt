@@ -19,7 +19,7 @@ use Rattle.basics.specs.Outputs.{RoomAt, PutAt}
 use Rattle.requests.specs.RequestTests.{testedAt}
 use Rattle.requests.specs.declared.Tested.{Tested}
 use Rattle.requests.specs.declared.Tested.the-variants.{Passed, Refused}
-use Rattle.line_moves.specs.Moves.{AllTaken, TurnedDown, Taken}
+use Rattle.line_moves.specs.Moves.{AllTaken, TurnedDown, MovesTaken}
 use Rattle.basics.proofs.Outputs.{none}
 use Rattle.basics.proofs.Replies.{accepted-is, no-test}
 use Rattle.theory.proofs.RequestNumbers.{numbers-e, target-below}
@@ -74,6 +74,6 @@ module _ (text : List ℕ) (f : Form) (read : formFor f ≡ formOf text) (line n
     pub request-room : {moves : List ℕ} {at : ℕ} → RoomAt moves at (bytesOf (requestIn (formOf text))) → RoomAt moves at (bytesOf (r ∷ []))
     request-room {moves} {at} h = subst (λ (g : spec.Form). RoomAt moves at (bytesOf (requestIn g))) (form-is (form.Request r) e) h
 
-    pub line-taken : (moves : List ℕ) (at : ℕ) (moves′ : List ℕ) (a : Answer) → Taken (numberTests line n r) (r ∷ []) moves at moves′ a
-        → Taken (lineTests line n (formOf text)) (requestIn (formOf text)) moves at moves′ a
-    line-taken moves at moves′ a t = subst (λ (g : spec.Form). Taken (lineTests line n g) (requestIn g) moves at moves′ a) (sym (form-is (form.Request r) e)) t
+    pub line-taken : (moves : List ℕ) (at : ℕ) (moves′ : List ℕ) (a : Answer) → MovesTaken (numberTests line n r) (r ∷ []) moves at moves′ a
+        → MovesTaken (lineTests line n (formOf text)) (requestIn (formOf text)) moves at moves′ a
+    line-taken moves at moves′ a t = subst (λ (g : spec.Form). MovesTaken (lineTests line n g) (requestIn g) moves at moves′ a) (sym (form-is (form.Request r) e)) t

@@ -19,6 +19,6 @@ pub record AllTaken (tests : List Test) (rs : List Request) (before : List ℕ) 
 pub record TurnedDown (tests : List Test) (number place : ℕ) : Type 0 where
   pub refusal : _≡_ {A = Reply (Unit {0})} (answered tests tt) (refused number place)
 
-abbrev pub Taken : List Test → List Request → List ℕ → ℕ → List ℕ → Answer → Type 0
-Taken tests rs before at after (Done next) = AllTaken tests rs before at after next
-Taken tests rs before at after (Refused x place) = TurnedDown tests (numberOf x) place
+abbrev pub MovesTaken : List Test → List Request → List ℕ → ℕ → List ℕ → Answer → Type 0
+MovesTaken tests rs before at after (Done next) = AllTaken tests rs before at after next
+MovesTaken tests rs before at after (Refused x place) = TurnedDown tests (numberOf x) place

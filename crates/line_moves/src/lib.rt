@@ -12,12 +12,12 @@ ghost use Rattle.definitions.specs.Forms.{formOf, lineTests, requestIn};
 ghost use Rattle.definitions.specs.Moves.{numberTests};
 ghost use Rattle.definitions.specs.Plan.{bytesOf};
 ghost use Rattle.basics.specs.Outputs.{RoomAt};
-ghost use Rattle.line_moves.specs.Moves.{Taken};
+ghost use Rattle.line_moves.specs.Moves.{MovesTaken};
 
 // A line's request: its numbers are tested, and its triple is put.
 fn take_request(request: Request, line: usize, threads: u8, moves: &mut [u8], at: usize) -> Answer
     requires { ⌜ RoomAt (now moves) at (bytesOf (request ∷ [])) ⌝ }
-    ensures { λ r. ⌜ Taken (numberTests line threads request) (request ∷ []) (now (moves .entry)) at (now (moves .exit)) r ⌝ }
+    ensures { λ r. ⌜ MovesTaken (numberTests line threads request) (request ∷ []) (now (moves .entry)) at (now (moves .exit)) r ⌝ }
 {
     let tested = test_numbers(threads as usize, request);
     if let Tested::Refused(refusal) = tested {
@@ -33,7 +33,7 @@ fn take_request(request: Request, line: usize, threads: u8, moves: &mut [u8], at
 // A line behind the first, handed over without its line feed. It answers the position behind its triple, if it has one.
 pub fn take_line(text: &[u8], line: usize, threads: u8, moves: &mut [u8], at: usize) -> Answer
     requires { ⌜ RoomAt (now moves) at (bytesOf (requestIn (formOf (now text)))) ⌝ }
-    ensures { λ r. ⌜ Taken (lineTests line threads (formOf (now (text .entry)))) (requestIn (formOf (now (text .entry)))) (now (moves .entry)) at (now (moves .exit)) r ⌝ }
+    ensures { λ r. ⌜ MovesTaken (lineTests line threads (formOf (now (text .entry)))) (requestIn (formOf (now (text .entry)))) (now (moves .entry)) at (now (moves .exit)) r ⌝ }
 {
     let form = read_form(text);
     match form {

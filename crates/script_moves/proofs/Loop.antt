@@ -13,7 +13,7 @@ use Rattle.definitions.specs.Texts.{Line, linesOf}
 use Rattle.basics.specs.Outputs.{RoomAt}
 use Rattle.lines.specs.Lines.{LineAt, UnendedAt, DoneAt}
 use Rattle.line_moves.specs.Moves.{AllTaken, TurnedDown}
-use Rattle.script_moves.specs.AllLines.{Roomy}
+use Rattle.script_moves.specs.AllLines.{MovesRoom}
 use Rattle.basics.proofs.Parts.{Partly, no-part, room-by, put-by, all-by}
 use Rattle.basics.proofs.Replies.{behind, in-front}
 use Rattle.basics.proofs.TestLists.{answered-e}
@@ -36,7 +36,7 @@ pub record AtLine (script : List ℕ) (start n : ℕ) (moves₀ moves : List ℕ
   pub put : Partly moves₀ 0 (triplesFrom script start) (triplesFrom script from) moves at
 
 -- where the loop begins
-pub begun : (script : List ℕ) (start n : ℕ) (moves : List ℕ) → start ≤ length script → Roomy script moves → AtLine script start n moves moves start 2 0
+pub begun : (script : List ℕ) (start n : ℕ) (moves : List ℕ) → start ≤ length script → MovesRoom script moves → AtLine script start n moves moves start 2 0
 begun script start n moves h room =
     let ls = linesOf (drop start script) in
     record {

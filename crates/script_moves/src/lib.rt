@@ -7,11 +7,11 @@ use lines::next_line;
 ghost use Prim.Native.Nat.{_≤_};
 ghost use lib.ListN.{length, drop};
 ghost use Rattle.definitions.specs.Texts.{linesOf};
-ghost use Rattle.script_moves.specs.AllLines.{LinesTaken, Roomy};
+ghost use Rattle.script_moves.specs.AllLines.{LinesTaken, MovesRoom};
 
 // The lines from start on, which is the second. They answer the number of bytes of their triples.
 pub fn take_lines(script: &[u8], start: usize, threads: u8, moves: &mut [u8]) -> Answer
-    requires { ⌜ (start ≤ length (now script)) × Roomy (now script) (now moves) ⌝ }
+    requires { ⌜ (start ≤ length (now script)) × MovesRoom (now script) (now moves) ⌝ }
     ensures { λ r. ⌜ LinesTaken (linesOf (drop start (now (script .entry)))) threads (now (moves .entry)) (now (moves .exit)) r ⌝ }
 {
     let mut from = start;

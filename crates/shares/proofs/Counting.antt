@@ -10,7 +10,7 @@ use Rattle.definitions.specs.Bounds.{mostThreads, mostHistory}
 use Rattle.definitions.specs.PlainLock.{pairsOf, checkTests, checkReply}
 use Rattle.definitions.specs.Plan.{planOf, plan}
 use Rattle.definitions.specs.declared.Request.{Request}
-use Rattle.shares.specs.Shares.{each, movesOf, ShareOf}
+use Rattle.shares.specs.Shares.{each, movesByShares, ShareOf}
 use Rattle.basics.proofs.TestLists.{answered-e}
 use Rattle.history.proofs.CheckLaws.{tests-e}
 use Rattle.theory.proofs.Lengths.{pairs-length}
@@ -37,7 +37,7 @@ pub record Counting (n : ℕ) (bytes : List ℕ) (events k shares : ℕ) : Type 
   pub short : length bytes ≤ mostHistory
   pub all : events ≡ length bytes / 2
   pub within : k ≤ events
-  pub total : movesOf n shares + length (planFrom n bytes k) ≡ length (plan n (pairsOf bytes))
+  pub total : movesByShares n shares + length (planFrom n bytes k) ≡ length (plan n (pairsOf bytes))
   pub once-most : shares % each ≤ 3 * k
   pub each-most : shares / each ≤ 2 * k
 
@@ -90,5 +90,5 @@ module _ (n : ℕ) (bytes : List ℕ) (events k shares : ℕ) (a : Counting n by
   counting-each = omega (arith, mul-le-mul-left (shares / each) (a .few), a .each-most)
 
   -- past the last event
-  pub counting-all : events ≤ k → movesOf n shares ≡ length (plan n (pairsOf bytes))
+  pub counting-all : events ≤ k → movesByShares n shares ≡ length (plan n (pairsOf bytes))
   counting-all l = omega (arith, a .total, ap length (from-end n bytes k (omega (arith, a .all))))

@@ -35,11 +35,11 @@ abbrev pub kept : Watcher → Refusal → Update
 kept w refusal = record { at = 0; place = placesIn (w .places) 0; shared = w .shared; exclusive = w .exclusive; answer = Refused refusal }
 
 -- the record in which an entry and the two totals are stored, and a change
-abbrev pub stored : Watcher → ℕ → ℕ → ℕ → ℕ → Watcher
-stored w at place shared exclusive = record { threads = w .threads; shared = shared; exclusive = exclusive; places = set (w .places) at place }
+abbrev pub storedIn : Watcher → ℕ → ℕ → ℕ → ℕ → Watcher
+storedIn w at place shared exclusive = record { threads = w .threads; shared = shared; exclusive = exclusive; places = set (w .places) at place }
 
 abbrev pub updated : Watcher → Update → Watcher
-updated w u = stored w (u .at) (u .place) (u .shared) (u .exclusive)
+updated w u = storedIn w (u .at) (u .place) (u .shared) (u .exclusive)
 
 -- what is right for an event: its entry is one of the record's, the answer is the event's, and stored it leaves the event's record
 pub record Updates (w : Watcher) (x : Pair) (u : Update) : Type 0 where

@@ -11,7 +11,7 @@ use plain_lock::WRITER;
 use plain_lock::judge;
 ghost use mathlib.Core.Path.{_≡_};
 ghost use lib.ListN.{length};
-ghost use Rattle.consistency.specs.Records.{held};
+ghost use Rattle.consistency.specs.Records.{watcherOf};
 ghost use Rattle.definitions.specs.Bounds.{mostThreads};
 ghost use Rattle.definitions.specs.PlainLock.{placesIn};
 ghost use Rattle.updates.specs.Updates.{standingAt, Tested, changed, kept, Updates};
@@ -66,7 +66,7 @@ fn carried_out(at: usize, after: Standing) -> Update
 // A request that is turned down puts back what stands there, at the first entry.
 pub fn turned_down(totals: Totals, places: &[u8], refusal: Refusal) -> Update
     requires { ⌜ length (now places) ≡ mostThreads ⌝ }
-    ensures { λ r. ⌜ r ≡ kept (held totals (now (places .entry))) refusal ⌝ }
+    ensures { λ r. ⌜ r ≡ kept (watcherOf totals (now (places .entry))) refusal ⌝ }
 {
     let first = places[0];
     let answer = Watched::Refused(refusal);
@@ -81,8 +81,8 @@ pub fn turned_down(totals: Totals, places: &[u8], refusal: Refusal) -> Update
 
 // Refusals 9, 10 and 11 of an event, put to a record that passed its tests.
 pub fn judged(totals: Totals, places: &[u8], thread: u16, event: u16) -> Update
-    requires { ⌜ Tested (held totals (now places)) ⌝ }
-    ensures { λ r. ⌜ Updates (held totals (now (places .entry))) (record { thread = thread; event = event }) r ⌝ }
+    requires { ⌜ Tested (watcherOf totals (now places)) ⌝ }
+    ensures { λ r. ⌜ Updates (watcherOf totals (now (places .entry))) (record { thread = thread; event = event }) r ⌝ }
 {
     let place = place_of(places, thread);
     let before = standing(totals, place);

@@ -13,7 +13,7 @@ use updates::judged;
 use updates::turned_down;
 ghost use mathlib.Core.Path.{_≡_};
 ghost use lib.ListN.{length};
-ghost use Rattle.consistency.specs.Records.{held};
+ghost use Rattle.consistency.specs.Records.{watcherOf};
 ghost use Rattle.definitions.specs.Bounds.{mostThreads};
 ghost use Rattle.definitions.specs.Watch.{watchedReply, insideReply, startReply, startRecord, questionReply};
 ghost use Rattle.updates.specs.Updates.{Updates};
@@ -27,7 +27,7 @@ pub struct Begun {
 // Refusals 1 and 13 of the record, then 9, 10 and 11 of the event.
 fn update_of(totals: Totals, places: &[u8], thread: u16, event: u16) -> Update
     requires { ⌜ length (now places) ≡ mostThreads ⌝ }
-    ensures { λ r. ⌜ Updates (held totals (now (places .entry))) (record { thread = thread; event = event }) r ⌝ }
+    ensures { λ r. ⌜ Updates (watcherOf totals (now (places .entry))) (record { thread = thread; event = event }) r ⌝ }
 {
     let tested = test_record(totals, places);
     match tested {
@@ -75,7 +75,7 @@ pub fn start(count: u16, watcher: Watcher) -> Begun
 // Refusals 1 and 13 of the record, then whether anybody is inside, by the two totals.
 fn inside_of(totals: Totals, places: &[u8]) -> Inside
     requires { ⌜ length (now places) ≡ mostThreads ⌝ }
-    ensures { λ r. ⌜ insideReply r ≡ questionReply (held totals (now (places .entry))) ⌝ }
+    ensures { λ r. ⌜ insideReply r ≡ questionReply (watcherOf totals (now (places .entry))) ⌝ }
 {
     let tested = test_record(totals, places);
     match tested {

@@ -13,7 +13,7 @@ use Rattle.definitions.specs.Scripts.{linesTests, requestsIn}
 use Rattle.definitions.specs.Table.{countFits}
 use Rattle.definitions.specs.Texts.{linesOf}
 use Rattle.opening.specs.FirstLine.{FirstAt, ThreadsAt}
-use Rattle.line_moves.specs.Moves.{Taken, AllTaken}
+use Rattle.line_moves.specs.Moves.{MovesTaken, AllTaken}
 use Rattle.basics.proofs.Tests.{true-T}
 use Rattle.theory.proofs.Stages.{count-most}
 use Rattle.reading.proofs.EntryLaws.{too-long, bad-first, bad-count, bad-line, no-room-left, within, triples-room, triples-whole, all-read}
@@ -58,7 +58,7 @@ size c = c .before .taken2 .given .0 .0
 all-taken : (c : tie.After-known-told3) → let t = lines c in let k = known (fitting t) in
     AllTaken (linesTests 2 (k .before .first .given .0 .0) (linesOf (drop (k .before .first .given .0 .1 .0) (start k .args .script .now))))
     (requestsIn (linesOf (drop (k .before .first .given .0 .1 .0) (start k .args .script .now)))) place 0 (t .take-lines .last .1 .1 .1 .0) (size c)
-all-taken c = subst (Taken _ _ _ _ _) (c .before .taken2 .given .1) (lines c .take-lines .ensures)
+all-taken c = subst (MovesTaken _ _ _ _ _) (c .before .taken2 .given .1) (lines c .take-lines .ensures)
 
 long : (c : tie.After-known-told) → length (start c .args .script .now) ≤ 3 * length place
 long c = omega (arith, short c, length-replicate {A = ℕ} (mostScript / 3) 0)
@@ -116,7 +116,7 @@ returns-5 c =
     let t = c .before .before .before .before in
     let e = fitting t in
     let k = known e in
-    bad-line _ _ (short k) _ _ (threads-at k) (counts e) _ _ (subst (Taken _ _ _ _ _) (c .before .taken .given .1) (t .take-lines .ensures))
+    bad-line _ _ (short k) _ _ (threads-at k) (counts e) _ _ (subst (MovesTaken _ _ _ _ _) (c .before .taken .given .1) (t .take-lines .ensures))
 
 returns-6 : tie.Need-returns-6
 returns-6 c =

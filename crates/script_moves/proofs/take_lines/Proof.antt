@@ -5,7 +5,7 @@ use mathlib.Core.Path.{subst, _∙_}
 use borrow.Author.Needs.{needs}
 use lib.ListN.{length}
 use Rattle.lines.specs.Lines.{LineAt, NextAt}
-use Rattle.line_moves.specs.Moves.{Taken}
+use Rattle.line_moves.specs.Moves.{MovesTaken}
 use Rattle.script_moves.proofs.Loop.{AtLine, begun, finished, unended, line-room, refused-line, next}
 use Rattle.script_moves.proofs.take_lines.Statement.{statement}
 use Rattle.script_moves.proofs.take_lines.Tie as tie
@@ -76,7 +76,7 @@ returns-3 c =
     let t = c .before .before .before .before in
     let f = t .before .before .before in
     rw (c .enum-told3 .given .1)
-    (refused-line (here f .loop .inv) (end f) (line-at f) _ _ (subst (Taken _ _ _ _ _) (c .enum-told3 .given .1) (t .take-line .ensures)))
+    (refused-line (here f .loop .inv) (end f) (line-at f) _ _ (subst (MovesTaken _ _ _ _ _) (c .enum-told3 .given .1) (t .take-line .ensures)))
 
 loop-less : tie.Need-loop-less Inv-loop μ-loop
 loop-less c =
@@ -87,7 +87,7 @@ loop-again : tie.Need-loop-again Inv-loop μ-loop
 loop-again c =
     let f = found c in
     let t = c .before .before .before .before .before in
-    next (here f .loop .inv) (end f) (line-at f) _ _ (subst (Taken _ _ _ _ _) (c .before .taken .given .1) (t .take-line .ensures))
+    next (here f .loop .inv) (end f) (line-at f) _ _ (subst (MovesTaken _ _ _ _ _) (c .before .taken .given .1) (t .take-line .ensures))
 
 pub take-lines-spec : {M : Type 1} → statement M
 take-lines-spec =

@@ -6,7 +6,7 @@ use borrow.Author.Needs.{needs}
 use Rattle.definitions.specs.PlainLock.{Pair, placesIn}
 use Rattle.definitions.specs.declared.Watcher.{Watcher}
 use Rattle.plain_lock.specs.declared.Standing.{Standing}
-use Rattle.consistency.specs.Records.{held}
+use Rattle.consistency.specs.Records.{watcherOf}
 use Rattle.updates.specs.Updates.{standingAt, Updates}
 use Rattle.consistency.specs.declared.Totals.{Totals}
 use Rattle.updates.proofs.EventLaws.{counted, bad, fits}
@@ -19,7 +19,7 @@ stands totals places thread place s e f = f ∙ ap (standingAt totals) e
 
 -- the record that the event is put to, the event, and where its thread stands
 abbrev recordAt : tie.After-place-of → Watcher
-recordAt c = let a = c .before .before .args in held (a .totals) (a .places .now)
+recordAt c = let a = c .before .before .args in watcherOf (a .totals) (a .places .now)
 
 abbrev eventAt : tie.After-place-of → Pair
 eventAt c = let a = c .before .before .args in record { thread = a .thread; event = a .event }

@@ -1,7 +1,7 @@
 -- `inside_of` meets its contract: yes where a total isn't 0, and the record's refusal where it has one.
 use mathlib.Core.Bool.{true, false}
 use borrow.Author.Needs.{needs}
-use Rattle.consistency.specs.Records.{held}
+use Rattle.consistency.specs.Records.{watcherOf}
 use Rattle.watch.proofs.TestLaws.{question-answered, question-refused}
 use Rattle.watch.proofs.inside_of.Statement.{statement}
 use Rattle.watch.proofs.inside_of.Tie as tie
@@ -15,13 +15,13 @@ inside-of-spec =
     (λ c.
     let tested = c .before .before .before .before .before in
     let a = tested .before .before .args in
-    question-answered (held (a .totals) (a .places .now)) true (rw (c .before .before .before .enum-told .given .1) at (tested .test-record .ensures)) (c .if1 .taken))
+    question-answered (watcherOf (a .totals) (a .places .now)) true (rw (c .before .before .before .enum-told .given .1) at (tested .test-record .ensures)) (c .if1 .taken))
     (λ c. search needs)
     (λ c.
     let tested = c .before .before .before .before .before in
     let a = tested .before .before .args in
-    question-answered (held (a .totals) (a .places .now)) false (rw (c .before .before .before .enum-told .given .1) at (tested .test-record .ensures)) (c .if1 .left))
+    question-answered (watcherOf (a .totals) (a .places .now)) false (rw (c .before .before .before .enum-told .given .1) at (tested .test-record .ensures)) (c .if1 .left))
     (λ c.
     let tested = c .before .before .before in
     let a = tested .before .before .args in
-    question-refused (held (a .totals) (a .places .now)) _ (rw (c .before .tested .given .1) at (tested .test-record .ensures))))
+    question-refused (watcherOf (a .totals) (a .places .now)) _ (rw (c .before .tested .given .1) at (tested .test-record .ensures))))
