@@ -1,10 +1,10 @@
-// The numbers of the papers as code: whether N is one, the codes of the events, and the numbers of the refusals.
+// The numbers of the papers as code: whether N is one, the codes of the events, and the numbers of the refusals. The event of a
+// code is a function of the type (definitions::Event).
 use definitions::Event;
 use definitions::MOST_THREADS;
-use definitions::MaybeEvent;
 use definitions::Refusal;
 ghost use mathlib.Core.Path.{_≡_};
-ghost use Rattle.definitions.specs.Answers.{eventOf, codeOf, numberOf};
+ghost use Rattle.definitions.specs.Answers.{codeOf, numberOf};
 ghost use Rattle.definitions.specs.Table.{countFits};
 
 // Whether N is from 1 to 200.
@@ -14,24 +14,7 @@ pub fn count_fits(threads: usize) -> bool
     (1 <= threads) & (threads <= MOST_THREADS as usize)
 }
 
-// The event that a code stands for, if there is one.
-pub fn event_of(code: u8) -> MaybeEvent
-    ensures { λ r. ⌜ r ≡ eventOf code ⌝ }
-{
-    match code {
-        Event::FIRST => MaybeEvent::Known(Event::EnterSharedCall),
-        2 => MaybeEvent::Known(Event::EnterSharedReturn),
-        3 => MaybeEvent::Known(Event::LeaveSharedCall),
-        4 => MaybeEvent::Known(Event::LeaveSharedReturn),
-        5 => MaybeEvent::Known(Event::EnterExclusiveCall),
-        6 => MaybeEvent::Known(Event::EnterExclusiveReturn),
-        7 => MaybeEvent::Known(Event::LeaveExclusiveCall),
-        Event::LAST => MaybeEvent::Known(Event::LeaveExclusiveReturn),
-        _ => MaybeEvent::Unknown,
-    }
-}
-
-// "The eight events": the code of each.
+// "The eight events bear codes 1 to 8"
 pub fn code_of(event: Event) -> u8
     ensures { λ r. ⌜ r ≡ codeOf event ⌝ }
 {

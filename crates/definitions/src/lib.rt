@@ -1,6 +1,8 @@
 // The numbers of the scope paper, each once, and the types that the part's entries are asked and answer with. What each case
 // of an enum means in the paper's numbers stands in specs/Answers.antt; the rest of specs/ holds the definitions that every
 // promise of the part cites. "02 §1" is paragraph 1 of the paper of change requests.
+ghost use mathlib.Core.Path.{_≡_};
+ghost use Rattle.definitions.specs.Answers.{eventOf};
 
 // "N threads, 1 to 200"
 pub const MOST_THREADS: u8 = 200;
@@ -94,6 +96,22 @@ impl Event {
     pub const FIRST: u8 = 1;
 
     pub const LAST: u8 = 8;
+
+    pub fn from_code(code: u8) -> MaybeEvent
+        ensures { λ r. ⌜ r ≡ eventOf code ⌝ }
+    {
+        match code {
+            Event::FIRST => MaybeEvent::Known(Event::EnterSharedCall),
+            2 => MaybeEvent::Known(Event::EnterSharedReturn),
+            3 => MaybeEvent::Known(Event::LeaveSharedCall),
+            4 => MaybeEvent::Known(Event::LeaveSharedReturn),
+            5 => MaybeEvent::Known(Event::EnterExclusiveCall),
+            6 => MaybeEvent::Known(Event::EnterExclusiveReturn),
+            7 => MaybeEvent::Known(Event::LeaveExclusiveCall),
+            Event::LAST => MaybeEvent::Known(Event::LeaveExclusiveReturn),
+            _ => MaybeEvent::Unknown,
+        }
+    }
 }
 
 // Why a request is turned down: the numbers 1 to 12 in checking order, and 13 of the watcher, tested after 1 and before 9.

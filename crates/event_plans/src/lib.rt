@@ -1,5 +1,4 @@
 // The triples that the plan makes for one event.
-use codes::event_of;
 use definitions::CALL_EXCLUSIVE;
 use definitions::CALL_SHARED;
 use definitions::Event;
@@ -37,7 +36,7 @@ pub fn write_pair(out: &mut [u8], at: usize, threads: u8, thread: u8, code: u8) 
     requires { ⌜ RoomAt (now out) at (bytesOf (planOf threads (record { thread = thread; event = code }))) ⌝ }
     ensures { λ r. ⌜ PutAt (now (out .entry)) at (bytesOf (planOf threads (record { thread = thread; event = code }))) (now (out .exit)) r ⌝ }
 {
-    let found = event_of(code);
+    let found = Event::from_code(code);
     let MaybeEvent::Known(event) = found else {
         return at;
     };

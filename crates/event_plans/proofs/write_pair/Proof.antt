@@ -29,7 +29,7 @@ text c code = let a = entry c .args in bytesOf (planOf (a .threads) (record { th
 -- in the arm of event f the code is f's
 code-is : (c : tie.After-known-told) (f : Event) → event c ≡ f → codeOf f ≡ entry c .args .code
 code-is c f q =
-    ap codeOf (sym q) ∙ known-code (entry c .args .code) (event c) (sym (c .before .found .given .1) ∙ c .before .before .before .event-of .ensures)
+    ap codeOf (sym q) ∙ known-code (entry c .args .code) (event c) (sym (c .before .found .given .1) ∙ c .before .before .before .from-code .ensures)
 
 room : (c : tie.After-known-told) (f : Event) → event c ≡ f → RoomAt (entry c .args .out .now) (entry c .args .at) (text c (codeOf f))
 room c f q = subst (λ (k : ℕ). RoomAt (entry c .args .out .now) (entry c .args .at) (text c k)) (sym (code-is c f q)) (entry c .pre)
@@ -44,7 +44,7 @@ nothing out at rs e = rw e (put-none out at)
 returns : tie.Need-returns
 returns c =
     let a = c .before .before .before .before .args in
-    nothing (a .out .now) (a .at) _ (no-plan (a .threads) (a .thread) (a .code) (sym (c .enum-told .given .1) ∙ c .before .before .event-of .ensures))
+    nothing (a .out .now) (a .at) _ (no-plan (a .threads) (a .thread) (a .code) (sym (c .enum-told .given .1) ∙ c .before .before .from-code .ensures))
 
 put-triple-requires : tie.Need-put-triple-requires
 unfolding planOf gather
