@@ -48,35 +48,11 @@ not-hold : (c : tie.Else5) → same (part (up2 (up3 (up4 (up5 c))))) (bytes " (h
 unfolding bytes
 not-hold c = sym (c .before .same-text5 .ensures) ∙ c .if5 .left
 
-slice-aggregate-same-text : tie.Need-slice-aggregate-same-text
-slice-aggregate-same-text c = search needs
-
-same-text-requires : tie.Need-same-text-requires
-same-text-requires c κs = search needs
-
-cast-asking : tie.Need-cast-asking
-cast-asking c = search needs
-
-asking-requires : tie.Need-asking-requires
-asking-requires c κs = search needs
-
 returns : tie.Need-returns
 unfolding actForm plainForm plainMoves gather actText bytes
 returns c =
     let test = c .before in
     rw (sym (test .before .same-text .ensures) ∙ test .if1 .taken) (ap formFor (c .asking .ensures))
-
-slice-aggregate-same-text-2 : tie.Need-slice-aggregate-same-text-2
-slice-aggregate-same-text-2 c = search needs
-
-same-text-requires-2 : tie.Need-same-text-requires-2
-same-text-requires-2 c κs = search needs
-
-cast-asking-2 : tie.Need-cast-asking-2
-cast-asking-2 c = search needs
-
-asking-requires-2 : tie.Need-asking-requires-2
-asking-requires-2 c κs = search needs
 
 returns-2 : tie.Need-returns-2
 unfolding actForm plainForm plainMoves gather actText bytes
@@ -85,36 +61,12 @@ returns-2 c =
     let e = test .before .before .before in
     rw (not-go e, sym (test .before .same-text2 .ensures) ∙ test .if2 .taken) (ap formFor (c .asking2 .ensures))
 
-slice-aggregate-same-text-3 : tie.Need-slice-aggregate-same-text-3
-slice-aggregate-same-text-3 c = search needs
-
-same-text-requires-3 : tie.Need-same-text-requires-3
-same-text-requires-3 c κs = search needs
-
-cast-asking-3 : tie.Need-cast-asking-3
-cast-asking-3 c = search needs
-
-asking-requires-3 : tie.Need-asking-requires-3
-asking-requires-3 c κs = search needs
-
 returns-3 : tie.Need-returns-3
 unfolding actForm plainForm plainMoves gather actText bytes
 returns-3 c =
     let test = c .before in
     let e = test .before .before .before in
     rw (not-go (up2 e), not-shared e, sym (test .before .same-text3 .ensures) ∙ test .if3 .taken) (ap formFor (c .asking3 .ensures))
-
-slice-aggregate-same-text-4 : tie.Need-slice-aggregate-same-text-4
-slice-aggregate-same-text-4 c = search needs
-
-same-text-requires-4 : tie.Need-same-text-requires-4
-same-text-requires-4 c κs = search needs
-
-cast-asking-4 : tie.Need-cast-asking-4
-cast-asking-4 c = search needs
-
-asking-requires-4 : tie.Need-asking-requires-4
-asking-requires-4 c κs = search needs
 
 returns-4 : tie.Need-returns-4
 unfolding actForm plainForm plainMoves gather actText bytes
@@ -124,18 +76,6 @@ returns-4 c =
     rw (not-go (up2 (up3 e)), not-shared (up3 e), not-exclusive e, sym (test .before .same-text4 .ensures) ∙ test .if4 .taken)
     (ap formFor (c .asking4 .ensures))
 
-slice-aggregate-same-text-5 : tie.Need-slice-aggregate-same-text-5
-slice-aggregate-same-text-5 c = search needs
-
-same-text-requires-5 : tie.Need-same-text-requires-5
-same-text-requires-5 c κs = search needs
-
-cast-asking-5 : tie.Need-cast-asking-5
-cast-asking-5 c = search needs
-
-asking-requires-5 : tie.Need-asking-requires-5
-asking-requires-5 c κs = search needs
-
 returns-5 : tie.Need-returns-5
 unfolding actForm plainForm plainMoves gather actText bytes
 returns-5 c =
@@ -143,9 +83,6 @@ returns-5 c =
     let e = test .before .before .before in
     rw (not-go (up2 (up3 (up4 e))), not-shared (up3 (up4 e)), not-exclusive (up4 e), not-relent e, sym (test .before .same-text5 .ensures) ∙ test .if5 .taken)
     (ap formFor (c .asking5 .ensures))
-
-read-aimed-requires : tie.Need-read-aimed-requires
-read-aimed-requires c κs = search needs
 
 returns-6 : tie.Need-returns-6
 unfolding actForm plainForm plainMoves gather actText bytes
@@ -158,30 +95,30 @@ pub read-act-spec : {M : Type 1} → statement M
 read-act-spec =
     tie.close
     (tie.spec
-    slice-aggregate-same-text
-    same-text-requires
-    cast-asking
-    asking-requires
+    (λ c. search needs)
+    (λ c κs. search needs)
+    (λ c. search needs)
+    (λ c κs. search needs)
     returns
-    slice-aggregate-same-text-2
-    same-text-requires-2
-    cast-asking-2
-    asking-requires-2
+    (λ c. search needs)
+    (λ c κs. search needs)
+    (λ c. search needs)
+    (λ c κs. search needs)
     returns-2
-    slice-aggregate-same-text-3
-    same-text-requires-3
-    cast-asking-3
-    asking-requires-3
+    (λ c. search needs)
+    (λ c κs. search needs)
+    (λ c. search needs)
+    (λ c κs. search needs)
     returns-3
-    slice-aggregate-same-text-4
-    same-text-requires-4
-    cast-asking-4
-    asking-requires-4
+    (λ c. search needs)
+    (λ c κs. search needs)
+    (λ c. search needs)
+    (λ c κs. search needs)
     returns-4
-    slice-aggregate-same-text-5
-    same-text-requires-5
-    cast-asking-5
-    asking-requires-5
+    (λ c. search needs)
+    (λ c κs. search needs)
+    (λ c. search needs)
+    (λ c κs. search needs)
     returns-5
-    read-aimed-requires
+    (λ c κs. search needs)
     returns-6)

@@ -49,26 +49,11 @@ clear-long c = starts-length (bytes " (clear ") (part (up (c .before))) (is-clea
 aimed : (thread mv : ℕ) (xs : List ℕ) (n : ℕ) → targetForm thread mv (numberRead (take (length xs - n) (drop n xs))) ≡ targetForm thread mv (numberRead (drop n xs))
 aimed thread mv xs n = ap (λ (l : List ℕ). targetForm thread mv (numberRead l)) (from-on xs n)
 
-slice-aggregate-starts-with : tie.Need-slice-aggregate-starts-with
-slice-aggregate-starts-with c = search needs
-
-starts-with-requires : tie.Need-starts-with-requires
-starts-with-requires c κs = search needs
-
-cast-read-target : tie.Need-cast-read-target
-cast-read-target c = search needs
-
 sub-read-target : tie.Need-sub-read-target
 sub-read-target c = set-long c
 
 part-read-target-start : tie.Need-part-read-target-start
 part-read-target-start c = set-long c
-
-part-read-target-end : tie.Need-part-read-target-end
-part-read-target-end c = search needs
-
-read-target-requires : tie.Need-read-target-requires
-read-target-requires c κs = search needs
 
 returns : tie.Need-returns
 unfolding aimedForm
@@ -76,26 +61,11 @@ returns c =
     let test = c .before .before in
     rw (is-set test) (c .read-target .ensures ∙ aimed _ setMove (part (test .before)) 6)
 
-slice-aggregate-starts-with-2 : tie.Need-slice-aggregate-starts-with-2
-slice-aggregate-starts-with-2 c = search needs
-
-starts-with-requires-2 : tie.Need-starts-with-requires-2
-starts-with-requires-2 c κs = search needs
-
-cast-read-target-2 : tie.Need-cast-read-target-2
-cast-read-target-2 c = search needs
-
 sub-read-target-2 : tie.Need-sub-read-target-2
 sub-read-target-2 c = clear-long c
 
 part-read-target-start-2 : tie.Need-part-read-target-start-2
 part-read-target-start-2 c = clear-long c
-
-part-read-target-end-2 : tie.Need-part-read-target-end-2
-part-read-target-end-2 c = search needs
-
-read-target-requires-2 : tie.Need-read-target-requires-2
-read-target-requires-2 c κs = search needs
 
 returns-2 : tie.Need-returns-2
 unfolding aimedForm
@@ -111,20 +81,20 @@ pub read-aimed-spec : {M : Type 1} → statement M
 read-aimed-spec =
     tie.close
     (tie.spec
-    slice-aggregate-starts-with
-    starts-with-requires
-    cast-read-target
+    (λ c. search needs)
+    (λ c κs. search needs)
+    (λ c. search needs)
     sub-read-target
     part-read-target-start
-    part-read-target-end
-    read-target-requires
+    (λ c. search needs)
+    (λ c κs. search needs)
     returns
-    slice-aggregate-starts-with-2
-    starts-with-requires-2
-    cast-read-target-2
+    (λ c. search needs)
+    (λ c κs. search needs)
+    (λ c. search needs)
     sub-read-target-2
     part-read-target-start-2
-    part-read-target-end-2
-    read-target-requires-2
+    (λ c. search needs)
+    (λ c κs. search needs)
     returns-2
     returns-3)

@@ -14,18 +14,6 @@ use Rattle.act_forms.proofs.read_target.Tie as tie
 abbrev aimed : tie.After-read-closed → ℕ → Form
 aimed c target = let args = c .before .before .before .args in request (ask (args .thread) (args .mv) target)
 
-slice-aggregate-read-closed : tie.Need-slice-aggregate-read-closed
-slice-aggregate-read-closed c = search needs
-
-read-closed-requires : tie.Need-read-closed-requires
-read-closed-requires c κs = search needs
-
-enum-known-number : tie.Need-enum-known-number
-enum-known-number c = search needs
-
-asking-requires : tie.Need-asking-requires
-asking-requires c κs = search needs
-
 enum-told : tie.Need-enum-told
 enum-told c = search needs
 
@@ -45,10 +33,10 @@ pub read-target-spec : {M : Type 1} → statement M
 read-target-spec =
     tie.close
     (tie.spec
-    slice-aggregate-read-closed
-    read-closed-requires
-    enum-known-number
-    asking-requires
+    (λ c. search needs)
+    (λ c κs. search needs)
+    (λ c. search needs)
+    (λ c κs. search needs)
     enum-told
     returns
     returns-2)

@@ -14,23 +14,11 @@ use Rattle.answer_numbers.proofs.answer_number.Tie as tie
 small : (a b : Answer) → a ≡ b → valueIn (answerReply a) < valueBound → valueIn (answerReply b) < valueBound
 small a b e h = subst (λ (x : Answer). valueIn (answerReply x) < valueBound) e h
 
-enum-known-answer : tie.Need-enum-known-answer
-enum-known-answer c = search needs
-
 mul-result : tie.Need-mul-result
 mul-result c = omega (arith, small _ _ (c .before .answer .given .1) (c .before .before .before .pre))
 
-enum-known-answer-2 : tie.Need-enum-known-answer-2
-enum-known-answer-2 c = search needs
-
 mul-result-2 : tie.Need-mul-result-2
 mul-result-2 c = omega (arith, small _ _ (c .before .answer2 .given .1) (c .before .before .before .pre))
-
-number-of-requires : tie.Need-number-of-requires
-number-of-requires c κs = search needs
-
-cast-result : tie.Need-cast-result
-cast-result c = search needs
 
 add-result : tie.Need-add-result
 add-result c =
@@ -54,12 +42,12 @@ pub answer-number-spec : {M : Type 1} → statement M
 answer-number-spec =
     tie.close
     (tie.spec
-    enum-known-answer
+    (λ c. search needs)
     mul-result
-    enum-known-answer-2
+    (λ c. search needs)
     mul-result-2
-    number-of-requires
-    cast-result
+    (λ c κs. search needs)
+    (λ c. search needs)
     add-result
     returns
     returns-2)

@@ -16,12 +16,6 @@ use Rattle.answer_numbers.proofs.hold_place.Tie as tie
 by-test : (x : Refusal) (place : ℕ) {b : Bool} → leb place (valueBound - 1) ≡ b → held (refused (numberOf x) place) ≡ refused (numberOf x) (cond b place (valueBound - 1))
 by-test x place e = ap (λ (t : Bool). refused (numberOf x) (cond t place (valueBound - 1))) e
 
-enum-known-answer : tie.Need-enum-known-answer
-enum-known-answer c = search needs
-
-enum-known-answer-2 : tie.Need-enum-known-answer-2
-enum-known-answer-2 c = search needs
-
 returns : tie.Need-returns
 returns c = let g = c .before .before .answer2 .given in sym (ap (λ (a : Answer). held (answerReply a)) (g .1) ∙ by-test (g .0 .0) (g .0 .1 .0) (lt-leb _ _ (c .if1 .taken)))
 
@@ -33,4 +27,4 @@ returns-3 c = let g = c .before .before .answer2 .given in sym (ap (λ (a : Answ
 
 pub hold-place-spec : {M : Type 1} → statement M
 hold-place-spec =
-    tie.close (tie.spec enum-known-answer enum-known-answer-2 returns returns-2 returns-3)
+    tie.close (tie.spec (λ c. search needs) (λ c. search needs) returns returns-2 returns-3)

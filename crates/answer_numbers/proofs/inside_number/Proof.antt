@@ -8,21 +8,6 @@ use Rattle.answer_numbers.specs.Encoding.{encoded, insideNumber}
 use Rattle.answer_numbers.proofs.inside_number.Statement.{statement}
 use Rattle.answer_numbers.proofs.inside_number.Tie as tie
 
-enum-told : tie.Need-enum-told
-enum-told c = search needs
-
-enum-told-2 : tie.Need-enum-told-2
-enum-told-2 c = search needs
-
-enum-known-answer : tie.Need-enum-known-answer
-enum-known-answer c = search needs
-
-number-of-requires : tie.Need-number-of-requires
-number-of-requires c κs = search needs
-
-cast-result : tie.Need-cast-result
-cast-result c = search needs
-
 returns : tie.Need-returns
 unfolding encoded
 returns c = search needs
@@ -37,4 +22,4 @@ returns-3 c = c .number-of .ensures ∙ (sym (zero-add _) ∙ sym (ap (λ (a : I
 
 pub inside-number-spec : {M : Type 1} → statement M
 inside-number-spec =
-    tie.close (tie.spec enum-told enum-told-2 enum-known-answer number-of-requires cast-result returns returns-2 returns-3)
+    tie.close (tie.spec (λ c. search needs) (λ c. search needs) (λ c. search needs) (λ c κs. search needs) (λ c. search needs) returns returns-2 returns-3)

@@ -14,12 +14,6 @@ use Rattle.answer_numbers.proofs.reading_number.Tie as tie
 small : (a b : Reading) → a ≡ b → listedIn (readingReply a) < valueBound → listedIn (readingReply b) < valueBound
 small a b e h = subst (λ (x : Reading). listedIn (readingReply x) < valueBound) e h
 
-enum-known-answer : tie.Need-enum-known-answer
-enum-known-answer c = search needs
-
-cast-result : tie.Need-cast-result
-cast-result c = search needs
-
 mul-result : tie.Need-mul-result
 mul-result c = omega (arith, small _ _ (c .before .answer .given .1) (c .before .before .before .pre))
 
@@ -29,17 +23,8 @@ add-result c = omega (arith, small _ _ (c .before .answer .given .1) (c .before 
 mul-result-2 : tie.Need-mul-result-2
 mul-result-2 c = omega (arith, small _ _ (c .before .answer .given .1) (c .before .before .before .pre))
 
-enum-known-answer-2 : tie.Need-enum-known-answer-2
-enum-known-answer-2 c = search needs
-
 mul-result-3 : tie.Need-mul-result-3
 mul-result-3 c = omega (arith, small _ _ (c .before .answer2 .given .1) (c .before .before .before .pre))
-
-number-of-requires : tie.Need-number-of-requires
-number-of-requires c κs = search needs
-
-cast-result-2 : tie.Need-cast-result-2
-cast-result-2 c = search needs
 
 add-result-2 : tie.Need-add-result-2
 add-result-2 c =
@@ -63,15 +48,15 @@ pub reading-number-spec : {M : Type 1} → statement M
 reading-number-spec =
     tie.close
     (tie.spec
-    enum-known-answer
-    cast-result
+    (λ c. search needs)
+    (λ c. search needs)
     mul-result
     add-result
     mul-result-2
-    enum-known-answer-2
+    (λ c. search needs)
     mul-result-3
-    number-of-requires
-    cast-result-2
+    (λ c κs. search needs)
+    (λ c. search needs)
     add-result-2
     returns
     returns-2)

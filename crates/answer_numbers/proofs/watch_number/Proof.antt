@@ -8,18 +8,6 @@ use Rattle.answer_numbers.specs.Encoding.{encoded, watchNumber}
 use Rattle.answer_numbers.proofs.watch_number.Statement.{statement}
 use Rattle.answer_numbers.proofs.watch_number.Tie as tie
 
-enum-told : tie.Need-enum-told
-enum-told c = search needs
-
-enum-known-answer : tie.Need-enum-known-answer
-enum-known-answer c = search needs
-
-number-of-requires : tie.Need-number-of-requires
-number-of-requires c κs = search needs
-
-cast-result : tie.Need-cast-result
-cast-result c = search needs
-
 returns : tie.Need-returns
 unfolding encoded
 returns c = search needs
@@ -29,4 +17,4 @@ unfolding encoded
 returns-2 c = c .number-of .ensures ∙ (sym (zero-add _) ∙ sym (ap (λ (a : Watched). watchNumber (watchedReply a)) (c .before .before .answer .given .1)))
 
 pub watch-number-spec : {M : Type 1} → statement M
-watch-number-spec = tie.close (tie.spec enum-told enum-known-answer number-of-requires cast-result returns returns-2)
+watch-number-spec = tie.close (tie.spec (λ c. search needs) (λ c. search needs) (λ c κs. search needs) (λ c. search needs) returns returns-2)

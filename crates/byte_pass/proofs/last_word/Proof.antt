@@ -18,15 +18,6 @@ word-is l i at word e w byte =
     let f : at - 1 + 3 ≡ 5 + 3 * i = omega arith in
     omega (arith, byte, rw (p, b, f) at w)
 
-phase-at-requires : tie.Need-phase-at-requires
-phase-at-requires c κs = search needs
-
-sub-word-at : tie.Need-sub-word-at
-sub-word-at c = search needs
-
-word-at-requires : tie.Need-word-at-requires
-word-at-requires c κs = search needs
-
 returns : tie.Need-returns
 returns c =
     let start = c .before .before .before in
@@ -34,4 +25,4 @@ returns c =
     word-is (a .table .now) (a .thread) _ _ (c .before .phase-at .ensures) (c .word-at .ensures) (c .before .before .shared-slice-known .given _ .fits)
 
 pub last-word-spec : {M : Type 1} → statement M
-last-word-spec = tie.close (tie.spec phase-at-requires sub-word-at word-at-requires returns)
+last-word-spec = tie.close (tie.spec (λ c κs. search needs) (λ c. search needs) (λ c κs. search needs) returns)

@@ -10,12 +10,6 @@ returns : tie.Need-returns
 unfolding oddWord
 returns c = let a = c .before .before .args in simp (eq-eqb (a .last % 2) 0 (c .if1 .taken))
 
-sub-last-word : tie.Need-sub-last-word
-sub-last-word c = search needs
-
-last-word-requires : tie.Need-last-word-requires
-last-word-requires c κs = search needs
-
 returns-2 : tie.Need-returns-2
 unfolding oddWord
 returns-2 c =
@@ -24,4 +18,4 @@ returns-2 c =
     simp (ne-eqb (a .last % 2) 0 (at .if1 .left), c .last-word .ensures)
 
 pub odd-word-spec : {M : Type 1} → statement M
-odd-word-spec = tie.close (tie.spec returns sub-last-word last-word-requires returns-2)
+odd-word-spec = tie.close (tie.spec returns (λ c. search needs) (λ c κs. search needs) returns-2)

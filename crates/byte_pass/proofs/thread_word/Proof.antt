@@ -17,16 +17,10 @@ word-is l i at e =
     let p : at + 3 ≡ 3 + 3 * (i + 1) = omega arith in
     rw (b, f, p, e)
 
-phase-at-requires : tie.Need-phase-at-requires
-phase-at-requires c κs = search needs
-
-word-at-requires : tie.Need-word-at-requires
-word-at-requires c κs = search needs
-
 returns : tie.Need-returns
 returns c =
     let a = c .before .before .before .args in
     c .word-at .ensures ∙ word-is (a .table .now) (a .thread) _ (c .before .phase-at .ensures)
 
 pub thread-word-spec : {M : Type 1} → statement M
-thread-word-spec = tie.close (tie.spec phase-at-requires word-at-requires returns)
+thread-word-spec = tie.close (tie.spec (λ c κs. search needs) (λ c κs. search needs) returns)

@@ -6,35 +6,14 @@ use lib.ListN.{getD}
 use Rattle.byte_pass.proofs.word_at.Statement.{statement}
 use Rattle.byte_pass.proofs.word_at.Tie as tie
 
-shared-slice-read-a : tie.Need-shared-slice-read-a
-shared-slice-read-a c = search needs
-
 cast-a : tie.Need-cast-a
 cast-a c = omega (arith, c .shared-slice-known .given (c .before .args .at))
-
-add-b : tie.Need-add-b
-add-b c = search needs
-
-shared-slice-read-b : tie.Need-shared-slice-read-b
-shared-slice-read-b c = search needs
 
 cast-b : tie.Need-cast-b
 cast-b c = omega (arith, c .shared-slice-known2 .given (c .before .before .args .at + 1))
 
-add-c : tie.Need-add-c
-add-c c = search needs
-
-shared-slice-read-c : tie.Need-shared-slice-read-c
-shared-slice-read-c c = search needs
-
 cast-c : tie.Need-cast-c
 cast-c c = omega (arith, c .shared-slice-known3 .given (c .before .before .before .args .at + 2))
-
-add-d : tie.Need-add-d
-add-d c = search needs
-
-shared-slice-read-d : tie.Need-shared-slice-read-d
-shared-slice-read-d c = search needs
 
 -- what stands at a place is a byte
 module _ (c : tie.After-shared-slice-known4) where
@@ -65,23 +44,20 @@ mul-result-3 c = omega (arith, is-byte c (at c + 3))
 add-result-3 : tie.Need-add-result-3
 add-result-3 c = omega (arith, is-byte c (at c), is-byte c (at c + 1), is-byte c (at c + 2), is-byte c (at c + 3))
 
-returns : tie.Need-returns
-returns c = search needs
-
 pub word-at-spec : {M : Type 1} → statement M
 word-at-spec =
     tie.close
     (tie.spec
-    shared-slice-read-a
+    (λ c. search needs)
     cast-a
-    add-b
-    shared-slice-read-b
+    (λ c. search needs)
+    (λ c. search needs)
     cast-b
-    add-c
-    shared-slice-read-c
+    (λ c. search needs)
+    (λ c. search needs)
     cast-c
-    add-d
-    shared-slice-read-d
+    (λ c. search needs)
+    (λ c. search needs)
     cast-d
     mul-result
     add-result
@@ -89,4 +65,4 @@ word-at-spec =
     add-result-2
     mul-result-3
     add-result-3
-    returns)
+    (λ c. search needs))

@@ -4,11 +4,8 @@ use borrow.Author.Needs.{needs}
 use Rattle.codes.proofs.count_fits.Statement.{statement}
 use Rattle.codes.proofs.count_fits.Tie as tie
 
-cast-result : tie.Need-cast-result
-cast-result c = search needs
-
 returns : tie.Need-returns
 returns c = refl
 
 pub count-fits-spec : {M : Type 1} → statement M
-count-fits-spec = tie.close (tie.spec cast-result returns)
+count-fits-spec = tie.close (tie.spec (λ c. search needs) returns)

@@ -52,12 +52,6 @@ with-place-requires c κs =
     let start = at .before .before in
     room (start .args .threads) (start .args .places .now) (at .loop .found) (at .loop .t) (start .pre .few) (at .loop .inv) (c .before .loop-test .taken)
 
-add-t : tie.Need-add-t Inv-loop μ-loop
-add-t c = search needs
-
-loop-less : tie.Need-loop-less Inv-loop μ-loop
-loop-less c = search needs
-
 loop-again : tie.Need-loop-again Inv-loop μ-loop
 loop-again c =
     let at = c .before .before .before in
@@ -76,4 +70,4 @@ returns c =
 pub find-spec : {M : Type 1} → statement M
 find-spec =
     tie.close
-    (tie.spec Inv-loop μ-loop loop-holds shared-slice-read-place with-place-requires add-t loop-less loop-again returns)
+    (tie.spec Inv-loop μ-loop loop-holds shared-slice-read-place with-place-requires (λ c. search needs) (λ c. search needs) loop-again returns)

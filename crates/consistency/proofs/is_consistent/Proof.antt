@@ -7,15 +7,6 @@ use Rattle.consistency.proofs.OnePass.{one-pass}
 use Rattle.consistency.proofs.is_consistent.Statement.{statement}
 use Rattle.consistency.proofs.is_consistent.Tie as tie
 
-find-requires : tie.Need-find-requires
-find-requires c κs = search needs
-
-rest-is-empty-requires : tie.Need-rest-is-empty-requires
-rest-is-empty-requires c κs = search needs
-
-found-fits-requires : tie.Need-found-fits-requires
-found-fits-requires c κs = search needs
-
 returns : tie.Need-returns
 returns c =
     let rest = c .before in
@@ -27,4 +18,4 @@ returns c =
     ∙ (ap (foundFits (a .totals) (foundIn places (a .totals .threads))) (rest .rest-is-empty .ensures) ∙ one-pass (a .totals) places))
 
 pub is-consistent-spec : {M : Type 1} → statement M
-is-consistent-spec = tie.close (tie.spec find-requires rest-is-empty-requires found-fits-requires returns)
+is-consistent-spec = tie.close (tie.spec (λ c κs. search needs) (λ c κs. search needs) (λ c κs. search needs) returns)

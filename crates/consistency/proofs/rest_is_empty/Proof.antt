@@ -44,17 +44,8 @@ abbrev μ-loop : tie.MeasureT-loop
 loop-holds : tie.Need-loop-holds Inv-loop μ-loop
 loop-holds c = record { least = omega arith; within = c .pre .few; so-far = none (c .args .threads) (c .args .places .now) }
 
-cast-loop : tie.Need-cast-loop Inv-loop μ-loop
-cast-loop c = search needs
-
 shared-slice-read-place : tie.Need-shared-slice-read-place Inv-loop μ-loop
 shared-slice-read-place c = omega (arith, c .before .before .before .pre .long, c .before .loop-test .taken)
-
-add-t : tie.Need-add-t Inv-loop μ-loop
-add-t c = search needs
-
-loop-less : tie.Need-loop-less Inv-loop μ-loop
-loop-less c = search needs
 
 loop-again : tie.Need-loop-again Inv-loop μ-loop
 loop-again c =
@@ -75,4 +66,4 @@ returns c =
 
 pub rest-is-empty-spec : {M : Type 1} → statement M
 rest-is-empty-spec =
-    tie.close (tie.spec Inv-loop μ-loop loop-holds cast-loop shared-slice-read-place add-t loop-less loop-again returns)
+    tie.close (tie.spec Inv-loop μ-loop loop-holds (λ c. search needs) shared-slice-read-place (λ c. search needs) (λ c. search needs) loop-again returns)

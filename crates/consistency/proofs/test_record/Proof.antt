@@ -9,12 +9,6 @@ use Rattle.consistency.proofs.TestLaws.{few-threads, record-size, recor
 use Rattle.consistency.proofs.test_record.Statement.{statement}
 use Rattle.consistency.proofs.test_record.Tie as tie
 
-cast-count : tie.Need-cast-count
-cast-count c = search needs
-
-count-fits-requires : tie.Need-count-fits-requires
-count-fits-requires c κs = search needs
-
 returns : tie.Need-returns
 returns c =
     let a = c .before .before .before .before .args in
@@ -41,4 +35,4 @@ returns-3 c =
 
 pub test-record-spec : {M : Type 1} → statement M
 test-record-spec =
-    tie.close (tie.spec cast-count count-fits-requires returns is-consistent-requires returns-2 returns-3)
+    tie.close (tie.spec (λ c. search needs) (λ c κs. search needs) returns is-consistent-requires returns-2 returns-3)

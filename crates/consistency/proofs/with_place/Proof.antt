@@ -6,12 +6,6 @@ use Rattle.basics.proofs.Casts.{cast-is, cast-most}
 use Rattle.consistency.proofs.with_place.Statement.{statement}
 use Rattle.consistency.proofs.with_place.Tie as tie
 
-cast-reader : tie.Need-cast-reader
-cast-reader c = search needs
-
-cast-writer : tie.Need-cast-writer
-cast-writer c = search needs
-
 add-shared : tie.Need-add-shared
 add-shared c = record { fits = omega (arith, c .before .pre .shared, cast-most (eqb (c .before .args .place) 2)) }
 
@@ -24,4 +18,4 @@ returns c =
     rw (cast-is (eqb place 2), cast-is (eqb place 6))
 
 pub with-place-spec : {M : Type 1} → statement M
-with-place-spec = tie.close (tie.spec cast-reader cast-writer add-shared add-exclusive returns)
+with-place-spec = tie.close (tie.spec (λ c. search needs) (λ c. search needs) add-shared add-exclusive returns)

@@ -59,23 +59,11 @@ open-long : (c : tie.Then3) → 1 ≤ length (line (up2 (up3 (c .before))))
 unfolding bytes
 open-long c = starts-length (bytes "(") (line (up2 (up3 (c .before)))) (is-open c)
 
-slice-aggregate-starts-with : tie.Need-slice-aggregate-starts-with
-slice-aggregate-starts-with c = search needs
-
-starts-with-requires : tie.Need-starts-with-requires
-starts-with-requires c κs = search needs
-
 sub-read-threads : tie.Need-sub-read-threads
 sub-read-threads c = threads-long c
 
 part-read-threads-start : tie.Need-part-read-threads-start
 part-read-threads-start c = threads-long c
-
-part-read-threads-end : tie.Need-part-read-threads-end
-part-read-threads-end c = search needs
-
-read-threads-requires : tie.Need-read-threads-requires
-read-threads-requires c κs = search needs
 
 returns : tie.Need-returns
 unfolding formOf
@@ -83,23 +71,11 @@ returns c =
     let test = c .before .before in
     rw (is-threads test) (c .read-threads .ensures ∙ ap (λ (l : List ℕ). threadsForm (numberRead l)) (from-on (line (test .before)) 9))
 
-slice-aggregate-starts-with-2 : tie.Need-slice-aggregate-starts-with-2
-slice-aggregate-starts-with-2 c = search needs
-
-starts-with-requires-2 : tie.Need-starts-with-requires-2
-starts-with-requires-2 c κs = search needs
-
 sub-read-note : tie.Need-sub-read-note
 sub-read-note c = note-long c
 
 part-read-note-start : tie.Need-part-read-note-start
 part-read-note-start c = note-long c
-
-part-read-note-end : tie.Need-part-read-note-end
-part-read-note-end c = search needs
-
-read-note-requires : tie.Need-read-note-requires
-read-note-requires c κs = search needs
 
 returns-2 : tie.Need-returns-2
 unfolding formOf
@@ -108,23 +84,11 @@ returns-2 c =
     rw (not-threads (test .before .before .before), is-note test)
     (c .read-note .ensures ∙ ap noteForm (from-on (line (up2 (test .before))) 6))
 
-slice-aggregate-starts-with-3 : tie.Need-slice-aggregate-starts-with-3
-slice-aggregate-starts-with-3 c = search needs
-
-starts-with-requires-3 : tie.Need-starts-with-requires-3
-starts-with-requires-3 c κs = search needs
-
 sub-read-request : tie.Need-sub-read-request
 sub-read-request c = open-long c
 
 part-read-request-start : tie.Need-part-read-request-start
 part-read-request-start c = open-long c
-
-part-read-request-end : tie.Need-part-read-request-end
-part-read-request-end c = search needs
-
-read-request-requires : tie.Need-read-request-requires
-read-request-requires c κs = search needs
 
 returns-3 : tie.Need-returns-3
 unfolding formOf
@@ -144,25 +108,25 @@ pub read-form-spec : {M : Type 1} → statement M
 read-form-spec =
     tie.close
     (tie.spec
-    slice-aggregate-starts-with
-    starts-with-requires
+    (λ c. search needs)
+    (λ c κs. search needs)
     sub-read-threads
     part-read-threads-start
-    part-read-threads-end
-    read-threads-requires
+    (λ c. search needs)
+    (λ c κs. search needs)
     returns
-    slice-aggregate-starts-with-2
-    starts-with-requires-2
+    (λ c. search needs)
+    (λ c κs. search needs)
     sub-read-note
     part-read-note-start
-    part-read-note-end
-    read-note-requires
+    (λ c. search needs)
+    (λ c κs. search needs)
     returns-2
-    slice-aggregate-starts-with-3
-    starts-with-requires-3
+    (λ c. search needs)
+    (λ c κs. search needs)
     sub-read-request
     part-read-request-start
-    part-read-request-end
-    read-request-requires
+    (λ c. search needs)
+    (λ c κs. search needs)
     returns-3
     returns-4)

@@ -11,23 +11,11 @@ use Rattle.forms.proofs.read_request.Tie as tie
 number : (c : tie.After-number) → Found (c .before .before .before .before .args .part .now) (c .number .given .0 .0) (c .number .given .0 .1 .0)
 number c = found _ _ _ (sym (c .number .given .1) ∙ c .before .before .read-number .ensures)
 
-read-number-requires : tie.Need-read-number-requires
-read-number-requires c κs = search needs
-
-enum-known-number : tie.Need-enum-known-number
-enum-known-number c = search needs
-
 sub-read-act : tie.Need-sub-read-act
 sub-read-act c = number (c .before) .within
 
 part-read-act-start : tie.Need-part-read-act-start
 part-read-act-start c = number (c .before) .within
-
-part-read-act-end : tie.Need-part-read-act-end
-part-read-act-end c = search needs
-
-read-act-requires : tie.Need-read-act-requires
-read-act-requires c κs = search needs
 
 enum-told : tie.Need-enum-told
 enum-told c = search needs
@@ -45,12 +33,12 @@ pub read-request-spec : {M : Type 1} → statement M
 read-request-spec =
     tie.close
     (tie.spec
-    read-number-requires
-    enum-known-number
+    (λ c κs. search needs)
+    (λ c. search needs)
     sub-read-act
     part-read-act-start
-    part-read-act-end
-    read-act-requires
+    (λ c. search needs)
+    (λ c κs. search needs)
     enum-told
     returns
     returns-2)

@@ -6,15 +6,6 @@ use Rattle.act_forms.proofs.Closings.{read-by}
 use Rattle.forms.proofs.read_threads.Statement.{statement}
 use Rattle.forms.proofs.read_threads.Tie as tie
 
-slice-aggregate-read-closed : tie.Need-slice-aggregate-read-closed
-slice-aggregate-read-closed c = search needs
-
-read-closed-requires : tie.Need-read-closed-requires
-read-closed-requires c κs = search needs
-
-enum-known-number : tie.Need-enum-known-number
-enum-known-number c = search needs
-
 enum-told : tie.Need-enum-told
 enum-told c = search needs
 
@@ -30,9 +21,9 @@ pub read-threads-spec : {M : Type 1} → statement M
 read-threads-spec =
     tie.close
     (tie.spec
-    slice-aggregate-read-closed
-    read-closed-requires
-    enum-known-number
+    (λ c. search needs)
+    (λ c κs. search needs)
+    (λ c. search needs)
     enum-told
     returns
     returns-2)

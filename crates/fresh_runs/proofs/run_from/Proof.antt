@@ -27,20 +27,8 @@ made c = c .before .before .before .before
 size-is : (c : tie.After-known-told) → answerReply (made c .fresh .result) ≡ accepted (c .before .made .given .0 .0)
 size-is c = ap answerReply (c .before .made .given .1)
 
-slice-aggregate-fresh : tie.Need-slice-aggregate-fresh
-slice-aggregate-fresh c = search needs
-
-fresh-requires : tie.Need-fresh-requires
-fresh-requires c κs = search needs
-
-enum-known-made : tie.Need-enum-known-made
-enum-known-made c = search needs
-
 enum-told : tie.Need-enum-told
 enum-told c = search needs
-
-stopped-requires : tie.Need-stopped-requires
-stopped-requires c κs = search needs
 
 returns : tie.Need-returns
 returns c =
@@ -64,9 +52,6 @@ run-lines-requires c κs =
     let f = made k .fresh in
     begins-fresh _ (start k .pre .0) (start k .pre .1) _ (good-count _ long (f .ensures) _ (size-is k)) (table-front _ long (f .ensures) _ (size-is k))
 
-same-length : tie.Need-same-length
-same-length c = search needs
-
 returns-2 : tie.Need-returns-2
 returns-2 c =
     let run = c .before .before .before in
@@ -78,14 +63,14 @@ pub run-from-spec : {M : Type 1} → statement M
 run-from-spec =
     tie.close
     (tie.spec
-    slice-aggregate-fresh
-    fresh-requires
-    enum-known-made
+    (λ c. search needs)
+    (λ c κs. search needs)
+    (λ c. search needs)
     enum-told
-    stopped-requires
+    (λ c κs. search needs)
     returns
     array-borrow-prefix-bytes
     slice-aggregate-run-lines
     run-lines-requires
-    same-length
+    (λ c. search needs)
     returns-2)

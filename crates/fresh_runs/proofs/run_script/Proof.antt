@@ -18,14 +18,8 @@ threads-at c = subst (FirstAt _) (c .before .first .given .1) (c .before .before
 first-line-requires : tie.Need-first-line-requires
 first-line-requires c κs = c .before .before .pre .short
 
-enum-known-first : tie.Need-enum-known-first
-enum-known-first c = search needs
-
 enum-told : tie.Need-enum-told
 enum-told c = search needs
-
-stopped-requires : tie.Need-stopped-requires
-stopped-requires c κs = search needs
 
 returns : tie.Need-returns
 returns c =
@@ -39,9 +33,6 @@ run-from-requires c κs =
     let k = c .before in
     (threads-at k .within, start k .pre)
 
-same-length : tie.Need-same-length
-same-length c = search needs
-
 returns-2 : tie.Need-returns-2
 returns-2 c =
     let run = c .before .before in
@@ -53,10 +44,10 @@ run-script-spec =
     tie.close
     (tie.spec
     first-line-requires
-    enum-known-first
+    (λ c. search needs)
     enum-told
-    stopped-requires
+    (λ c κs. search needs)
     returns
     run-from-requires
-    same-length
+    (λ c. search needs)
     returns-2)

@@ -41,17 +41,8 @@ passed-4 c =
     let args = up2 (up3 (up4 c)) .before .before .args in
     omega (arith, passed-3 (up4 c), past-byte (args .script .now) (args .at + 3) (omega arith) (args .at + 4) (omega arith) (c .if4 .left))
 
-shared-slice-read-if1 : tie.Need-shared-slice-read-if1
-shared-slice-read-if1 c = search needs
-
 returns : tie.Need-returns
 returns c = let args = c .before .before .args in omega (arith, at-feed (args .script .now) (args .at) (omega arith) (c .if1 .taken))
-
-add-if2 : tie.Need-add-if2
-add-if2 c = search needs
-
-shared-slice-read-if2 : tie.Need-shared-slice-read-if2
-shared-slice-read-if2 c = search needs
 
 returns-2 : tie.Need-returns-2
 returns-2 c =
@@ -59,23 +50,11 @@ returns-2 c =
     let args = e .before .before .args in
     omega (arith, passed-1 e, at-feed (args .script .now) (args .at + 1) (omega arith) (c .if2 .taken))
 
-add-if3 : tie.Need-add-if3
-add-if3 c = search needs
-
-shared-slice-read-if3 : tie.Need-shared-slice-read-if3
-shared-slice-read-if3 c = search needs
-
 returns-3 : tie.Need-returns-3
 returns-3 c =
     let e = c .before .before in
     let args = up2 e .before .before .args in
     omega (arith, passed-2 e, at-feed (args .script .now) (args .at + 2) (omega arith) (c .if3 .taken))
-
-add-if4 : tie.Need-add-if4
-add-if4 c = search needs
-
-shared-slice-read-if4 : tie.Need-shared-slice-read-if4
-shared-slice-read-if4 c = search needs
 
 returns-4 : tie.Need-returns-4
 returns-4 c =
@@ -90,15 +69,15 @@ pub feed-in-four-spec : {M : Type 1} → statement M
 feed-in-four-spec =
     tie.close
     (tie.spec
-    shared-slice-read-if1
+    (λ c. search needs)
     returns
-    add-if2
-    shared-slice-read-if2
+    (λ c. search needs)
+    (λ c. search needs)
     returns-2
-    add-if3
-    shared-slice-read-if3
+    (λ c. search needs)
+    (λ c. search needs)
     returns-3
-    add-if4
-    shared-slice-read-if4
+    (λ c. search needs)
+    (λ c. search needs)
     returns-4
     returns-5)

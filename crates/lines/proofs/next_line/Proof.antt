@@ -7,9 +7,6 @@ use Rattle.lines.proofs.next_line.Tie as tie
 returns : tie.Need-returns
 returns c = no-line _ _ (c .before .before .pre) (c .if1 .taken)
 
-line-end-requires : tie.Need-line-end-requires
-line-end-requires c κs = search needs
-
 returns-2 : tie.Need-returns-2
 returns-2 c = line-ended _ _ (c .before .before .if1 .left) _ (c .before .line-end .ensures) (c .if2 .taken)
 
@@ -17,4 +14,4 @@ returns-3 : tie.Need-returns-3
 returns-3 c = line-unended _ _ (c .before .before .if1 .left) _ (c .before .line-end .ensures) (c .if2 .left)
 
 pub next-line-spec : {M : Type 1} → statement M
-next-line-spec = tie.close (tie.spec returns line-end-requires returns-2 returns-3)
+next-line-spec = tie.close (tie.spec returns (λ c κs. search needs) returns-2 returns-3)

@@ -34,26 +34,11 @@ of-refusal : (k : ℕ) (r : Refusal) (a : Dispatched) → a ≡ dispatched.Refus
 unfolding encoded
 of-refusal k r a q h = let same = ap number q in omega arith
 
-enum-known-answer : tie.Need-enum-known-answer
-enum-known-answer c = search needs
-
-event-code-requires : tie.Need-event-code-requires
-event-code-requires c κs = search needs
-
 made-number-requires : tie.Need-made-number-requires
 made-number-requires c κs = event-fits _ (c .before .before .answer .given .0 .1 .1 .1 .0) (c .event-code .ensures)
 
 enum-told : tie.Need-enum-told
 enum-told c = search needs
-
-enum-known-answer-2 : tie.Need-enum-known-answer-2
-enum-known-answer-2 c = search needs
-
-number-of-requires : tie.Need-number-of-requires
-number-of-requires c κs = search needs
-
-cast-result : tie.Need-cast-result
-cast-result c = search needs
 
 returns : tie.Need-returns
 returns c =
@@ -71,13 +56,13 @@ pub dispatched-number-spec : {M : Type 1} → statement M
 dispatched-number-spec =
     tie.close
     (tie.spec
-    enum-known-answer
-    event-code-requires
+    (λ c. search needs)
+    (λ c κs. search needs)
     made-number-requires
     enum-told
-    enum-known-answer-2
-    number-of-requires
-    cast-result
+    (λ c. search needs)
+    (λ c κs. search needs)
+    (λ c. search needs)
     returns
     returns-2
     returns-3)

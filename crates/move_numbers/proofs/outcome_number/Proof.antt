@@ -9,33 +9,6 @@ use Rattle.answer_numbers.specs.Encoding.{encoded, moveNumber}
 use Rattle.move_numbers.proofs.outcome_number.Statement.{statement}
 use Rattle.move_numbers.proofs.outcome_number.Tie as tie
 
-enum-known-outcome : tie.Need-enum-known-outcome
-enum-known-outcome c = search needs
-
-code-of-requires : tie.Need-code-of-requires
-code-of-requires c κs = search needs
-
-cast-result : tie.Need-cast-result
-cast-result c = search needs
-
-mul-result : tie.Need-mul-result
-mul-result c = search needs
-
-enum-told : tie.Need-enum-told
-enum-told c = search needs
-
-enum-told-2 : tie.Need-enum-told-2
-enum-told-2 c = search needs
-
-enum-known-outcome-2 : tie.Need-enum-known-outcome-2
-enum-known-outcome-2 c = search needs
-
-number-of-requires : tie.Need-number-of-requires
-number-of-requires c κs = search needs
-
-cast-result-2 : tie.Need-cast-result-2
-cast-result-2 c = search needs
-
 returns : tie.Need-returns
 unfolding encoded
 returns c =
@@ -57,15 +30,15 @@ pub outcome-number-spec : {M : Type 1} → statement M
 outcome-number-spec =
     tie.close
     (tie.spec
-    enum-known-outcome
-    code-of-requires
-    cast-result
-    mul-result
-    enum-told
-    enum-told-2
-    enum-known-outcome-2
-    number-of-requires
-    cast-result-2
+    (λ c. search needs)
+    (λ c κs. search needs)
+    (λ c. search needs)
+    (λ c. search needs)
+    (λ c. search needs)
+    (λ c. search needs)
+    (λ c. search needs)
+    (λ c κs. search needs)
+    (λ c. search needs)
     returns
     returns-2
     returns-3

@@ -25,14 +25,8 @@ casts c = (cast (eqb (c .args .before) 1), cast (eqb (c .args .after) 1))
 returns : tie.Need-returns
 returns c = rw (c .if1 .taken)
 
-cast-rest : tie.Need-cast-rest
-cast-rest c = search needs
-
 sub-rest : tie.Need-sub-rest
 sub-rest c = omega (arith, casts (c .before))
-
-cast-result : tie.Need-cast-result
-cast-result c = search needs
 
 add-result : tie.Need-add-result
 add-result c = omega (arith, casts (c .before))
@@ -41,4 +35,4 @@ returns-2 : tie.Need-returns-2
 returns-2 c = omega (arith, casts (c .before))
 
 pub recount-spec : {M : Type 1} → statement M
-recount-spec = tie.close (tie.spec returns cast-rest sub-rest cast-result add-result returns-2)
+recount-spec = tie.close (tie.spec returns (λ c. search needs) sub-rest (λ c. search needs) add-result returns-2)

@@ -8,27 +8,12 @@ use Rattle.table.proofs.TableTests.{refusal-is, sound-is}
 use Rattle.nodes.proofs.nodes.Statement.{statement}
 use Rattle.nodes.proofs.nodes.Tie as tie
 
-examine-requires : tie.Need-examine-requires
-examine-requires c κs = search needs
-
-enum-known-examined : tie.Need-enum-known-examined
-enum-known-examined c = search needs
-
 put-nodes-requires : tie.Need-put-nodes-requires
 put-nodes-requires c κs =
     let known = c .before .before in
     let at = known .before .before in
     let found = sound-is (at .before .before .before .args .table .now) _ _ (sym (at .examine .ensures) ∙ known .examined .given .1) in
     (found .tested, found .threads)
-
-enum-known-examined-2 : tie.Need-enum-known-examined-2
-enum-known-examined-2 c = search needs
-
-same-length : tie.Need-same-length
-same-length c = search needs
-
-returns : tie.Need-returns
-returns c = search needs
 
 returns-2 : tie.Need-returns-2
 returns-2 c =
@@ -43,10 +28,10 @@ pub nodes-spec : {M : Type 1} → statement M
 nodes-spec =
     tie.close
     (tie.spec
-    examine-requires
-    enum-known-examined
+    (λ c κs. search needs)
+    (λ c. search needs)
     put-nodes-requires
-    enum-known-examined-2
-    same-length
-    returns
+    (λ c. search needs)
+    (λ c. search needs)
+    (λ c. search needs)
     returns-2)

@@ -10,9 +10,6 @@ use Rattle.notes.proofs.depth_after.Tie as tie
 above : (c : tie.Else1) → 0 < c .before .args .depth
 above c = ltb-true 0 (c .before .args .depth) (rw (ne-eqb (c .before .args .c) 40 (c .if1 .left)) at (c .before .pre .1))
 
-add-result : tie.Need-add-result
-add-result c = search needs
-
 returns : tie.Need-returns
 returns c = simp (c .if1 .taken) (omega arith)
 
@@ -23,4 +20,4 @@ returns-2 : tie.Need-returns-2
 returns-2 c = let h = above c in simp (ne-eqb _ 40 (c .if1 .left)) (omega arith)
 
 pub depth-after-spec : {M : Type 1} → statement M
-depth-after-spec = tie.close (tie.spec add-result returns sub-result returns-2)
+depth-after-spec = tie.close (tie.spec (λ c. search needs) returns sub-result returns-2)

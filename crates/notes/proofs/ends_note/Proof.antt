@@ -10,20 +10,11 @@ use Rattle.notes.proofs.ends_note.Tie as tie
 returns : tie.Need-returns
 returns c = note-empty _ (c .if1 .taken)
 
-sub-end : tie.Need-sub-end
-sub-end c = search needs
-
-shared-slice-read-if2 : tie.Need-shared-slice-read-if2
-shared-slice-read-if2 c = search needs
-
 returns-2 : tie.Need-returns-2
 returns-2 c = note-unclosed _ (c .if2 .taken)
 
 slice-aggregate-note-fits : tie.Need-slice-aggregate-note-fits
 slice-aggregate-note-fits c = sym (length-take-le _ _ (omega arith))
-
-note-fits-requires : tie.Need-note-fits-requires
-note-fits-requires c κs = search needs
 
 returns-3 : tie.Need-returns-3
 returns-3 c = note-closed _ _ (c .before .before .if2 .left) (c .note-fits .ensures)
@@ -31,4 +22,4 @@ returns-3 c = note-closed _ _ (c .before .before .if2 .left) (c .note-fits .ensu
 pub ends-note-spec : {M : Type 1} → statement M
 ends-note-spec =
     tie.close
-    (tie.spec returns sub-end shared-slice-read-if2 returns-2 slice-aggregate-note-fits note-fits-requires returns-3)
+    (tie.spec returns (λ c. search needs) (λ c. search needs) returns-2 slice-aggregate-note-fits (λ c κs. search needs) returns-3)

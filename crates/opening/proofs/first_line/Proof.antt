@@ -14,29 +14,11 @@ start c = c .before .before .before .before .before
 line-at : (c : tie.After-known-told) → LineAt (start c .args .script .now) 0 (c .before .next .given .0 .0)
 line-at c = subst (NextAt _ _) (c .before .next .given .1) (c .before .before .before .next-line .ensures)
 
-next-line-requires : tie.Need-next-line-requires
-next-line-requires c κs = search needs
-
-enum-known-next : tie.Need-enum-known-next
-enum-known-next c = search needs
-
 returns : tie.Need-returns
 returns c = no-line _ (c .before .next-line .result) (c .before .next-line .ensures) (c .match .keys2)
 
-sub-read-form : tie.Need-sub-read-form
-sub-read-form c = search needs
-
-part-read-form-start : tie.Need-part-read-form-start
-part-read-form-start c = search needs
-
 part-read-form-end : tie.Need-part-read-form-end
 part-read-form-end c = omega (arith, line-at c .ends)
-
-read-form-requires : tie.Need-read-form-requires
-read-form-requires c κs = search needs
-
-enum-known-form : tie.Need-enum-known-form
-enum-known-form c = search needs
 
 returns-2 : tie.Need-returns-2
 returns-2 c = let p = c .before in other-line _ _ (line-at (p .before .before)) (p .read-form .result) (p .read-form .ensures) (c .match2 .keys2)
@@ -53,14 +35,14 @@ pub first-line-spec : {M : Type 1} → statement M
 first-line-spec =
     tie.close
     (tie.spec
-    next-line-requires
-    enum-known-next
+    (λ c κs. search needs)
+    (λ c. search needs)
     returns
-    sub-read-form
-    part-read-form-start
+    (λ c. search needs)
+    (λ c. search needs)
     part-read-form-end
-    read-form-requires
-    enum-known-form
+    (λ c κs. search needs)
+    (λ c. search needs)
     returns-2
     add-start
     returns-3)

@@ -7,12 +7,6 @@ use Rattle.phase_moves.proofs.Bits.{bit-is}
 use Rattle.phase_moves.proofs.has_move.Statement.{statement}
 use Rattle.phase_moves.proofs.has_move.Tie as tie
 
-moves-in-requires : tie.Need-moves-in-requires
-moves-in-requires c κs = search needs
-
-has-bit-requires : tie.Need-has-bit-requires
-has-bit-requires c κs = search needs
-
 returns : tie.Need-returns
 returns c =
     let start = c .before .before in
@@ -21,4 +15,4 @@ returns c =
     ∙ bit-is (start .args .phase) (start .args .mv) (start .pre .0) (start .pre .1)
 
 pub has-move-spec : {M : Type 1} → statement M
-has-move-spec = tie.close (tie.spec moves-in-requires has-bit-requires returns)
+has-move-spec = tie.close (tie.spec (λ c κs. search needs) (λ c κs. search needs) returns)

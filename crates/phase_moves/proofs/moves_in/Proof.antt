@@ -10,12 +10,9 @@ use Rattle.basics.proofs.Lists.{getD-listOf}
 use Rattle.phase_moves.proofs.moves_in.Statement.{statement}
 use Rattle.phase_moves.proofs.moves_in.Tie as tie
 
-array-read-result : tie.Need-array-read-result
-array-read-result c = search needs
-
 returns : tie.Need-returns
 unfolding listOf rows among bitsBelow
 returns c = getD-listOf (suc lastPhase) moveBits (c .args .phase) 0 (omega arith)
 
 pub moves-in-spec : {M : Type 1} → statement M
-moves-in-spec = tie.close (tie.spec array-read-result returns)
+moves-in-spec = tie.close (tie.spec (λ c. search needs) returns)

@@ -18,13 +18,10 @@ by-names : (names : Bool) (n t : ℕ) → ltb t (cond names n 1) ≡ cond names 
 by-names true n t = refl
 by-names false n t = below-one t
 
-targets-of-requires : tie.Need-targets-of-requires
-targets-of-requires c κs = search needs
-
 returns : tie.Need-returns
 returns c =
     let a = c .before .args in
     ap (λ (k : ℕ). ltb (a .target) k) (c .targets-of .ensures) ∙ by-names (namesThread (a .mv)) (a .threads) (a .target)
 
 pub target-fits-spec : {M : Type 1} → statement M
-target-fits-spec = tie.close (tie.spec targets-of-requires returns)
+target-fits-spec = tie.close (tie.spec (λ c κs. search needs) returns)

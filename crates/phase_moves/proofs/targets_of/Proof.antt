@@ -4,9 +4,6 @@ use borrow.Author.Needs.{needs}
 use Rattle.phase_moves.proofs.targets_of.Statement.{statement}
 use Rattle.phase_moves.proofs.targets_of.Tie as tie
 
-names-thread-requires : tie.Need-names-thread-requires
-names-thread-requires c κs = search needs
-
 returns : tie.Need-returns
 returns c = rw (sym (c .before .names-thread .ensures) ∙ c .if1 .taken)
 
@@ -14,4 +11,4 @@ returns-2 : tie.Need-returns-2
 returns-2 c = rw (sym (c .before .names-thread .ensures) ∙ c .if1 .left)
 
 pub targets-of-spec : {M : Type 1} → statement M
-targets-of-spec = tie.close (tie.spec names-thread-requires returns returns-2)
+targets-of-spec = tie.close (tie.spec (λ c κs. search needs) returns returns-2)

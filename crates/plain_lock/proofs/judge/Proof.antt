@@ -95,25 +95,10 @@ module _ (n thread code : ℕ) (s : Standing) (k : ℕ) where
             let u = true-T (between 1 8 code) (t .0) in
             by-tests true true false p (sym (is-next u) ∙ q) (sym (is-met u) ∙ (rw (t .1, q) at flag))
 
-cast-last : tie.Need-cast-last
-cast-last c = search needs
-
 returns : tie.Need-returns
 returns c k =
     let a = c .before .args in
     above-last (a .threads) (a .thread) (a .code) (a .before) k (omega (arith, c .if1 .taken))
-
-event-row-requires : tie.Need-event-row-requires
-event-row-requires c κs = search needs
-
-cast-next : tie.Need-cast-next
-cast-next c = search needs
-
-cast-met : tie.Need-cast-met
-cast-met c = search needs
-
-moved-requires : tie.Need-moved-requires
-moved-requires c κs = search needs
 
 returns-2 : tie.Need-returns-2
 returns-2 c k =
@@ -122,12 +107,6 @@ returns-2 c k =
     let a = start .args in
     fits (a .threads) (a .thread) (a .code) (a .before) k (start .pre) (omega (arith, called .before .if1 .left)) (called .event-row .result) (called .event-row .ensures)
     (c .moved .result) (c .before .if2 .taken) (c .moved .ensures)
-
-cast-known : tie.Need-cast-known
-cast-known c = search needs
-
-reason-requires : tie.Need-reason-requires
-reason-requires c κs = search needs
 
 returns-3 : tie.Need-returns-3
 returns-3 c k =
@@ -141,13 +120,13 @@ pub judge-spec : {M : Type 1} → statement M
 judge-spec =
     tie.close
     (tie.spec
-    cast-last
+    (λ c. search needs)
     returns
-    event-row-requires
-    cast-next
-    cast-met
-    moved-requires
+    (λ c κs. search needs)
+    (λ c. search needs)
+    (λ c. search needs)
+    (λ c κs. search needs)
     returns-2
-    cast-known
-    reason-requires
+    (λ c. search needs)
+    (λ c κs. search needs)
     returns-3)

@@ -4,25 +4,13 @@ use Rattle.printout.proofs.Output.{printed, never-refused}
 use Rattle.printout.proofs.print_input.Statement.{statement}
 use Rattle.printout.proofs.print_input.Tie as tie
 
-write-output-requires : tie.Need-write-output-requires
-write-output-requires c κs = search needs
-
-enum-known-answer : tie.Need-enum-known-answer
-enum-known-answer c = search needs
-
 enum-told : tie.Need-enum-told
 enum-told c = search needs
-
-same-length : tie.Need-same-length
-same-length c = search needs
 
 returns : tie.Need-returns
 returns c =
     let ran = c .before .before .before .before in
     absurd (never-refused _ _ (ran .before .before .before .before .pre) (ran .write-output .ensures) _ _ (c .enum-told .given .1))
-
-same-length-2 : tie.Need-same-length-2
-same-length-2 c = search needs
 
 returns-2 : tie.Need-returns-2
 returns-2 c =
@@ -33,10 +21,10 @@ pub print-input-spec : {M : Type 1} → statement M
 print-input-spec =
     tie.close
     (tie.spec
-    write-output-requires
-    enum-known-answer
+    (λ c κs. search needs)
+    (λ c. search needs)
     enum-told
-    same-length
+    (λ c. search needs)
     returns
-    same-length-2
+    (λ c. search needs)
     returns-2)

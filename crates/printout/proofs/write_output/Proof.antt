@@ -6,15 +6,6 @@ use Rattle.printout.proofs.Output.{too-long, too-long-line, run-prints,
 use Rattle.printout.proofs.write_output.Statement.{statement}
 use Rattle.printout.proofs.write_output.Tie as tie
 
-slice-aggregate-deliver : tie.Need-slice-aggregate-deliver
-slice-aggregate-deliver c = search needs
-
-deliver-requires : tie.Need-deliver-requires
-deliver-requires c κs = search needs
-
-same-length : tie.Need-same-length
-same-length c = search needs
-
 returns : tie.Need-returns
 unfolding bytes
 returns c =
@@ -22,25 +13,10 @@ returns c =
     let then = d .before .before .before in
     rw (too-long (then .before .before .before .args .input .now) (then .if1 .taken) ∙ too-long-line) (d .deliver .ensures)
 
-run-requires : tie.Need-run-requires
-run-requires c κs = search needs
-
-enum-known-ran : tie.Need-enum-known-ran
-enum-known-ran c = search needs
-
-enum-known-ran-2 : tie.Need-enum-known-ran-2
-enum-known-ran-2 c = search needs
-
-same-length-2 : tie.Need-same-length-2
-same-length-2 c = search needs
-
 returns-2 : tie.Need-returns-2
 returns-2 c =
     let r = c .before .before .before .before .before in
     run-prints _ _ (r .before .before .if1 .left) _ _ (c .before .ran .given .1) (r .run .ensures)
-
-same-length-3 : tie.Need-same-length-3
-same-length-3 c = search needs
 
 returns-3 : tie.Need-returns-3
 returns-3 c =
@@ -51,14 +27,14 @@ pub write-output-spec : {M : Type 1} → statement M
 write-output-spec =
     tie.close
     (tie.spec
-    slice-aggregate-deliver
-    deliver-requires
-    same-length
+    (λ c. search needs)
+    (λ c κs. search needs)
+    (λ c. search needs)
     returns
-    run-requires
-    enum-known-ran
-    enum-known-ran-2
-    same-length-2
+    (λ c κs. search needs)
+    (λ c. search needs)
+    (λ c. search needs)
+    (λ c. search needs)
     returns-2
-    same-length-3
+    (λ c. search needs)
     returns-3)

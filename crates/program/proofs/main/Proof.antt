@@ -39,35 +39,14 @@ was-printed : (c : tie.After-print-input) → c .print-input .result ≤ length 
 was-printed c =
     omega (arith, printed-within _ _ _ _ (c .print-input .ensures), c .print-input .kept, length-replicate {A = ℕ} enoughOutput 0)
 
-slice-aggregate-read-input : tie.Need-slice-aggregate-read-input
-slice-aggregate-read-input c = search needs
-
 read-input-requires : tie.Need-read-input-requires
 read-input-requires c κs = omega (arith, length-replicate {A = ℕ} (mostScript + 1) 0)
-
-enum-known-read : tie.Need-enum-known-read
-enum-known-read c = search needs
-
-enum-told : tie.Need-enum-told
-enum-told c = search needs
-
-slice-aggregate-write-all : tie.Need-slice-aggregate-write-all
-slice-aggregate-write-all c = search needs
-
-write-all-requires : tie.Need-write-all-requires
-write-all-requires c κs = search needs
-
-returns : tie.Need-returns
-returns c = search needs
 
 array-share-prefix-input : tie.Need-array-share-prefix-input
 array-share-prefix-input c = was-read c
 
 slice-aggregate-print-input : tie.Need-slice-aggregate-print-input
 slice-aggregate-print-input c = sym (length-take-le _ _ (was-read (c .before)))
-
-slice-aggregate-print-input-2 : tie.Need-slice-aggregate-print-input-2
-slice-aggregate-print-input-2 c = search needs
 
 print-input-requires : tie.Need-print-input-requires
 print-input-requires c κs = omega (arith, length-replicate {A = ℕ} enoughOutput 0)
@@ -87,39 +66,27 @@ slice-aggregate-hand-on-2 c = sym (length-take-le _ _ (was-printed (c .before .b
 hand-on-requires : tie.Need-hand-on-requires
 hand-on-requires c κs = printed-front _ _ _ _ (c .before .before .before .print-input .ensures)
 
-slice-aggregate-write-all-2 : tie.Need-slice-aggregate-write-all-2
-slice-aggregate-write-all-2 c = search needs
-
-write-all-requires-2 : tie.Need-write-all-requires-2
-write-all-requires-2 c κs = search needs
-
-returns-2 : tie.Need-returns-2
-returns-2 c = search needs
-
-returns-3 : tie.Need-returns-3
-returns-3 c = search needs
-
 pub main-spec : {M : Type 1} → statement M
 main-spec =
     tie.close
     (tie.spec
-    slice-aggregate-read-input
+    (λ c. search needs)
     read-input-requires
-    enum-known-read
-    enum-told
-    slice-aggregate-write-all
-    write-all-requires
-    returns
+    (λ c. search needs)
+    (λ c. search needs)
+    (λ c. search needs)
+    (λ c κs. search needs)
+    (λ c. search needs)
     array-share-prefix-input
     slice-aggregate-print-input
-    slice-aggregate-print-input-2
+    (λ c. search needs)
     print-input-requires
     array-share-prefix-input-2
     slice-aggregate-hand-on
     array-share-prefix-output
     slice-aggregate-hand-on-2
     hand-on-requires
-    slice-aggregate-write-all-2
-    write-all-requires-2
-    returns-2
-    returns-3)
+    (λ c. search needs)
+    (λ c κs. search needs)
+    (λ c. search needs)
+    (λ c. search needs))

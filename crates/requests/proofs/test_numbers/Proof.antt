@@ -9,28 +9,13 @@ use Rattle.definitions.specs.Bounds.{lastMove}
 use Rattle.requests.proofs.test_numbers.Statement.{statement}
 use Rattle.requests.proofs.test_numbers.Tie as tie
 
-cast-if1 : tie.Need-cast-if1
-cast-if1 c = search needs
-
 returns : tie.Need-returns
 unfolding answered
 returns c = λ place. rw (le-ltb _ _ (c .if1 .taken))
 
-cast-if2 : tie.Need-cast-if2
-cast-if2 c = search needs
-
 returns-2 : tie.Need-returns-2
 unfolding answered
 returns-2 c = λ place. rw (lt-ltb _ _ (c .before .before .if1 .left), lt-leb _ _ (c .if2 .taken))
-
-cast-small : tie.Need-cast-small
-cast-small c = search needs
-
-cast-target-fits : tie.Need-cast-target-fits
-cast-target-fits c = search needs
-
-target-fits-requires : tie.Need-target-fits-requires
-target-fits-requires c κs = search needs
 
 -- the tests 3 and 4 are passed where 5 is made
 thread-fits : (c : tie.After-target-fits) → let a = c .before .before .before .before .before .before .before .args in ltb (a .request .thread) (a .threads) ≡ true
@@ -51,12 +36,12 @@ pub test-numbers-spec : {M : Type 1} → statement M
 test-numbers-spec =
     tie.close
     (tie.spec
-    cast-if1
+    (λ c. search needs)
     returns
-    cast-if2
+    (λ c. search needs)
     returns-2
-    cast-small
-    cast-target-fits
-    target-fits-requires
+    (λ c. search needs)
+    (λ c. search needs)
+    (λ c κs. search needs)
     returns-3
     returns-4)

@@ -44,43 +44,19 @@ found c = taken c .before .before .before .before
 loop-holds : tie.Need-loop-holds Inv-loop μ-loop
 loop-holds c = begun _ _ _ _ (c .before .before .before .pre)
 
-next-line-requires : tie.Need-next-line-requires Inv-loop μ-loop
-next-line-requires c κs = search needs
-
 enum-told : tie.Need-enum-told Inv-loop μ-loop
 enum-told c = search needs
-
-same-length : tie.Need-same-length Inv-loop μ-loop
-same-length c = search needs
-
-same-length-2 : tie.Need-same-length-2 Inv-loop μ-loop
-same-length-2 c = search needs
 
 returns : tie.Need-returns Inv-loop μ-loop
 returns c =
     let p = c .before .before in
     finished (start (p .before) .pre .room) (p .before .loop .inv) (subst (NextAt _ _) (c .enum-told .given .1) (p .next-line .ensures))
 
-enum-told-2 : tie.Need-enum-told-2 Inv-loop μ-loop
-enum-told-2 c = search needs
-
-stopped-requires : tie.Need-stopped-requires Inv-loop μ-loop
-stopped-requires c κs = search needs
-
-same-length-3 : tie.Need-same-length-3 Inv-loop μ-loop
-same-length-3 c = search needs
-
-same-length-4 : tie.Need-same-length-4 Inv-loop μ-loop
-same-length-4 c = search needs
-
 returns-2 : tie.Need-returns-2 Inv-loop μ-loop
 returns-2 c =
     let told = c .before in
     let p = told .before .before in
     unended (start (p .before) .pre .room) (p .before .loop .inv) (subst (NextAt _ _) (told .enum-told2 .given .1) (p .next-line .ensures)) _ (c .stopped .ensures)
-
-enum-known-next : tie.Need-enum-known-next Inv-loop μ-loop
-enum-known-next c = search needs
 
 add-behind : tie.Need-add-behind Inv-loop μ-loop
 add-behind c = omega (arith, line-at c .ends, start (here c) .pre .room .short)
@@ -100,12 +76,6 @@ take-line-requires c κs =
     let g = here f .loop .inv in
     (g .tested, line-room (start (here f) .pre .room) g (end f) (line-at f))
 
-enum-known-step : tie.Need-enum-known-step Inv-loop μ-loop
-enum-known-step c = search needs
-
-stopped-requires-2 : tie.Need-stopped-requires-2 Inv-loop μ-loop
-stopped-requires-2 c κs = search needs
-
 same-length-5 : tie.Need-same-length-5 Inv-loop μ-loop
 same-length-5 c =
     let p = c .before .before .before .before in
@@ -124,9 +94,6 @@ returns-3 c =
     let t = taken p .take-line in
     stop (start (here f) .pre .room) (here f .loop .inv) (end f) (line-at f) (t .last .1 .0) (t .last .1 .1 .1 .0) (t .result) (t .ensures) _ (told .step .given .1) _ (c .stopped2 .ensures)
 
-enum-known-step-2 : tie.Need-enum-known-step-2 Inv-loop μ-loop
-enum-known-step-2 c = search needs
-
 add-steps : tie.Need-add-steps Inv-loop μ-loop
 add-steps c =
     let p = c .before .before .before in
@@ -141,9 +108,6 @@ add-retried c =
     let t = taken p .take-line in
     let line = line-at f in
     record { fits = retries-fit (start (here f) .pre .room) (here f .loop .inv) (end f) line (t .last .1 .0) (t .last .1 .1 .1 .0) (t .result) (t .ensures) _ _ _ _ (c .before .step2 .given .1) }
-
-add-line : tie.Need-add-line Inv-loop μ-loop
-add-line c = search needs
 
 loop-less : tie.Need-loop-less Inv-loop μ-loop
 loop-less c =
@@ -164,30 +128,30 @@ run-lines-spec =
     Inv-loop
     μ-loop
     loop-holds
-    next-line-requires
+    (λ c κs. search needs)
     enum-told
-    same-length
-    same-length-2
+    (λ c. search needs)
+    (λ c. search needs)
     returns
-    enum-told-2
-    stopped-requires
-    same-length-3
-    same-length-4
+    (λ c. search needs)
+    (λ c κs. search needs)
+    (λ c. search needs)
+    (λ c. search needs)
     returns-2
-    enum-known-next
+    (λ c. search needs)
     add-behind
     sub-take-line
     part-take-line-start
     part-take-line-end
     take-line-requires
-    enum-known-step
-    stopped-requires-2
+    (λ c. search needs)
+    (λ c κs. search needs)
     same-length-5
     same-length-6
     returns-3
-    enum-known-step-2
+    (λ c. search needs)
     add-steps
     add-retried
-    add-line
+    (λ c. search needs)
     loop-less
     loop-again)

@@ -9,15 +9,6 @@ use Rattle.script.proofs.run.Tie as tie
 returns : tie.Need-returns
 returns c = too-long _ _ (c .if1 .taken)
 
-slice-aggregate-run-script : tie.Need-slice-aggregate-run-script
-slice-aggregate-run-script c = search needs
-
-run-script-requires : tie.Need-run-script-requires
-run-script-requires c κs = search needs
-
-array-share-prefix-history : tie.Need-array-share-prefix-history
-array-share-prefix-history c = search needs
-
 slice-aggregate-print : tie.Need-slice-aggregate-print
 slice-aggregate-print c = sym (length-take-le _ _ (c .before .before .run-script .ensures .fits))
 
@@ -26,23 +17,11 @@ print-requires c κs =
     let r = c .before .before .before in
     measurable _ (r .before .before .before .before .before .args .out .now) (r .before .before .if1 .left) (r .run-script .ensures)
 
-enum-known-answer : tie.Need-enum-known-answer
-enum-known-answer c = search needs
-
-same-length : tie.Need-same-length
-same-length c = search needs
-
 returns-2 : tie.Need-returns-2
 returns-2 c =
     let p = c .before .before .before .before .before in
     let r = p .before .before .before .before in
     run-printed _ _ (r .before .before .if1 .left) (r .run-script .ensures) _ (c .before .answer .given .1) (p .print .ensures)
-
-enum-known-answer-2 : tie.Need-enum-known-answer-2
-enum-known-answer-2 c = search needs
-
-same-length-2 : tie.Need-same-length-2
-same-length-2 c = search needs
 
 returns-3 : tie.Need-returns-3
 returns-3 c =
@@ -55,14 +34,14 @@ run-spec =
     tie.close
     (tie.spec
     returns
-    slice-aggregate-run-script
-    run-script-requires
-    array-share-prefix-history
+    (λ c. search needs)
+    (λ c κs. search needs)
+    (λ c. search needs)
     slice-aggregate-print
     print-requires
-    enum-known-answer
-    enum-known-answer-2
-    same-length
+    (λ c. search needs)
+    (λ c. search needs)
+    (λ c. search needs)
     returns-2
-    same-length-2
+    (λ c. search needs)
     returns-3)

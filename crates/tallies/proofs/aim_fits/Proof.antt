@@ -38,11 +38,8 @@ module _ (t : Tally) (aim : Task) where
   unfolding aimFits
   same = ap (λ (k : ℕ). eqb (aim .forbidden) 1 && eqb (t .readers) k) (cast-is (between 5 7 (aim .phase)) ∙ ap (λ (b : Bool). cond b 1 0) (reads (aim .phase)))
 
-cast-result : tie.Need-cast-result
-cast-result c = search needs
-
 returns : tie.Need-returns
 returns c = let a = c .before .before .before .before .args in same (a .t) (a .aim)
 
 pub aim-fits-spec : {M : Type 1} → statement M
-aim-fits-spec = tie.close (tie.spec cast-result returns)
+aim-fits-spec = tie.close (tie.spec (λ c. search needs) returns)

@@ -12,23 +12,8 @@ start p = p .before .before .before .before .before .before
 tried : (p : tie.After-slice-known3) → let t = p .before .before .try-move in MoveTried (start p .args .table .now) (start p .args .request) (t .last .0) (t .result)
 tried p = p .before .before .try-move .ensures
 
-try-move-requires : tie.Need-try-move-requires
-try-move-requires c κs = search needs
-
-enum-known-outcome : tie.Need-enum-known-outcome
-enum-known-outcome c = search needs
-
 enum-told : tie.Need-enum-told
 enum-told c = search needs
-
-enum-told-2 : tie.Need-enum-told-2
-enum-told-2 c = search needs
-
-enum-known-outcome-2 : tie.Need-enum-known-outcome-2
-enum-known-outcome-2 c = search needs
-
-code-of-requires : tie.Need-code-of-requires
-code-of-requires c κs = search needs
 
 cast-add-pair : tie.Need-cast-add-pair
 cast-add-pair c =
@@ -40,29 +25,14 @@ add-pair-requires c κs =
     let o = c .before .before .before .before in
     event-room _ _ _ _ (tried (o .before .before)) _ (o .outcome2 .given .1) _ (c .before .before .code-of .ensures) _ _ (start (o .before .before) .pre .1)
 
-same-length : tie.Need-same-length
-same-length c = search needs
-
 returns : tie.Need-returns
 returns c = refused-stops _ _ _ _ (tried (c .before .before .before)) _ _ (c .before .outcome .given .1)
-
-same-length-2 : tie.Need-same-length-2
-same-length-2 c = search needs
 
 returns-2 : tie.Need-returns-2
 returns-2 c = quiet-passes _ _ _ _ (tried (c .before .before)) _ _ (c .enum-told .given .1)
 
-same-length-3 : tie.Need-same-length-3
-same-length-3 c = search needs
-
 returns-3 : tie.Need-returns-3
 returns-3 c = retry-passes _ _ _ _ (tried (c .before .before)) _ _ (c .enum-told2 .given .1)
-
-same-length-4 : tie.Need-same-length-4
-same-length-4 c = search needs
-
-same-length-5 : tie.Need-same-length-5
-same-length-5 c = search needs
 
 returns-4 : tie.Need-returns-4
 returns-4 c =
@@ -75,20 +45,20 @@ pub make-spec : {M : Type 1} → statement M
 make-spec =
     tie.close
     (tie.spec
-    try-move-requires
-    enum-known-outcome
+    (λ c κs. search needs)
+    (λ c. search needs)
     enum-told
-    enum-told-2
-    enum-known-outcome-2
-    code-of-requires
+    (λ c. search needs)
+    (λ c. search needs)
+    (λ c κs. search needs)
     cast-add-pair
     add-pair-requires
-    same-length
+    (λ c. search needs)
     returns
-    same-length-2
+    (λ c. search needs)
     returns-2
-    same-length-3
+    (λ c. search needs)
     returns-3
-    same-length-4
-    same-length-5
+    (λ c. search needs)
+    (λ c. search needs)
     returns-4)

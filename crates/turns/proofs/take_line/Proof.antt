@@ -8,14 +8,8 @@ use Rattle.turns.proofs.take_line.Tie as tie
 abbrev start : tie.After-read-form → tie.Start
 start p = p .before .before .before .before
 
-read-form-requires : tie.Need-read-form-requires
-read-form-requires c κs = search needs
-
 enum-told : tie.Need-enum-told
 enum-told c = search needs
-
-enum-known-form : tie.Need-enum-known-form
-enum-known-form c = search needs
 
 make-requires : tie.Need-make-requires
 make-requires c κs =
@@ -23,20 +17,8 @@ make-requires c κs =
     let p = f .before .before in
     (start p .pre .0, request-room _ _ (p .read-form .ensures) _ (start p .pre .0 .tested) _ _ _ (f .form .given .1) (start p .pre .1))
 
-enum-told-2 : tie.Need-enum-told-2
-enum-told-2 c = search needs
-
-enum-told-3 : tie.Need-enum-told-3
-enum-told-3 c = search needs
-
 returns : tie.Need-returns
 returns c = let p = c .before .before in threads-stops _ _ (p .read-form .ensures) (start p .args .table .now) _ _ (c .enum-told .given .1)
-
-same-length : tie.Need-same-length
-same-length c = search needs
-
-same-length-2 : tie.Need-same-length-2
-same-length-2 c = search needs
 
 returns-2 : tie.Need-returns-2
 returns-2 c =
@@ -57,15 +39,15 @@ pub take-line-spec : {M : Type 1} → statement M
 take-line-spec =
     tie.close
     (tie.spec
-    read-form-requires
+    (λ c κs. search needs)
     enum-told
-    enum-known-form
+    (λ c. search needs)
     make-requires
-    enum-told-2
-    enum-told-3
+    (λ c. search needs)
+    (λ c. search needs)
     returns
-    same-length
-    same-length-2
+    (λ c. search needs)
+    (λ c. search needs)
     returns-2
     returns-3
     returns-4)

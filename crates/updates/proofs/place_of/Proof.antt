@@ -5,19 +5,10 @@ use Rattle.updates.proofs.EventLaws.{beyond}
 use Rattle.updates.proofs.place_of.Statement.{statement}
 use Rattle.updates.proofs.place_of.Tie as tie
 
-cast-if1 : tie.Need-cast-if1
-cast-if1 c = search needs
-
-shared-slice-read-result : tie.Need-shared-slice-read-result
-shared-slice-read-result c = search needs
-
-returns : tie.Need-returns
-returns c = search needs
-
 returns-2 : tie.Need-returns-2
 returns-2 c =
     let start = c .before in
     sym (beyond (start .args .places .now) (start .args .thread) (start .pre) (c .if1 .left))
 
 pub place-of-spec : {M : Type 1} → statement M
-place-of-spec = tie.close (tie.spec cast-if1 shared-slice-read-result returns returns-2)
+place-of-spec = tie.close (tie.spec (λ c. search needs) (λ c. search needs) (λ c. search needs) returns-2)

@@ -12,26 +12,14 @@ use Rattle.words.proofs.read_closed.Tie as tie
 number : (c : tie.After-number) → Known (c .number .given .0 .0) (c .number .given .0 .1 .0) ≡ numberFor (c .before .before .before .before .before .args .part .now)
 number c = sym (c .number .given .1) ∙ c .before .before .read-number .ensures
 
-read-number-requires : tie.Need-read-number-requires
-read-number-requires c κs = search needs
-
 enum-told : tie.Need-enum-told
 enum-told c = search needs
-
-enum-known-number : tie.Need-enum-known-number
-enum-known-number c = search needs
 
 sub-same-text : tie.Need-sub-same-text
 sub-same-text c = found _ _ _ (number (c .before)) .within
 
 part-same-text-start : tie.Need-part-same-text-start
 part-same-text-start c = found _ _ _ (number (c .before)) .within
-
-part-same-text-end : tie.Need-part-same-text-end
-part-same-text-end c = search needs
-
-same-text-requires : tie.Need-same-text-requires
-same-text-requires c κs = search needs
 
 returns : tie.Need-returns
 returns c = closed-missing _ _ (sym (c .enum-told .given .1) ∙ c .before .before .read-number .ensures)
@@ -46,13 +34,13 @@ pub read-closed-spec : {M : Type 1} → statement M
 read-closed-spec =
     tie.close
     (tie.spec
-    read-number-requires
+    (λ c κs. search needs)
     enum-told
-    enum-known-number
+    (λ c. search needs)
     sub-same-text
     part-same-text-start
-    part-same-text-end
-    same-text-requires
+    (λ c. search needs)
+    (λ c κs. search needs)
     returns
     returns-2
     returns-3)

@@ -14,12 +14,6 @@ returns c =
 slice-aggregate-same-text : tie.Need-slice-aggregate-same-text
 slice-aggregate-same-text c = sym (length-take-le _ _ (c .before .if1 .left))
 
-same-text-requires : tie.Need-same-text-requires
-same-text-requires c κs = search needs
-
-returns-2 : tie.Need-returns-2
-returns-2 c = search needs
-
 pub starts-with-spec : {M : Type 1} → statement M
 starts-with-spec =
-    tie.close (tie.spec returns slice-aggregate-same-text same-text-requires returns-2)
+    tie.close (tie.spec returns slice-aggregate-same-text (λ c κs. search needs) (λ c. search needs))

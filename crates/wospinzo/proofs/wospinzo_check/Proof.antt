@@ -6,9 +6,6 @@ use Rattle.answer_numbers.proofs.Small.{check-small}
 use Rattle.wospinzo.proofs.wospinzo_check.Statement.{statement}
 use Rattle.wospinzo.proofs.wospinzo_check.Tie as tie
 
-check-requires : tie.Need-check-requires
-check-requires c κs = search needs
-
 answer-number-requires : tie.Need-answer-number-requires
 answer-number-requires c κs = check-small _ _ _ (c .check .ensures) .0
 
@@ -16,4 +13,4 @@ returns : tie.Need-returns
 returns c = c .answer-number .ensures ∙ ap countNumber (c .before .check .ensures)
 
 pub wospinzo-check-spec : {M : Type 1} → statement M
-wospinzo-check-spec = tie.close (tie.spec check-requires answer-number-requires returns)
+wospinzo-check-spec = tie.close (tie.spec (λ c κs. search needs) answer-number-requires returns)

@@ -6,18 +6,12 @@ use Rattle.answer_numbers.proofs.Small.{fresh-small}
 use Rattle.wospinzo.proofs.wospinzo_fresh.Statement.{statement}
 use Rattle.wospinzo.proofs.wospinzo_fresh.Tie as tie
 
-fresh-requires : tie.Need-fresh-requires
-fresh-requires c κs = search needs
-
 answer-number-requires : tie.Need-answer-number-requires
 answer-number-requires c κs = let a = c .before .before .before .before .before .args in fresh-small (a .threads) _ _ (c .before .before .fresh .ensures .reply) .0
-
-same-length : tie.Need-same-length
-same-length c = search needs
 
 returns : tie.Need-returns
 returns c =
     let made = c .before .before .before .fresh .ensures in (c .answer-number .ensures ∙ ap countNumber (made .reply), made .output)
 
 pub wospinzo-fresh-spec : {M : Type 1} → statement M
-wospinzo-fresh-spec = tie.close (tie.spec fresh-requires answer-number-requires same-length returns)
+wospinzo-fresh-spec = tie.close (tie.spec (λ c κs. search needs) answer-number-requires (λ c. search needs) returns)

@@ -6,18 +6,12 @@ use Rattle.answer_numbers.proofs.Small.{nodes-small}
 use Rattle.wospinzo.proofs.wospinzo_nodes.Statement.{statement}
 use Rattle.wospinzo.proofs.wospinzo_nodes.Tie as tie
 
-nodes-requires : tie.Need-nodes-requires
-nodes-requires c κs = search needs
-
 answer-number-requires : tie.Need-answer-number-requires
 answer-number-requires c κs = nodes-small _ _ _ (c .before .before .nodes .ensures .reply) .0
-
-same-length : tie.Need-same-length
-same-length c = search needs
 
 returns : tie.Need-returns
 returns c =
     let made = c .before .before .before .nodes .ensures in (c .answer-number .ensures ∙ ap countNumber (made .reply), made .output)
 
 pub wospinzo-nodes-spec : {M : Type 1} → statement M
-wospinzo-nodes-spec = tie.close (tie.spec nodes-requires answer-number-requires same-length returns)
+wospinzo-nodes-spec = tie.close (tie.spec (λ c κs. search needs) answer-number-requires (λ c. search needs) returns)

@@ -6,18 +6,12 @@ use Rattle.answer_numbers.proofs.Small.{open-small}
 use Rattle.wospinzo.proofs.wospinzo_open_moves.Statement.{statement}
 use Rattle.wospinzo.proofs.wospinzo_open_moves.Tie as tie
 
-open-moves-requires : tie.Need-open-moves-requires
-open-moves-requires c κs = search needs
-
 answer-number-requires : tie.Need-answer-number-requires
 answer-number-requires c κs = open-small _ _ _ _ (c .before .before .open-moves .ensures .reply) .0
-
-same-length : tie.Need-same-length
-same-length c = search needs
 
 returns : tie.Need-returns
 returns c =
     let made = c .before .before .before .open-moves .ensures in (c .answer-number .ensures ∙ ap countNumber (made .reply), made .output)
 
 pub wospinzo-open-moves-spec : {M : Type 1} → statement M
-wospinzo-open-moves-spec = tie.close (tie.spec open-moves-requires answer-number-requires same-length returns)
+wospinzo-open-moves-spec = tie.close (tie.spec (λ c κs. search needs) answer-number-requires (λ c. search needs) returns)

@@ -6,18 +6,12 @@ use Rattle.answer_numbers.proofs.Small.{plan-small}
 use Rattle.wospinzo.proofs.wospinzo_plan.Statement.{statement}
 use Rattle.wospinzo.proofs.wospinzo_plan.Tie as tie
 
-plan-requires : tie.Need-plan-requires
-plan-requires c κs = search needs
-
 answer-number-requires : tie.Need-answer-number-requires
 answer-number-requires c κs = let a = c .before .before .before .before .before .before .args in plan-small (a .threads) (a .history .now) _ _ (c .before .before .plan .ensures .reply) .0
-
-same-length : tie.Need-same-length
-same-length c = search needs
 
 returns : tie.Need-returns
 returns c =
     let made = c .before .before .before .plan .ensures in (c .answer-number .ensures ∙ ap countNumber (made .reply), made .output)
 
 pub wospinzo-plan-spec : {M : Type 1} → statement M
-wospinzo-plan-spec = tie.close (tie.spec plan-requires answer-number-requires same-length returns)
+wospinzo-plan-spec = tie.close (tie.spec (λ c κs. search needs) answer-number-requires (λ c. search needs) returns)

@@ -6,9 +6,6 @@ use Rattle.answer_numbers.proofs.Small.{length-small}
 use Rattle.wospinzo.proofs.wospinzo_plan_length.Statement.{statement}
 use Rattle.wospinzo.proofs.wospinzo_plan_length.Tie as tie
 
-plan-length-requires : tie.Need-plan-length-requires
-plan-length-requires c κs = search needs
-
 answer-number-requires : tie.Need-answer-number-requires
 answer-number-requires c κs = length-small _ _ _ (c .plan-length .ensures) .0
 
@@ -16,4 +13,4 @@ returns : tie.Need-returns
 returns c = c .answer-number .ensures ∙ ap countNumber (c .before .plan-length .ensures)
 
 pub wospinzo-plan-length-spec : {M : Type 1} → statement M
-wospinzo-plan-length-spec = tie.close (tie.spec plan-length-requires answer-number-requires returns)
+wospinzo-plan-length-spec = tie.close (tie.spec (λ c κs. search needs) answer-number-requires returns)

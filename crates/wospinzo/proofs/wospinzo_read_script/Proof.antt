@@ -6,14 +6,8 @@ use Rattle.answer_numbers.proofs.Small.{read-small}
 use Rattle.wospinzo.proofs.wospinzo_read_script.Statement.{statement}
 use Rattle.wospinzo.proofs.wospinzo_read_script.Tie as tie
 
-read-requires : tie.Need-read-requires
-read-requires c κs = search needs
-
 reading-number-requires : tie.Need-reading-number-requires
 reading-number-requires c κs = let a = c .before .before .before .before .before .before .args in read-small (a .script .now) _ _ (c .before .before .read .ensures .reply) .0
-
-same-length : tie.Need-same-length
-same-length c = search needs
 
 returns : tie.Need-returns
 returns c =
@@ -21,4 +15,4 @@ returns c =
 
 pub wospinzo-read-script-spec : {M : Type 1} → statement M
 wospinzo-read-script-spec =
-    tie.close (tie.spec read-requires reading-number-requires same-length returns)
+    tie.close (tie.spec (λ c κs. search needs) reading-number-requires (λ c. search needs) returns)

@@ -6,18 +6,12 @@ use Rattle.answer_numbers.proofs.Small.{run-small}
 use Rattle.wospinzo.proofs.wospinzo_run.Statement.{statement}
 use Rattle.wospinzo.proofs.wospinzo_run.Tie as tie
 
-run-requires : tie.Need-run-requires
-run-requires c κs = search needs
-
 running-number-requires : tie.Need-running-number-requires
 running-number-requires c κs = let a = c .before .before .before .before .before .before .args in run-small (a .script .now) _ _ (c .before .before .run .ensures .reply) .0
-
-same-length : tie.Need-same-length
-same-length c = search needs
 
 returns : tie.Need-returns
 returns c =
     let made = c .before .before .before .run .ensures in (c .running-number .ensures ∙ ap runNumber (made .reply), made .output)
 
 pub wospinzo-run-spec : {M : Type 1} → statement M
-wospinzo-run-spec = tie.close (tie.spec run-requires running-number-requires same-length returns)
+wospinzo-run-spec = tie.close (tie.spec (λ c κs. search needs) running-number-requires (λ c. search needs) returns)

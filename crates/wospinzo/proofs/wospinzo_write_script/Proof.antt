@@ -15,17 +15,8 @@ entry c = c .before .before .before .before .before .before
 is-held : (c : tie.After-hold-place) → let a = entry (c .before) .args in answerReply (c .hold-place .result) ≡ held (deliveryReply (writeEntry (a .threads) (a .triples .now)) (a .out .now))
 is-held c = c .hold-place .ensures ∙ ap held (c .before .before .before .write .ensures .reply)
 
-write-requires : tie.Need-write-requires
-write-requires c κs = search needs
-
-hold-place-requires : tie.Need-hold-place-requires
-hold-place-requires c κs = search needs
-
 answer-number-requires : tie.Need-answer-number-requires
 answer-number-requires c κs = let a = entry (c .before) .args in write-small (a .threads) (a .triples .now) (a .out .now) _ (is-held c) .0
-
-same-length : tie.Need-same-length
-same-length c = search needs
 
 returns : tie.Need-returns
 returns c = let h = c .before in (c .answer-number .ensures ∙ ap countNumber (is-held h), h .before .before .before .write .ensures .output)
@@ -33,4 +24,4 @@ returns c = let h = c .before in (c .answer-number .ensures ∙ ap countNumber (
 pub wospinzo-write-script-spec : {M : Type 1} → statement M
 wospinzo-write-script-spec =
     tie.close
-    (tie.spec write-requires hold-place-requires answer-number-requires same-length returns)
+    (tie.spec (λ c κs. search needs) (λ c κs. search needs) answer-number-requires (λ c. search needs) returns)

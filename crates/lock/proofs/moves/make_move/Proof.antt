@@ -5,30 +5,15 @@ use Rattle.lock.proofs.MoveReplies.{table-refused, found-sound}
 use Rattle.lock.proofs.moves.make_move.Statement.{statement}
 use Rattle.lock.proofs.moves.make_move.Tie as tie
 
-examine-requires : tie.Need-examine-requires
-examine-requires c κs = search needs
-
-enum-known-examined : tie.Need-enum-known-examined
-enum-known-examined c = search needs
-
-enum-known-examined-2 : tie.Need-enum-known-examined-2
-enum-known-examined-2 c = search needs
-
 try-move-requires : tie.Need-try-move-requires
 try-move-requires c κs =
     let known = c .before .before in
     found-sound _ _ _ (sym (known .before .before .examine .ensures) ∙ known .examined2 .given .1)
 
-same-length : tie.Need-same-length
-same-length c = search needs
-
 returns : tie.Need-returns
 returns c =
     let known = c .before in
     table-refused _ _ _ (sym (known .before .before .examine .ensures) ∙ known .examined .given .1)
-
-same-length-2 : tie.Need-same-length-2
-same-length-2 c = search needs
 
 returns-2 : tie.Need-returns-2
 returns-2 c = c .before .before .try-move .ensures .made
@@ -37,11 +22,11 @@ pub make-move-spec : {M : Type 1} → statement M
 make-move-spec =
     tie.close
     (tie.spec
-    examine-requires
-    enum-known-examined
-    enum-known-examined-2
+    (λ c κs. search needs)
+    (λ c. search needs)
+    (λ c. search needs)
     try-move-requires
-    same-length
+    (λ c. search needs)
     returns
-    same-length-2
+    (λ c. search needs)
     returns-2)

@@ -4,12 +4,6 @@ use Rattle.lock.proofs.MoveReplies.{request-refused, request-passed}
 use Rattle.lock.proofs.moves.try_move.Statement.{statement}
 use Rattle.lock.proofs.moves.try_move.Tie as tie
 
-test-request-requires : tie.Need-test-request-requires
-test-request-requires c κs = search needs
-
-enum-known-tested : tie.Need-enum-known-tested
-enum-known-tested c = search needs
-
 enum-told : tie.Need-enum-told
 enum-told c = search needs
 
@@ -19,17 +13,11 @@ apply-request-requires c κs =
     let tested = told .before .before in
     request-passed _ _ _ _ (tested .before .before .before .pre) (tested .test-request .ensures) (told .enum-told .given .1)
 
-same-length : tie.Need-same-length
-same-length c = search needs
-
 returns : tie.Need-returns
 returns c =
     let told = c .before in
     let tested = told .before .before in
     request-refused _ _ _ _ _ (tested .before .before .before .pre) (tested .test-request .ensures) (told .tested .given .1)
-
-same-length-2 : tie.Need-same-length-2
-same-length-2 c = search needs
 
 returns-2 : tie.Need-returns-2
 returns-2 c = c .before .before .apply-request .ensures
@@ -38,11 +26,11 @@ pub try-move-spec : {M : Type 1} → statement M
 try-move-spec =
     tie.close
     (tie.spec
-    test-request-requires
-    enum-known-tested
+    (λ c κs. search needs)
+    (λ c. search needs)
     enum-told
     apply-request-requires
-    same-length
+    (λ c. search needs)
     returns
-    same-length-2
+    (λ c. search needs)
     returns-2)

@@ -35,16 +35,10 @@ module _ (n : ℕ) (out : List ℕ) where
         delivered-as (whole (freshEntry n) out (pass _ [] (true-T (countFits n) fits) no-test) (omega (arith, fresh-length n)))
         refl (ap accepted (sym (fresh-length n)))
 
-count-fits-requires : tie.Need-count-fits-requires
-count-fits-requires c κs = search needs
-
 returns : tie.Need-returns
 returns c =
     let a = c .before .before .before .args in
     bad-size (a .threads) (a .out .now) (sym (c .before .count-fits .ensures) ∙ not-true _ (c .if1 .taken))
-
-size-of-requires : tie.Need-size-of-requires
-size-of-requires c κs = search needs
 
 -- the count fits
 fits : (c : tie.Else1) → countFits (c .before .before .before .args .threads) ≡ true
@@ -62,12 +56,6 @@ cast-write-fresh c =
     let a = left .before .before .before .args in
     omega (arith, high (a .threads) (a .out .now) (fits left))
 
-write-fresh-requires : tie.Need-write-fresh-requires
-write-fresh-requires c κs = search needs
-
-same-length : tie.Need-same-length
-same-length c = search needs
-
 returns-3 : tie.Need-returns-3
 returns-3 c =
     let left = c .before .before .before .before .before .before in
@@ -79,11 +67,11 @@ pub fresh-spec : {M : Type 1} → statement M
 fresh-spec =
     tie.close
     (tie.spec
-    count-fits-requires
+    (λ c κs. search needs)
     returns
-    size-of-requires
+    (λ c κs. search needs)
     returns-2
     cast-write-fresh
-    write-fresh-requires
-    same-length
+    (λ c κs. search needs)
+    (λ c. search needs)
     returns-3)

@@ -55,9 +55,6 @@ module _ (bytes : List ℕ) where
           let same : t ≡ tallyBelow (tableOf bytes) n = tally-is (fitBelow (tableOf bytes) n) _ t (sym found-is ∙ good) in
           ap (λ (x : Tally). Sound n (x .forbidden)) same ∙ simp (right, decision ∙ (ap (passes (tableOf bytes)) good ∙ e))
 
-size-fits-requires : tie.Need-size-fits-requires
-size-fits-requires c κs = search needs
-
 returns : tie.Need-returns
 returns c =
     bad-size (c .before .before .before .args .table .now) (sym (c .before .size-fits .ensures) ∙ not-true _ (c .if1 .taken))
@@ -77,9 +74,6 @@ cast-threads c = omega (arith, c .shared-slice-known2 .given 0)
 
 found-requires : tie.Need-found-requires
 found-requires c κs = (as-numbers (c .before), refl)
-
-enum-known-found : tie.Need-enum-known-found
-enum-known-found c = search needs
 
 enum-told : tie.Need-enum-told
 enum-told c = search needs
@@ -113,12 +107,12 @@ pub examine-spec : {M : Type 1} → statement M
 examine-spec =
     tie.close
     (tie.spec
-    size-fits-requires
+    (λ c κs. search needs)
     returns
     shared-slice-read-threads
     cast-threads
     found-requires
-    enum-known-found
+    (λ c. search needs)
     enum-told
     returns-2
     decided-requires

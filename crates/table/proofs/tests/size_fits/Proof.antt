@@ -18,14 +18,8 @@ empty (x ∷ l) h = absurd (omega arith)
 returns : tie.Need-returns
 returns c = empty (c .before .before .args .table .now) (c .if1 .taken)
 
-shared-slice-read-threads : tie.Need-shared-slice-read-threads
-shared-slice-read-threads c = search needs
-
 cast-threads : tie.Need-cast-threads
 cast-threads c = omega (arith, c .shared-slice-known2 .given 0)
-
-count-fits-requires : tie.Need-count-fits-requires
-count-fits-requires c κs = search needs
 
 size-of-requires : tie.Need-size-of-requires
 size-of-requires c κs = omega (arith, c .before .shared-slice-known2 .given 0)
@@ -37,4 +31,4 @@ returns-2 c = simp (c .before .count-fits .ensures, c .size-of .ensures)
 pub size-fits-spec : {M : Type 1} → statement M
 size-fits-spec =
     tie.close
-    (tie.spec returns shared-slice-read-threads cast-threads count-fits-requires size-of-requires returns-2)
+    (tie.spec returns (λ c. search needs) cast-threads (λ c κs. search needs) size-of-requires returns-2)
