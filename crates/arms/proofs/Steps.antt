@@ -8,13 +8,11 @@ use Rattle.definitions.specs.Answers.{accepted, quiet, moved, outcomeReply}
 use Rattle.definitions.specs.Codes.{setMove, clearMove}
 use Rattle.definitions.specs.Moves.{ask, Effect, noneForbiddenBut, setEffect, clearEffect, effect, isRetry, accepts}
 use Rattle.definitions.specs.Table.{Table, phase≔, target≔, forbidden≔}
-use Rattle.definitions.specs.declared.Head.{Head}
 use Rattle.definitions.specs.declared.Request.{Request}
-use Rattle.definitions.specs.declared.Task.{Task}
 use Rattle.theory.specs.Statements.{subjectBy}
-use Rattle.theory.specs.Tables.{headWith, headAfter, moverAfter, flagAfter}
+use Rattle.theory.specs.Tables.{headWith}
 use Rattle.views.specs.View.{viewOf, Follows, Decides}
-use Rattle.steps.specs.Steps.{inPhase, unseenBy, aimedBy}
+use Rattle.steps.specs.Steps.{unseenBy, aimedBy}
 use Rattle.views.specs.declared.Decided.{Decided}
 use Rattle.views.specs.declared.View.{View}
 use Rattle.basics.proofs.Cases.{or-at, none-of}

@@ -1,9 +1,9 @@
 -- One accepted move over any storage: what is seen of a head, a mover and a subject is the view that the rules ask for (`seen-by`),
 -- and where what they decide is put back, it is the move's (`one-move`). For every storage that keeps what is written and whose table tells it.
-use Prim.Native.Nat.{ℕ, _+_, _-_, _≤_, _<_}
+use Prim.Native.Nat.{ℕ, _+_, _≤_, _<_}
 use native.Mathlib.Omega.{arith}
 use mathlib.Core.Bool.{Bool, cond}
-use mathlib.Core.Path.{_≡_, refl, sym, subst, subst⁻¹, ap, _∙_}
+use mathlib.Core.Path.{_≡_, refl, sym, subst⁻¹, ap, _∙_}
 use lib.Dec.{eqb}
 use Rattle.definitions.specs.Answers.{accepted}
 use Rattle.definitions.specs.Moves.{effect}

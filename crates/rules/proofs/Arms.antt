@@ -1,7 +1,7 @@
 -- What an arm of the rules has to show, from plain facts: the phase or the move that chose it, and the decision that its call answers.
 use Prim.Native.Nat.{ℕ, suc, _≤_, _<_}
 use native.Mathlib.Omega.{arith}
-use mathlib.Core.Bool.{Bool, true, false, cond, _&&_, _||_, or-false}
+use mathlib.Core.Bool.{Bool, true, false, cond, _&&_, _||_}
 use mathlib.Core.List.{List, [], _∷_}
 use mathlib.Core.Logic.{⊎-elim}
 use mathlib.Core.Path.{_≡_, refl, sym, subst, subst⁻¹, ap, _∙_}
@@ -9,13 +9,13 @@ use lib.Dec.{T, eqb, eqb→eq}
 use Rattle.definitions.specs.Answers.{quiet}
 use Rattle.definitions.specs.Bounds.{lastPhase, lastMove, noTarget}
 use Rattle.definitions.specs.Codes.{go, hold}
-use Rattle.definitions.specs.Moves.{ask, Effect, allForbidden, goEffect, effect, isRetry, accepts}
+use Rattle.definitions.specs.Moves.{ask, allForbidden, goEffect, effect, isRetry, accepts}
 use Rattle.definitions.specs.Phases.{rows, hasMove}
 use Rattle.definitions.specs.Table.{Table, phase≔, target≔}
 use Rattle.definitions.specs.Threads.{every, among, between, implies}
 use Rattle.definitions.specs.declared.Outcome.the-variants.{Quiet, Retry}
 use Rattle.definitions.specs.declared.Request.{Request}
-use Rattle.views.specs.View.{allForbiddenBut, viewAt, viewOf, Follows, Decides}
+use Rattle.views.specs.View.{allForbiddenBut, viewAt, Follows, Decides}
 use Rattle.steps.specs.Steps.{passed, aimedBy}
 use Rattle.arms.specs.Looks.{probed}
 use Rattle.views.specs.declared.Decided.{Decided}

@@ -1,5 +1,5 @@
 -- An event put to a record that passed its tests: where its thread stands is what the record's places tell (`counted`), and what the verdict of the plain counts changes is right (`bad`, `fits`).
-use Prim.Native.Nat.{ℕ, _≤_, _<_}
+use Prim.Native.Nat.{ℕ, _≤_}
 use native.Mathlib.Omega.{arith}
 use mathlib.Core.List.{List, [], _∷_}
 use mathlib.Core.Logic.{⊎-elim}
