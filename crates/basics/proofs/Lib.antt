@@ -12,6 +12,7 @@ pub mod Numbers
 pub mod Digits
 pub mod Replies
 pub mod TestLists
+pub mod ShortestLines
 pub mod Outputs
 pub mod Parts
 pub mod Columns

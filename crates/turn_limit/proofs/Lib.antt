@@ -6,6 +6,7 @@ pub mod StopsKept
 pub mod OneRequest
 pub mod AllStopped
 pub mod Turns
+pub mod ByChoice
 pub mod TurnsAnyOrder
 pub mod TurnLimit
 pub mod InOrder

@@ -5,27 +5,18 @@ use native.Mathlib.Omega.{arith}
 use mathlib.Core.List.{List}
 use mathlib.Core.Path.{_≡_}
 use Rattle.definitions.specs.Answers.{accepted}
-use Rattle.definitions.specs.Dispatch.{moverIn, chosen, waiting, dispatchIn, dispatchReply}
+use Rattle.definitions.specs.Dispatch.{moverIn, waiting, dispatchReply}
 use Rattle.definitions.specs.Table.{Storage, tableOf, byteTable}
-use Rattle.dispatching.proofs.Choice.{chosen-may}
-use Rattle.dispatching.proofs.TurnReplies.{waits, moves}
+use Rattle.dispatching.proofs.TurnIsMove.{mover-names}
 use Rattle.theory.specs.Tables.{SoundBytes, Keeps}
 use Rattle.theory.proofs.Bytes.{byte-keeps}
-use Rattle.theory.proofs.Soundness.{sound-e}
 use Rattle.turn_limit.specs.TurnLimit.{mostTurns, dispatcherIn, afterTurns, WaitsAfter}
-use Rattle.turn_limit.proofs.OneRequest.{Passes, bytes-pass, made-by}
+use Rattle.turn_limit.proofs.ByChoice.{by-choice}
+use Rattle.turn_limit.proofs.OneRequest.{Passes, bytes-pass}
 use Rattle.turn_limit.proofs.Turns.{Dispatches, stays-good, at-most}
 
 pub by-lowest : {B : Type 0} (S : Storage B) → Keeps S → Dispatches (dispatcherIn S) (S .table) (Passes S)
-by-lowest S kept =
-    record {
-      is-sound = λ b g. g .is-sound;
-      waits = λ b g t. waits moverIn S b (g .fits) (g .is-sound) t;
-      moves = λ b g t.
-          let s = S .table b in
-          let (reply, left) = moves moverIn S b (g .fits) (g .is-sound) t in
-          let (good, made) = made-by S kept b (chosen s) g (dispatchIn S b) (chosen-may s (sound-e s (g .is-sound)) t) left in ((_, _, reply), good, made);
-    }
+by-lowest S kept = by-choice S kept moverIn mover-names
 
 pub turns-sound : (table : List ℕ) → SoundBytes table → (k : ℕ) → SoundBytes (afterTurns k table)
 turns-sound table g k =

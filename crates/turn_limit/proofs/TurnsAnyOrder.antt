@@ -3,23 +3,23 @@
 use Prim.Native.Nat.{ℕ, _+_, _≤_}
 use native.Mathlib.Omega.{arith}
 use mathlib.Core.List.{List, [], _∷_}
-use mathlib.Core.Path.{_≡_, ap}
+use mathlib.Core.Path.{_≡_}
 use lib.Dec.{T}
 use lib.ListN.{length}
-use Rattle.definitions.specs.Dispatch.{mayDispatch, isWaiting}
+use Rattle.definitions.specs.Dispatch.{mayDispatch}
 use Rattle.definitions.specs.Moves.{stepIn}
 use Rattle.definitions.specs.Table.{Storage, tableOf, byteTable}
 use Rattle.definitions.specs.declared.Request.{Request}
-use Rattle.dispatching.proofs.Choice.{turn-may}
 use Rattle.theory.specs.Tables.{SoundBytes, Keeps}
-use Rattle.basics.proofs.Tests.{and-l, and-r, cond-yes, cond-no}
+use Rattle.basics.proofs.Tests.{and-l, and-r}
 use Rattle.theory.proofs.Bytes.{byte-keeps}
 use Rattle.theory.proofs.Soundness.{sound-e}
 use Rattle.theory.proofs.Storages.{table-step}
-use Rattle.turn_limit.specs.AnyOrder.{dispatchesAllIn, dispatchesAll, WaitsAfterBy, Rule, NamesTurns, requestBy, turnBy}
+use Rattle.turn_limit.specs.AnyOrder.{dispatchesAllIn, dispatchesAll, WaitsAfterBy, Rule, NamesTurns, turnBy}
 use Rattle.turn_limit.specs.TurnLimit.{mostTurns}
-use Rattle.turn_limit.proofs.OneRequest.{request-lowers, Passes, bytes-pass, step-passes, made-by}
-use Rattle.turn_limit.proofs.Turns.{Dispatches, at-most}
+use Rattle.turn_limit.proofs.ByChoice.{by-rule}
+use Rattle.turn_limit.proofs.OneRequest.{request-lowers, Passes, bytes-pass, step-passes}
+use Rattle.turn_limit.proofs.Turns.{at-most}
 use Rattle.turn_limit.proofs.TurnsLeft.{turnsLeft, left-most}
 
 module _ {B : Type 0} (S : Storage B) (kept : Keeps S) where
@@ -32,19 +32,6 @@ module _ {B : Type 0} (S : Storage B) (kept : Keeps S) where
       let b′ = stepIn S b r in
       let one : turnsLeft (S .table b′) + 1 ≡ turnsLeft s = rw (table-step S kept b r (g .fits)) (request-lowers s (sound-e s (g .is-sound)) r (and-l (mayDispatch s r) (dispatchesAllIn S b′ rs) t)) in
       omega (arith, counted b′ rs (step-passes S kept b r g) (and-r (mayDispatch s r) (dispatchesAllIn S b′ rs) t))
-
-  -- the turns by a rule
-  pub by-rule : {Q : Type 0} (rule : Rule Q) → NamesTurns rule → Dispatches (turnBy rule S) (λ (q, b). S .table b) (λ (q, b). Passes S b)
-  by-rule {Q} rule names =
-      record {
-        is-sound = λ (q, b) g. g .is-sound;
-        waits = λ (q, b) g t. (t, cond-yes (isWaiting (S .table b)) (q, b) _ t);
-        moves = λ (q, b) g t.
-            let s = S .table b in
-            let r = requestBy rule S q b in
-            let may = turn-may s (sound-e s (g .is-sound)) (rule .mover q s) (names q s (g .is-sound) t) in
-            let (good, made) = made-by S kept b r g _ may (ap (λ (x : Q × B). x .1) (cond-no (isWaiting s) (q, b) (rule .keeps q s, stepIn S b r) t)) in (may, good, made);
-      }
 
 pub turns-any-order : (table : List ℕ) → SoundBytes table → (rs : List Request) → T (dispatchesAll table rs) → length rs ≤ mostTurns (tableOf table .threads)
 turns-any-order table g rs t = omega (arith, counted byteTable byte-keeps table rs (bytes-pass table g) t, left-most (tableOf table) (sound-e (tableOf table) (g .is-sound)))

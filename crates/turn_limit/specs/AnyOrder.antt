@@ -3,8 +3,8 @@ use Prim.Native.Nat.{ℕ, zero, suc, _≤_, _<_}
 use mathlib.Core.Bool.{Bool, true, cond, _&&_}
 use mathlib.Core.List.{List, [], _∷_}
 use mathlib.Core.Path.{_≡_}
-use lib.Dec.{T}
-use Rattle.definitions.specs.Dispatch.{mayDispatch, requestOf, isWaiting}
+use Rattle.definitions.specs.Answers.{accepted, MoveAnswer}
+use Rattle.definitions.specs.Dispatch.{mayDispatch, isWaiting, made, waiting, turnReplyIn, turnIn}
 use Rattle.definitions.specs.Moves.{stepIn}
 use Rattle.definitions.specs.Table.{Table, Storage, byteTable}
 use Rattle.definitions.specs.declared.Request.{Request}
@@ -22,6 +22,14 @@ abbrev pub dispatchesAll : List ℕ → List Request → Bool
 dispatchesAll = dispatchesAllIn byteTable
 
 -- ---- turns one after the other
+
+-- a turn by a choice of the thread that moves makes a move, and it says waiting
+module _ {B : Type 0} (choice : Table → ℕ) (storage : Storage B) where
+  abbrev pub MovesBy : B → Type 0
+  MovesBy b = (r : Request) × (answer : MoveAnswer) × (turnReplyIn choice storage b ≡ accepted (made r answer))
+
+  abbrev pub WaitsBy : B → Type 0
+  WaitsBy b = turnReplyIn choice storage b ≡ accepted waiting
 
 -- a dispatcher of what X stores: what its turn leaves, when it makes a move, and when it says waiting
 pub record Dispatcher (X : Type 0) : Type 1 where
@@ -52,15 +60,12 @@ pub record Rule (Q : Type 0) : Type 0 where
 abbrev pub NamesTurns : {Q : Type 0} → Rule Q → Type 0
 NamesTurns {Q} rule = (q : Q) → NamesTurn (rule .mover q)
 
--- a turn by a rule: the request of the thread that it names, with its lowest target; where no thread has a turn it says waiting and changes nothing
+-- a turn by a rule: that by its choice; what is kept stays where no thread has a turn
 module _ {Q B : Type 0} (rule : Rule Q) (storage : Storage B) where
-  abbrev pub requestBy : Q → B → Request
-  requestBy q b = requestOf (storage .table b) (rule .mover q (storage .table b))
-
   abbrev pub turnBy : Dispatcher (Q × B)
   turnBy =
       record {
-        leaves = λ (q, b). cond (isWaiting (storage .table b)) (q, b) (rule .keeps q (storage .table b), stepIn storage b (requestBy q b));
-        Moves = λ (q, b). T (mayDispatch (storage .table b) (requestBy q b));
-        Waits = λ (q, b). T (isWaiting (storage .table b));
+        leaves = λ (q, b). let s = storage .table b in (cond (isWaiting s) q (rule .keeps q s), turnIn (rule .mover q) storage b);
+        Moves = λ (q, b). MovesBy (rule .mover q) storage b;
+        Waits = λ (q, b). WaitsBy (rule .mover q) storage b;
       }

@@ -1,14 +1,11 @@
 -- The dispatcher's turns one after the other, how many of them move, and their limit (02 §8).
 use Prim.Native.Nat.{ℕ, _*_, _-_}
 use mathlib.Core.List.{List}
-use mathlib.Core.Path.{_≡_}
-use Rattle.definitions.specs.Answers.{accepted, MoveAnswer}
-use Rattle.definitions.specs.Dispatch.{made, waiting, dispatchReplyIn, dispatchIn}
+use Rattle.definitions.specs.Dispatch.{moverIn, dispatchIn}
 use Rattle.definitions.specs.Table.{Storage, byteTable}
-use Rattle.definitions.specs.declared.Request.{Request}
 use Rattle.completeness.specs.Reached.{Reached}
 use Rattle.theory.specs.Tables.{SoundBytes}
-use Rattle.turn_limit.specs.AnyOrder.{Dispatcher, afterTurnsBy, WaitsAfterBy}
+use Rattle.turn_limit.specs.AnyOrder.{MovesBy, WaitsBy, Dispatcher, afterTurnsBy, WaitsAfterBy}
 
 -- "waiting comes after at most 6N - 2 turns"
 abbrev pub mostTurns : ℕ → ℕ
@@ -19,8 +16,8 @@ abbrev pub dispatcherIn : {B : Type 0} → Storage B → Dispatcher B
 dispatcherIn storage =
     record {
       leaves = dispatchIn storage;
-      Moves = λ b. (r : Request) × (answer : MoveAnswer) × (dispatchReplyIn storage b ≡ accepted (made r answer));
-      Waits = λ b. dispatchReplyIn storage b ≡ accepted waiting;
+      Moves = MovesBy moverIn storage;
+      Waits = WaitsBy moverIn storage;
     }
 
 -- on bytes

@@ -28,23 +28,8 @@ is-standing c = sym (c .before .may-stand .ensures) ∙ not-false _ (c .if3 .lef
 loop-holds : tie.Need-loop-holds Inv-loop μ-loop
 loop-holds c = behind-first _
 
-shared-slice-read-c : tie.Need-shared-slice-read-c Inv-loop μ-loop
-shared-slice-read-c c = omega arith
-
-add-i : tie.Need-add-i Inv-loop μ-loop
-add-i c = omega arith
-
-is-printable-requires : tie.Need-is-printable-requires Inv-loop μ-loop
-is-printable-requires c κs = tt
-
 returns : tie.Need-returns Inv-loop μ-loop
 returns c = sym (note-bad _ _ (c .before .before .before .loop-test .taken) (sym (c .before .is-printable .ensures) ∙ not-true _ (c .if1 .taken)))
-
-is-bracket-requires : tie.Need-is-bracket-requires Inv-loop μ-loop
-is-bracket-requires c κs = tt
-
-may-stand-requires : tie.Need-may-stand-requires Inv-loop μ-loop
-may-stand-requires c κs = tt
 
 returns-2 : tie.Need-returns-2 Inv-loop μ-loop
 returns-2 c =
@@ -55,18 +40,12 @@ returns-2 c =
 depth-after-requires : tie.Need-depth-after-requires Inv-loop μ-loop
 depth-after-requires c κs = (c .before .before .before .before .before .before .before .before .loop .inv .deep, is-standing c)
 
-loop-less : tie.Need-loop-less Inv-loop μ-loop
-loop-less c = omega arith
-
 loop-again : tie.Need-loop-again Inv-loop μ-loop
 loop-again c =
     let top = c .before .before .before .before .before .before .before .before in
     let tested = c .before .before .before in
     behind-bracket _ _ _ (top .before .loop .inv) (top .loop-test .taken) (sym (tested .before .is-bracket .ensures) ∙ tested .if2 .taken)
     (is-shown (tested .before .before)) (is-standing (c .before)) _ (c .depth-after .ensures)
-
-loop-less-2 : tie.Need-loop-less-2 Inv-loop μ-loop
-loop-less-2 c = omega arith
 
 loop-again-2 : tie.Need-loop-again-2 Inv-loop μ-loop
 loop-again-2 c =
@@ -83,16 +62,16 @@ note-fits-spec =
     Inv-loop
     μ-loop
     loop-holds
-    shared-slice-read-c
-    add-i
-    is-printable-requires
+    (λ c. omega arith)
+    (λ c. omega arith)
+    (λ c κs. tt)
     returns
-    is-bracket-requires
-    may-stand-requires
+    (λ c κs. tt)
+    (λ c κs. tt)
     returns-2
     depth-after-requires
-    loop-less
+    (λ c. omega arith)
     loop-again
-    loop-less-2
+    (λ c. omega arith)
     loop-again-2
     returns-3)
