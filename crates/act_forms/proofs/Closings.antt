@@ -4,19 +4,19 @@ use mathlib.Core.Bool.{Bool, true, false, cond, ◌&&◌}
 use mathlib.Core.List.{List}
 use mathlib.Core.Path.{◌≡◌, refl, sym, ap, ◌∙◌}
 use Rattle.definitions.specs.Forms.{Form, bad}
-use Rattle.definitions.specs.Texts.{same, numberRead}
-use Rattle.words.specs.Numbers.{numberIf, closedFor}
+use Rattle.definitions.specs.Texts.{same, number_read}
+use Rattle.words.specs.Numbers.{number_if, closed_for}
 use Rattle.words.specs.declared.MaybeNumber.{MaybeNumber}
 use Rattle.words.specs.declared.MaybeNumber.TheVariants.{Known, Unknown}
 
-abbrev formBy : (ℕ → Form) → MaybeNumber → Form
-formBy f (Known value digits) = f value
-formBy f Unknown = bad
+abbrev form_by : (ℕ → Form) → MaybeNumber → Form
+form_by f (Known value digits) = f value
+form_by f Unknown = bad
 
-pub read_by : (f : ℕ → Form) (xs closing : List ℕ) (m n : MaybeNumber) → m ≡ closedFor xs closing → m ≡ n
-    → formBy f n ≡ cond ((numberRead xs).fits && same (numberRead xs).rest closing) (f (numberRead xs).value) bad
-read_by f xs closing m n e h = ap (formBy f) (sym h ∙ e) ∙ push ((numberRead xs).fits && same (numberRead xs).rest closing)
+pub read_by : (f : ℕ → Form) (xs closing : List ℕ) (m n : MaybeNumber) → m ≡ closed_for xs closing → m ≡ n
+    → form_by f n ≡ cond ((number_read xs).fits && same (number_read xs).rest closing) (f (number_read xs).value) bad
+read_by f xs closing m n e h = ap (form_by f) (sym h ∙ e) ∙ push ((number_read xs).fits && same (number_read xs).rest closing)
   where
-    push : (b : Bool) → formBy f (numberIf b xs) ≡ cond b (f (numberRead xs).value) bad
+    push : (b : Bool) → form_by f (number_if b xs) ≡ cond b (f (number_read xs).value) bad
     push true = refl
     push false = refl

@@ -4,8 +4,8 @@ use Rattle.act_forms.specs.declared.Form.{Form}
 use Rattle.act_forms.specs.declared.Form.TheVariants.{Threads, Request, Note, Bad}
 
 -- what each case of the code's form means
-abbrev pub formFor : Form → forms.Form
-formFor (Threads n) = forms.threads n
-formFor (Request r) = forms.request r
-formFor Note = forms.note
-formFor Bad = forms.bad
+abbrev pub form_for : Form → forms.Form
+form_for (Threads n) = forms.threads n
+form_for (Request r) = forms.request r
+form_for Note = forms.note
+form_for Bad = forms.bad

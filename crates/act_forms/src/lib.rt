@@ -1,9 +1,9 @@
 // What a line of a script says, and the reader of what follows the thread's number in the line of a move.
 ghost use Rattle.std.specs.Prelude.{◌≡◌};
-ghost use Rattle.definitions.specs.Forms.{targetForm, aimedForm, actForm};
+ghost use Rattle.definitions.specs.Forms.{target_form, aimed_form, act_form};
 ghost use Rattle.definitions.specs.Moves.{ask};
-ghost use Rattle.definitions.specs.Texts.{numberRead};
-ghost use Rattle.act_forms.specs.Readings.{formFor};
+ghost use Rattle.definitions.specs.Texts.{number_read};
+ghost use Rattle.act_forms.specs.Readings.{form_for};
 
 use definitions::{CALL_EXCLUSIVE, CALL_SHARED, CLEAR, GO, HOLD, RELENT, Request, SET};
 use words::{MaybeNumber, read_closed, same_text, starts_with};
@@ -28,7 +28,7 @@ fn asking(thread: u16, mv: u16, target: u16) -> Form
 
 // What follows `(T (set ` or `(T (clear `: `K))`.
 fn read_target(thread: u16, mv: u16, part: &[u8]) -> Form
-    ensures { formFor result ≡ targetForm thread mv (numberRead part.now) }
+    ensures { form_for result ≡ target_form thread mv (number_read part.now) }
 {
     let number = read_closed(part, b"))");
     match number {
@@ -39,7 +39,7 @@ fn read_target(thread: u16, mv: u16, part: &[u8]) -> Form
 
 // A move with a target, from the space behind the thread's number on.
 fn read_aimed(thread: u16, part: &[u8]) -> Form
-    ensures { formFor result ≡ aimedForm thread part.now }
+    ensures { form_for result ≡ aimed_form thread part.now }
 {
     if starts_with(part, b" (set ") {
         return read_target(thread, SET as u16, &part[6..]);
@@ -52,7 +52,7 @@ fn read_aimed(thread: u16, part: &[u8]) -> Form
 
 // What follows the thread's number, from the space on. A move without a target has target 0.
 pub fn read_act(thread: u16, part: &[u8]) -> Form
-    ensures { formFor result ≡ actForm thread part.now }
+    ensures { form_for result ≡ act_form thread part.now }
 {
     if same_text(part, b" (go))") {
         return asking(thread, GO as u16, 0);

@@ -1,6 +1,6 @@
 // What stands behind T in the line of a move: how long it is, and the same put into an output.
 ghost use Rattle.std.specs.Prelude.{◌++◌, ◌≡◌, length};
-ghost use Rattle.definitions.specs.Forms.{actText};
+ghost use Rattle.definitions.specs.Forms.{act_text};
 ghost use Rattle.definitions.specs.Texts.{decimal};
 ghost use Rattle.basics.specs.Outputs.{RoomAt, PutAt};
 
@@ -25,7 +25,7 @@ pub fn put_around(out: &mut [u8], at: usize, word: &[u8], number: u16, close: &[
 
 // What stands behind T, by the move's number; a number that is no move's has nothing.
 pub fn act_length(mv: u8, target: u8) -> u8
-    ensures { result ≡ length (actText mv target) }
+    ensures { result ≡ length (act_text mv target) }
 {
     let digits = decimal_length(target as usize);
     match mv {
@@ -41,8 +41,8 @@ pub fn act_length(mv: u8, target: u8) -> u8
 }
 
 pub fn put_act(out: &mut [u8], at: usize, mv: u8, target: u8) -> usize
-    requires { RoomAt out.old at (actText mv target) }
-    ensures { PutAt out.old at (actText mv target) out.new result }
+    requires { RoomAt out.old at (act_text mv target) }
+    ensures { PutAt out.old at (act_text mv target) out.new result }
 {
     match mv {
         GO => put_text(out, at, b" (go))"),

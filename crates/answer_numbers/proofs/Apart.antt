@@ -8,8 +8,8 @@ use mathlib.Core.Logic.{⊎_elim}
 use mathlib.Core.Path.{◌≡◌, refl, sym, ap, ap₂}
 use lib.Dec.{lit≤}
 use Rattle.definitions.specs.Answers.{Reply, accepted, refused, Seen, shown, quiet, MoveAnswer, moved, code_of, number_of}
-use Rattle.definitions.specs.Bounds.{lastEvent}
-use Rattle.definitions.specs.Dispatch.{DispatchAnswer, made, waiting, eventSeen}
+use Rattle.definitions.specs.Bounds.{last_event}
+use Rattle.definitions.specs.Dispatch.{DispatchAnswer, made, waiting, event_seen}
 use Rattle.definitions.specs.Moves.{ask}
 use Rattle.definitions.specs.Run.{RunCounts}
 use Rattle.definitions.specs.Scripts.{Listed}
@@ -24,7 +24,7 @@ use Rattle.definitions.specs.declared.Refusal.TheVariants.{BadSize, Unsound, NoT
 use Rattle.definitions.specs.declared.Refusal.TheVariants.{BadForm, UnknownPair, NotNext, Occupied, NoRoom, Inconsistent, NotListed}
 use Rattle.definitions.specs.declared.Request.{Request}
 use Rattle.basics.proofs.Tests.{below?}
-use Rattle.answer_numbers.specs.Encoding.{encoded, retryUnit, madeMark, seenValue, moveValue, run_value, turnValue, insideValue, listedValue, nextValue, Below}
+use Rattle.answer_numbers.specs.Encoding.{encoded, retry_unit, made_mark, seen_value, move_value, run_value, turn_value, inside_value, listed_value, next_value, Below}
 
 -- ---- one law
 
@@ -76,7 +76,7 @@ codes LeaveExclusiveCall = (lit≤ tt, lit≤ tt)
 codes LeaveExclusiveReturn = (lit≤ tt, lit≤ tt)
 
 -- what is seen of a move
-pub seen_most : (e : MoveEvent) → seenValue (eventSeen e) ≤ lastEvent
+pub seen_most : (e : MoveEvent) → seen_value (event_seen e) ≤ last_event
 seen_most (event.Shown e) = (codes e).1
 seen_most event.Quiet = omega arith
 
@@ -100,53 +100,53 @@ both_told unit n m k l f g e =
 -- ---- what each value tells
 
 -- yes and no
-pub bool_tells : (a b : Bool) → insideValue a ≡ insideValue b → a ≡ b
+pub bool_tells : (a b : Bool) → inside_value a ≡ inside_value b → a ≡ b
 bool_tells true true e = refl
 bool_tells true false e = absurd (omega arith)
 bool_tells false true e = absurd (omega arith)
 bool_tells false false e = refl
 
 -- reading's answer, whose N has a byte, and a run's, whose bytes stand below its retries
-pub listed-tells : (a b : Listed) → a.threads < 256 → b.threads < 256 → listedValue a ≡ listedValue b → a ≡ b
+pub listed-tells : (a b : Listed) → a.threads < 256 → b.threads < 256 → listed_value a ≡ listed_value b → a ≡ b
 listed-tells a b f g e = let t = both_told 256 a.threads b.threads a.bytes b.bytes f g e in λ i. record { threads = t.0 i; bytes = t.1 i }
 
-pub run-tells : (a b : RunCounts) → a.bytes < retryUnit → b.bytes < retryUnit → run_value a ≡ run_value b → a ≡ b
-run-tells a b f g e = let t = both_told retryUnit a.bytes b.bytes a.retries b.retries f g e in λ i. record { bytes = t.0 i; retries = t.1 i }
+pub run-tells : (a b : RunCounts) → a.bytes < retry_unit → b.bytes < retry_unit → run_value a ≡ run_value b → a ≡ b
+run-tells a b f g e = let t = both_told retry_unit a.bytes b.bytes a.retries b.retries f g e in λ i. record { bytes = t.0 i; retries = t.1 i }
 
 -- the answer where the next history is asked for: bytes that are written are above 0
 abbrev pub NextFits : NextAnswer → Type 0
-NextFits (written bytes) = (1 ≤ bytes) × (bytes < retryUnit)
+NextFits (written bytes) = (1 ≤ bytes) × (bytes < retry_unit)
 NextFits last = Unit {0}
 
-pub next-tells : (a b : NextAnswer) → NextFits a → NextFits b → nextValue a ≡ nextValue b → a ≡ b
+pub next-tells : (a b : NextAnswer) → NextFits a → NextFits b → next_value a ≡ next_value b → a ≡ b
 next-tells (written k) (written m) f g e = ap written e
 next-tells (written k) last f g e = absurd (omega arith)
 next-tells last (written m) f g e = absurd (omega arith)
 next-tells last last f g e = refl
 
-pub next_low : (a : NextAnswer) → NextFits a → nextValue a < retryUnit
+pub next_low : (a : NextAnswer) → NextFits a → next_value a < retry_unit
 next_low (written bytes) f = f.1
 next_low last f = omega arith
 
 -- what is seen of a move: an event has a code from 1 to 8
 abbrev pub SeenFits : Seen → Type 0
-SeenFits (shown event) = (1 ≤ event) × (event ≤ lastEvent)
+SeenFits (shown event) = (1 ≤ event) × (event ≤ last_event)
 SeenFits quiet = Unit {0}
 
-seen-tells : (a b : Seen) → SeenFits a → SeenFits b → seenValue a ≡ seenValue b → a ≡ b
+seen-tells : (a b : Seen) → SeenFits a → SeenFits b → seen_value a ≡ seen_value b → a ≡ b
 seen-tells (shown d) (shown e) f g h = ap shown h
 seen-tells (shown d) quiet f g h = absurd (omega arith)
 seen-tells quiet (shown e) f g h = absurd (omega arith)
 seen-tells quiet quiet f g h = refl
 
-pub seen_low : (a : Seen) → SeenFits a → seenValue a ≤ lastEvent
+pub seen_low : (a : Seen) → SeenFits a → seen_value a ≤ last_event
 seen_low (shown event) f = f.1
 seen_low quiet f = omega arith
 
 -- a move's answer
-pub move-tells : (a b : MoveAnswer) → SeenFits a.seen → SeenFits b.seen → moveValue a ≡ moveValue b → a ≡ b
+pub move-tells : (a b : MoveAnswer) → SeenFits a.seen → SeenFits b.seen → move_value a ≡ move_value b → a ≡ b
 move-tells a b f g e =
-    let t = both_told retryUnit (seenValue a.seen) (seenValue b.seen) (cond a.retry 1 0) (cond b.retry 1 0)
+    let t = both_told retry_unit (seen_value a.seen) (seen_value b.seen) (cond a.retry 1 0) (cond b.retry 1 0)
     (omega (arith, seen_low a.seen f)) (omega (arith, seen_low b.seen g)) e in
     let seen = seen-tells a.seen b.seen f g t.0 in
     let retry = bool_tells a.retry b.retry t.1 in
@@ -158,24 +158,24 @@ pub record MadeFits (r : Request) (a : MoveAnswer) : Type 0 where
   pub mv : r.mv < 256
   pub target : r.target < 256
   pub seen : SeenFits a.seen
-  pub no-retry : ◌≡◌ {A = ℕ} (cond a.retry 1 0) 0
+  pub no_retry : ◌≡◌ {A = ℕ} (cond a.retry 1 0) 0
 
 abbrev pub TurnFits : DispatchAnswer → Type 0
 TurnFits (made r a) = MadeFits r a
 TurnFits waiting = Unit {0}
 
 -- its four bytes are told
-bytes-told : (v w i j m n t u : ℕ) → v ≤ lastEvent → w ≤ lastEvent → i < 256 → j < 256 → m < 256 → n < 256
-    → madeMark + v + 256 * i + 65_536 * m + 16_777_216 * t ≡ madeMark + w + 256 * j + 65_536 * n + 16_777_216 * u → (v ≡ w) × (i ≡ j) × (m ≡ n) × (t ≡ u)
-bytes-told v w i j m n t u a b c d e f h =
-    let low = both_told 256 (madeMark + v) (madeMark + w) (i + 256 * (m + 256 * t)) (j + 256 * (n + 256 * u)) (omega arith) (omega arith) (omega arith) in
+bytes_told : (v w i j m n t u : ℕ) → v ≤ last_event → w ≤ last_event → i < 256 → j < 256 → m < 256 → n < 256
+    → made_mark + v + 256 * i + 65_536 * m + 16_777_216 * t ≡ made_mark + w + 256 * j + 65_536 * n + 16_777_216 * u → (v ≡ w) × (i ≡ j) × (m ≡ n) × (t ≡ u)
+bytes_told v w i j m n t u a b c d e f h =
+    let low = both_told 256 (made_mark + v) (made_mark + w) (i + 256 * (m + 256 * t)) (j + 256 * (n + 256 * u)) (omega arith) (omega arith) (omega arith) in
     let (thread, rest) = both_told 256 i j (m + 256 * t) (n + 256 * u) c d low.1 in
     let (mv, target) = both_told 256 m n t u e f rest in
     (omega (arith, low.0), thread, mv, target)
 
-pub turn-tells : (a b : DispatchAnswer) → TurnFits a → TurnFits b → turnValue a ≡ turnValue b → a ≡ b
+pub turn-tells : (a b : DispatchAnswer) → TurnFits a → TurnFits b → turn_value a ≡ turn_value b → a ≡ b
 turn-tells (made r a) (made q b) f g e =
-    let told = bytes-told (moveValue a) (moveValue b) r.thread q.thread r.mv q.mv r.target q.target
+    let told = bytes_told (move_value a) (move_value b) r.thread q.thread r.mv q.mv r.target q.target
     (omega (arith, seen_low a.seen f.seen)) (omega (arith, seen_low b.seen g.seen)) f.thread g.thread f.mv g.mv e in
     let answer = move-tells a b f.seen g.seen told.0 in
     λ i. made (ask (told.1 i) (told.2 i) (told.3 i)) (answer i)
@@ -183,6 +183,6 @@ turn-tells (made r a) waiting f g e = absurd (omega arith)
 turn-tells waiting (made q b) f g e = absurd (omega arith)
 turn-tells waiting waiting f g e = refl
 
-pub turn_low : (a : DispatchAnswer) → TurnFits a → turnValue a < retryUnit
+pub turn_low : (a : DispatchAnswer) → TurnFits a → turn_value a < retry_unit
 turn_low (made r a) f = omega (arith, seen_low a.seen f.seen)
 turn_low waiting f = omega arith

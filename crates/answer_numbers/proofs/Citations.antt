@@ -3,23 +3,23 @@ use Rattle.answer_numbers.specs.NumbersTold.{NumbersTold}
 use Rattle.answer_numbers.proofs.Small.{write-held}
 use Rattle.answer_numbers.proofs.Told as told
 
-pub numbers-told : NumbersTold
-numbers-told =
+pub numbers_told : NumbersTold
+numbers_told =
     record {
-      move-told = told.move-told;
-      turn-told = told.turn-told;
-      count-told = told.count-told;
-      watch-told = told.watch-told;
-      inside-told = told.inside-told;
-      next-told = told.next-told;
+      move_told = told.move_told;
+      turn_told = told.turn_told;
+      count_told = told.count_told;
+      watch_told = told.watch_told;
+      inside_told = told.inside_told;
+      next_told = told.next_told;
       read_told = told.read_told;
-      run-told = told.run-told;
-      move-low = told.move-low;
+      run_told = told.run_told;
+      move_low = told.move_low;
       turn_low = told.turn_low;
       count_low = told.count_low;
       next_low = told.next_low;
       read_low = told.read_low;
       read_byte = told.read_byte;
-      run-low = told.run-low;
+      run_low = told.run_low;
       write-held = write-held;
     }

@@ -2,12 +2,12 @@
 // the refusal's place, or the value of what is answered (specs/Encoding.antt). The numbers of a move and of a turn stand in the
 // crate move_numbers.
 ghost use Rattle.std.specs.Prelude.{◌<◌, ◌≡◌};
-ghost use Rattle.definitions.specs.Answers.{answerReply};
-ghost use Rattle.definitions.specs.Run.{runningReply};
-ghost use Rattle.definitions.specs.Scripts.{readingReply};
-ghost use Rattle.definitions.specs.ShortHistories.{nextReply};
-ghost use Rattle.definitions.specs.Watch.{watchedReply, insideReply};
-ghost use Rattle.answer_numbers.specs.Encoding.{runNumber, countNumber, watchNumber, insideNumber, readNumber, nextNumber, valueIn, listedIn, runIn, nextIn, valueBound, held};
+ghost use Rattle.definitions.specs.Answers.{answer_reply};
+ghost use Rattle.definitions.specs.Run.{running_reply};
+ghost use Rattle.definitions.specs.Scripts.{reading_reply};
+ghost use Rattle.definitions.specs.ShortHistories.{next_reply};
+ghost use Rattle.definitions.specs.Watch.{watched_reply, inside_reply};
+ghost use Rattle.answer_numbers.specs.Encoding.{run_number, count_number, watch_number, inside_number, read_number, next_number, value_in, listed_in, run_in, next_in, value_bound, held};
 
 use codes::number_of;
 use definitions::{Answer, Inside, NextHistory, Reading, Running, Watched};
@@ -20,8 +20,8 @@ pub const RETRY_UNIT: u64 = 4_294_967_296;
 
 // The number of any other entry's answer, whose value is small.
 pub fn answer_number(answer: Answer) -> u64
-    requires { valueIn (answerReply answer) < valueBound }
-    ensures { result ≡ countNumber (answerReply answer) }
+    requires { value_in (answer_reply answer) < value_bound }
+    ensures { result ≡ count_number (answer_reply answer) }
 {
     match answer {
         Answer::Done(count) => 256 * (count as u64),
@@ -31,8 +31,8 @@ pub fn answer_number(answer: Answer) -> u64
 
 // The number of a run's answer, whose values are small.
 pub fn running_number(answer: Running) -> u64
-    requires { runIn (runningReply answer) < valueBound }
-    ensures { result ≡ runNumber (runningReply answer) }
+    requires { run_in (running_reply answer) < value_bound }
+    ensures { result ≡ run_number (running_reply answer) }
 {
     match answer {
         Running::Ran { bytes, retries } => 256 * (bytes as u64 + RETRY_UNIT * (retries as u64)),
@@ -42,7 +42,7 @@ pub fn running_number(answer: Running) -> u64
 
 // The number of a watcher's answer to its start or to an event.
 pub fn watch_number(answer: Watched) -> u64
-    ensures { result ≡ watchNumber (watchedReply answer) }
+    ensures { result ≡ watch_number (watched_reply answer) }
 {
     match answer {
         Watched::Good => 0,
@@ -52,7 +52,7 @@ pub fn watch_number(answer: Watched) -> u64
 
 // The number of its answer to the question.
 pub fn inside_number(answer: Inside) -> u64
-    ensures { result ≡ insideNumber (insideReply answer) }
+    ensures { result ≡ inside_number (inside_reply answer) }
 {
     match answer {
         Inside::Somebody => 256,
@@ -63,8 +63,8 @@ pub fn inside_number(answer: Inside) -> u64
 
 // The number of reading's answer, whose values are small.
 pub fn reading_number(answer: Reading) -> u64
-    requires { listedIn (readingReply answer) < valueBound }
-    ensures { result ≡ readNumber (readingReply answer) }
+    requires { listed_in (reading_reply answer) < value_bound }
+    ensures { result ≡ read_number (reading_reply answer) }
 {
     match answer {
         Reading::Read { threads, bytes } => 256 * (threads as u64 + 256 * (bytes as u64)),
@@ -74,8 +74,8 @@ pub fn reading_number(answer: Reading) -> u64
 
 // The number of the answer where the next history is asked for; that the given one was the last is 0, as no bytes are written.
 pub fn next_number(answer: NextHistory) -> u64
-    requires { nextIn (nextReply answer) < valueBound }
-    ensures { result ≡ nextNumber (nextReply answer) }
+    requires { next_in (next_reply answer) < value_bound }
+    ensures { result ≡ next_number (next_reply answer) }
 {
     match answer {
         NextHistory::Written(bytes) => 256 * (bytes as u64),
@@ -86,7 +86,7 @@ pub fn next_number(answer: NextHistory) -> u64
 
 // The same answer, with a place that a number holds. No memory holds a list of triples that has a larger one.
 pub fn hold_place(answer: Answer) -> Answer
-    ensures { answerReply result ≡ held (answerReply answer) }
+    ensures { answer_reply result ≡ held (answer_reply answer) }
 {
     match answer {
         Answer::Done(count) => Answer::Done(count),

@@ -2,16 +2,16 @@
 use Prim.Native.Nat.{ℕ, ◌<◌}
 use mathlib.Core.List.{List}
 use mathlib.Core.Path.{ap, sym, subst, ◌∙◌}
-use Rattle.definitions.specs.Table.{Table, table_of, byteTable}
+use Rattle.definitions.specs.Table.{Table, table_of, byte_table}
 use Rattle.definitions.specs.declared.Task.{Task}
-use Rattle.theory.specs.Tables.{Sized, taskWrites, putTask}
-use Rattle.theory.proofs.Bytes.{sized-e, sized-i, byte-keeps}
+use Rattle.theory.specs.Tables.{Sized, task_writes, put_task}
+use Rattle.theory.proofs.Bytes.{sized_e, sized_i, byte_keeps}
 use Rattle.theory.proofs.Writes.{applied-keeps}
 
 module _ (bytes : List ℕ) (i : ℕ) (m : Task) (z : Sized bytes) (l : i < (table_of bytes).threads) where
-  pub put-sized : Sized (putTask byteTable bytes i m)
-  put-sized = sized-e _ (byte-keeps.fits bytes (taskWrites i m) (sized-i bytes z) (l, (l, (l, tt))))
+  pub put-sized : Sized (put_task byte_table bytes i m)
+  put-sized = sized_e _ (byte_keeps.fits bytes (task_writes i m) (sized_i bytes z) (l, (l, (l, tt))))
 
-  pub put-below : (t : ℕ) → t < (table_of bytes).threads → t < (table_of (putTask byteTable bytes i m)).threads
-  put-below t k =
-      subst (λ (n : ℕ). t < n) (sym (ap (λ (s : Table). s.threads) (byte-keeps.writes bytes (taskWrites i m) (sized-i bytes z) (l, (l, (l, tt)))) ∙ applied-keeps (table_of bytes) (taskWrites i m))) k
+  pub put_below : (t : ℕ) → t < (table_of bytes).threads → t < (table_of (put_task byte_table bytes i m)).threads
+  put_below t k =
+      subst (λ (n : ℕ). t < n) (sym (ap (λ (s : Table). s.threads) (byte_keeps.writes bytes (task_writes i m) (sized_i bytes z) (l, (l, (l, tt)))) ∙ applied-keeps (table_of bytes) (task_writes i m))) k

@@ -1,6 +1,6 @@
 -- The move entry's promise on bytes, `MoveMade`, and what the functions behind it are handed: instances of what `moving` says of any storage.
 use Rattle.std.specs.Prelude.{ℕ, ◌<◌, List}
-use Rattle.definitions.specs.Table.{table_of, byteTable}
+use Rattle.definitions.specs.Table.{table_of, byte_table}
 use Rattle.definitions.specs.declared.Outcome.{Outcome}
 use Rattle.definitions.specs.declared.Request.{Request}
 use Rattle.moving.specs.Moved.{MoveMadeIn, MoveTriedIn, TestedIn, AcceptingIn}
@@ -9,19 +9,19 @@ use Rattle.theory.specs.Tables.{Sized}
 
 -- the move's answer, and the table's bytes at exit, refused or not
 abbrev pub MoveMade : List ℕ → Request → List ℕ → Outcome → Type 0
-MoveMade = MoveMadeIn byteTable
+MoveMade = MoveMadeIn byte_table
 
 -- the same of a move that also hands on how many forbidden are 1
 abbrev pub MoveTried : List ℕ → Request → List ℕ → Made → Type 0
-MoveTried = MoveTriedIn byteTable
+MoveTried = MoveTriedIn byte_table
 
 -- a table that passes the tests 1 and 2, and of whose threads k have forbidden 1
 abbrev pub TestedTable : List ℕ → ℕ → Type 0
-TestedTable = TestedIn byteTable
+TestedTable = TestedIn byte_table
 
 -- with a request that it accepts
 abbrev pub Accepting : List ℕ → ℕ → Request → Type 0
-Accepting = AcceptingIn byteTable
+Accepting = AcceptingIn byte_table
 
 -- the mover i and the subject t are threads of a table of the right size
 pub record TwoThreads (bytes : List ℕ) (i t : ℕ) : Type 0 where

@@ -1,7 +1,7 @@
 // An accepted request made on a sound byte table: the head, the mover and the subject are read, the rules decide, and what they
 // decided is written.
 ghost use Rattle.std.specs.Prelude.{◌≡◌};
-ghost use Rattle.definitions.specs.Table.{byteTable};
+ghost use Rattle.definitions.specs.Table.{byte_table};
 ghost use Rattle.theory.specs.Tables.{put_back};
 ghost use Rattle.apply.specs.MoveMade.{MoveTried, Accepting, TwoThreads};
 
@@ -12,7 +12,7 @@ use moving::Made;
 // The mover is written first, and the subject is read again: they may be one thread.
 fn store(table: &mut [u8], thread: usize, number: usize, head: Head, mover: Task, forbidden: u8)
     requires { TwoThreads table.old thread number }
-    ensures { table.new ≡ put_back byteTable table.old thread number head mover forbidden }
+    ensures { table.new ≡ put_back byte_table table.old thread number head mover forbidden }
 {
     write_task(table, thread, mover);
     let was = read_task(table, number);

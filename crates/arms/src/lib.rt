@@ -1,11 +1,11 @@
 // A reader's look at its forbidden, and what a writer does with a subject's busy and forbidden, by value. The rules (crate rules)
 // choose from these and from the crate steps.
 ghost use Rattle.std.specs.Prelude.{cond, ◌≡◌, eqb};
-ghost use Rattle.definitions.specs.Bounds.{noTarget};
-ghost use Rattle.definitions.specs.Codes.{setMove, clearMove};
+ghost use Rattle.definitions.specs.Bounds.{no_target};
+ghost use Rattle.definitions.specs.Codes.{set_move, clear_move};
 ghost use Rattle.definitions.specs.declared.Outcome.TheVariants.{Quiet};
 ghost use Rattle.arms.specs.Looks.{probed};
-ghost use Rattle.steps.specs.Steps.{passed, aimedBy};
+ghost use Rattle.steps.specs.Steps.{passed, aimed_by};
 ghost use Rattle.views.specs.View.{Decides};
 
 use definitions::NO_TARGET;
@@ -41,14 +41,14 @@ pub fn probe(v: View) -> Decided
 
 // Phase 12: the writer takes the subject's forbidden back.
 pub fn take_back(v: View) -> Decided
-    ensures { result ≡ aimedBy v 10 noTarget 0 Quiet }
+    ensures { result ≡ aimed_by v 10 no_target 0 Quiet }
 {
     aim(v, 10, NO_TARGET, 0, false)
 }
 
 // Set: in 10 to 11, with the subject as target; in 15 the phase and the target stay.
 pub fn set_flag(v: View) -> Decided
-    ensures { Decides v setMove result }
+    ensures { Decides v set_move result }
 {
     let head = v.head;
     let mover = v.mover;
@@ -62,7 +62,7 @@ pub fn set_flag(v: View) -> Decided
 
 // Clear: to 16 when every other forbidden is 0; else the phase stays.
 pub fn clear_flag(v: View) -> Decided
-    ensures { Decides v clearMove result }
+    ensures { Decides v clear_move result }
 {
     let head = v.head;
     let mover = v.mover;

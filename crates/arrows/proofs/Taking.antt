@@ -6,17 +6,17 @@ use mathlib.Core.Path.{◌≡◌}
 use lib.Dec.{T}
 use lib.ListN.{length}
 use Rattle.definitions.specs.Moves.{effect, accepts}
-use Rattle.definitions.specs.Nodes.{nodesOf, Arrow, Taken}
+use Rattle.definitions.specs.Nodes.{nodes_of, Arrow, Taken}
 use Rattle.definitions.specs.Table.{Table, applied}
 use Rattle.definitions.specs.declared.Request.{Request}
-use Rattle.theory.proofs.Figure1.{arrowAt}
+use Rattle.theory.proofs.Figure1.{arrow_at}
 use Rattle.arrows.specs.Arrows.{Enabled}
 
 -- from s, requests that are accepted and keep all nodes leave t
 pub data Kept : Table → List Request → Table → Type 0 where
   here : (s : Table) → Kept s [] s
   next : (s : Table) (r : Request) (rs : List Request) (t : Table)
-      → T (accepts s r) → nodesOf (applied s (effect s r).writes) ≡ nodesOf s → Kept (applied s (effect s r).writes) rs t → Kept s (r ∷ rs) t
+      → T (accepts s r) → nodes_of (applied s (effect s r).writes) ≡ nodes_of s → Kept (applied s (effect s r).writes) rs t → Kept s (r ∷ rs) t
 
 -- thread i can take arrow a from s by at most b moves, the last of which takes it along
 pub record Can (b : ℕ) (s : Table) (a : Arrow) (i : ℕ) : Type 0 where
@@ -26,13 +26,13 @@ pub record Can (b : ℕ) (s : Table) (a : Arrow) (i : ℕ) : Type 0 where
   pub few : length before < b
   pub keep : Kept s before reached
   pub own : last.thread ≡ i
-  pub is-accepted : T (accepts reached last)
-  pub takes : Taken a (nodesOf reached) i (effect reached last).shows (nodesOf (applied reached (effect reached last).writes))
+  pub is_accepted_lem : T (accepts reached last)
+  pub takes : Taken a (nodes_of reached) i (effect reached last).shows (nodes_of (applied reached (effect reached last).writes))
 
-pub at_once : (s : Table) (a : Arrow) (i : ℕ) (r : Request) → r.thread ≡ i → T (accepts s r) → Taken a (nodesOf s) i (effect s r).shows (nodesOf (applied s (effect s r).writes)) → Can 1 s a i
-at_once s a i r own t takes = record { before = []; reached = s; last = r; few = omega arith; keep = here s; own = own; is-accepted = t; takes = takes }
+pub at_once : (s : Table) (a : Arrow) (i : ℕ) (r : Request) → r.thread ≡ i → T (accepts s r) → Taken a (nodes_of s) i (effect s r).shows (nodes_of (applied s (effect s r).writes)) → Can 1 s a i
+at_once s a i r own t takes = record { before = []; reached = s; last = r; few = omega arith; keep = here s; own = own; is_accepted_lem = t; takes = takes }
 
-pub after_one : {b : ℕ} (s : Table) (a : Arrow) (i : ℕ) (r : Request) → T (accepts s r) → nodesOf (applied s (effect s r).writes) ≡ nodesOf s
+pub after_one : {b : ℕ} (s : Table) (a : Arrow) (i : ℕ) (r : Request) → T (accepts s r) → nodes_of (applied s (effect s r).writes) ≡ nodes_of s
     → Can b (applied s (effect s r).writes) a i → Can (suc b) s a i
 after_one s a i r t same can =
     record {
@@ -42,7 +42,7 @@ after_one s a i r t same can =
       few = let rest = can.few in omega arith;
       keep = next s r can.before can.reached t same can.keep;
       own = can.own;
-      is-accepted = can.is-accepted;
+      is_accepted_lem = can.is_accepted_lem;
       takes = can.takes;
     }
 
@@ -56,10 +56,10 @@ at_most less can =
       few = let most = can.few in omega arith;
       keep = can.keep;
       own = can.own;
-      is-accepted = can.is-accepted;
+      is_accepted_lem = can.is_accepted_lem;
       takes = can.takes;
     }
 
 -- thread i can take the arrow at place k of `arrows` by at most b moves where that arrow's condition holds for it
 abbrev pub CanAt : ℕ → Table → ℕ → ℕ → Type 0
-CanAt b s i k = Enabled (nodesOf s) (arrowAt k) i → Can b s (arrowAt k) i
+CanAt b s i k = Enabled (nodes_of s) (arrow_at k) i → Can b s (arrow_at k) i

@@ -1,4 +1,4 @@
--- Cases of a number: one of a list (`or_at`), one of f 0, f 1, .. (`among-list`), one of a range (`among-range`).
+-- Cases of a number: one of a list (`or_at`), one of f 0, f 1, .. (`among_list`), one of a range (`among_range`).
 use Prim.Native.Nat.{ℕ, zero, suc, ◌+◌, ◌-◌, ◌<◌}
 use native.Mathlib.Nat.{not-suc-le-zero}
 use native.Mathlib.Omega.{arith}
@@ -9,52 +9,52 @@ use mathlib.Core.Path.{◌≡◌, sym, subst, ap}
 use lib.Dec.{T, leb, eqb, leb→le, eqb→eq}
 use Rattle.definitions.specs.Threads.{list_of, gather, among, between}
 use Rattle.basics.proofs.Quantifiers.{below_suc}
-use Rattle.basics.proofs.Tests.{and_l, and_r, or-e, or_l, or_r, eq-T, T_true, T_false, decided}
+use Rattle.basics.proofs.Tests.{and_l, and_r, or_e, or_l, or_r, eq_T, T_true, T_false, decided}
 
 -- x is the first number of a list, or one of the others
 module _ {P : Type 0} (x : ℕ) where
   pub or_at : (y : ℕ) (ys : List ℕ) → (x ≡ y → P) → (T (among x ys) → P) → T (among x (y ∷ ys)) → P
   unfolding among
-  or_at y ys here there t = ⊎_elim (λ u. here (eqb→eq x y u)) there (or-e (eqb x y) (among x ys) t)
+  or_at y ys here there t = ⊎_elim (λ u. here (eqb→eq x y u)) there (or_e (eqb x y) (among x ys) t)
 
   pub none_of : T (among x []) → P
   unfolding among
   none_of t = absurd t
 
-pub among-here : (x y : ℕ) (ys : List ℕ) → x ≡ y → T (among x (y ∷ ys))
+pub among_here : (x y : ℕ) (ys : List ℕ) → x ≡ y → T (among x (y ∷ ys))
 unfolding among
-among-here x y ys e = or_l (eqb x y) (among x ys) (eq-T x y e)
+among_here x y ys e = or_l (eqb x y) (among x ys) (eq_T x y e)
 
 module _ (x : ℕ) where
-  among-front : (ys zs : List ℕ) → T (among x ys) → T (among x (ys ++ zs))
+  among_front : (ys zs : List ℕ) → T (among x ys) → T (among x (ys ++ zs))
   unfolding among
-  among-front [] zs t = absurd t
-  among-front (y ∷ ys) zs t =
-      ⊎_elim (or_l (eqb x y) (among x (ys ++ zs))) (λ u. or_r (eqb x y) (among x (ys ++ zs)) (among-front ys zs u)) (or-e (eqb x y) (among x ys) t)
+  among_front [] zs t = absurd t
+  among_front (y ∷ ys) zs t =
+      ⊎_elim (or_l (eqb x y) (among x (ys ++ zs))) (λ u. or_r (eqb x y) (among x (ys ++ zs)) (among_front ys zs u)) (or_e (eqb x y) (among x ys) t)
 
-  among-back : (ys zs : List ℕ) → T (among x zs) → T (among x (ys ++ zs))
+  among_back : (ys zs : List ℕ) → T (among x zs) → T (among x (ys ++ zs))
   unfolding among
-  among-back [] zs t = t
-  among-back (y ∷ ys) zs t = or_r (eqb x y) (among x (ys ++ zs)) (among-back ys zs t)
+  among_back [] zs t = t
+  among_back (y ∷ ys) zs t = or_r (eqb x y) (among x (ys ++ zs)) (among_back ys zs t)
 
   pub among-gather : (f : ℕ → List ℕ) (n j : ℕ) → j < n → T (among x (f j)) → T (among x (gather n f))
   unfolding gather
   among-gather f zero j l t = absurd (not-suc-le-zero l)
   among-gather f (suc n) j l t =
-      ⊎_elim (λ e. among-back (gather n f) (f n) (subst (λ (k : ℕ). T (among x (f k))) e t)) (λ k. among-front (gather n f) (f n) (among-gather f n j k t)) (below_suc j n l)
+      ⊎_elim (λ e. among_back (gather n f) (f n) (subst (λ (k : ℕ). T (among x (f k))) e t)) (λ k. among_front (gather n f) (f n) (among-gather f n j k t)) (below_suc j n l)
 
-  among-append : {P : Type 0} (ys zs : List ℕ) → (T (among x ys) → P) → (T (among x zs) → P) → T (among x (ys ++ zs)) → P
+  among_append : {P : Type 0} (ys zs : List ℕ) → (T (among x ys) → P) → (T (among x zs) → P) → T (among x (ys ++ zs)) → P
   unfolding among
-  among-append [] zs front back t = back t
-  among-append (y ∷ ys) zs front back t =
-      ⊎_elim (λ u. front (or_l (eqb x y) (among x ys) u)) (among-append ys zs (λ u. front (or_r (eqb x y) (among x ys) u)) back) (or-e (eqb x y) (among x (ys ++ zs)) t)
+  among_append [] zs front back t = back t
+  among_append (y ∷ ys) zs front back t =
+      ⊎_elim (λ u. front (or_l (eqb x y) (among x ys) u)) (among_append ys zs (λ u. front (or_r (eqb x y) (among x ys) u)) back) (or_e (eqb x y) (among x (ys ++ zs)) t)
 
   -- the numbers below n of which f doesn't hold
-  pub among-unless : (f : ℕ → Bool) (n : ℕ) → T (among x (gather n (λ j. cond (f j) [] (j ∷ [])))) → (x < n) × T (not (f x))
+  pub among_unless : (f : ℕ → Bool) (n : ℕ) → T (among x (gather n (λ j. cond (f j) [] (j ∷ [])))) → (x < n) × T (not (f x))
   unfolding gather
-  among-unless f zero t = none_of x t
-  among-unless f (suc n) t =
-      among-append (gather n (λ j. cond (f j) [] (j ∷ []))) (cond (f n) [] (n ∷ [])) (λ u. let r = among-unless f n u in (omega arith, r.1)) last t
+  among_unless f zero t = none_of x t
+  among_unless f (suc n) t =
+      among_append (gather n (λ j. cond (f j) [] (j ∷ []))) (cond (f n) [] (n ∷ [])) (λ u. let r = among_unless f n u in (omega arith, r.1)) last t
     where
       last : T (among x (cond (f n) [] (n ∷ []))) → (x < suc n) × T (not (f x))
       last u =
@@ -63,16 +63,16 @@ module _ (x : ℕ) where
           (decided (f n))
 
 -- the numbers f 0, f 1, .. up to n - 1
-pub among-list : (f : ℕ → ℕ) (n j : ℕ) → j < n → T (among (f j) (list_of n f))
+pub among_list : (f : ℕ → ℕ) (n j : ℕ) → j < n → T (among (f j) (list_of n f))
 unfolding list_of
-among-list f zero j l = absurd (not-suc-le-zero l)
-among-list f (suc n) j l =
-    ⊎_elim (λ e. among-back (f j) (list_of n f) (f n ∷ []) (among-here (f j) (f n) [] (ap f e))) (λ k. among-front (f j) (list_of n f) (f n ∷ []) (among-list f n j k)) (below_suc j n l)
+among_list f zero j l = absurd (not-suc-le-zero l)
+among_list f (suc n) j l =
+    ⊎_elim (λ e. among_back (f j) (list_of n f) (f n ∷ []) (among_here (f j) (f n) [] (ap f e))) (λ k. among_front (f j) (list_of n f) (f n ∷ []) (among_list f n j k)) (below_suc j n l)
 
 -- the numbers from a to b
-pub among-range : (p a b : ℕ) → T (between a b p) → T (among p (list_of (suc b - a) (λ j. a + j)))
-among-range p a b t =
+pub among_range : (p a b : ℕ) → T (between a b p) → T (among p (list_of (suc b - a) (λ j. a + j)))
+among_range p a b t =
     let l = leb→le a p (and_l (leb a p) (leb p b) t) in
     let h = leb→le p b (and_r (leb a p) (leb p b) t) in
     let back : a + (p - a) ≡ p = omega arith in
-    subst (λ (k : ℕ). T (among k (list_of (suc b - a) (λ j. a + j)))) back (among-list (λ j. a + j) (suc b - a) (p - a) (omega arith))
+    subst (λ (k : ℕ). T (among k (list_of (suc b - a) (λ j. a + j)))) back (among_list (λ j. a + j) (suc b - a) (p - a) (omega arith))

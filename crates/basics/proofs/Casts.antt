@@ -9,6 +9,6 @@ pub cast_is : (b : Bool) → bool_byte b ≡ cond b 1 0
 cast_is true = refl
 cast_is false = refl
 
-pub cast-most : (b : Bool) → bool_byte b ≤ 1
-cast-most true = omega arith
-cast-most false = omega arith
+pub cast_most : (b : Bool) → bool_byte b ≤ 1
+cast_most true = omega arith
+cast_most false = omega arith

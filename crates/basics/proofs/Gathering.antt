@@ -8,7 +8,7 @@ use mathlib.Core.List.{List, ◌++◌, Memᴰ}
 use mathlib.Core.Logic.{⊎_elim}
 use mathlib.Core.Path.{◌≡◌, subst}
 use lib.ListN.{length, length-append}
-use Rattle.definitions.specs.Threads.{howMany, gather}
+use Rattle.definitions.specs.Threads.{how_many, gather}
 use Rattle.basics.proofs.Quantifiers.{below_suc}
 
 module _ {ℓ} {A : Type ℓ} (f : ℕ → List A) (m : ℕ) where
@@ -23,26 +23,26 @@ module _ {ℓ} {A : Type ℓ} (f : ℕ → List A) (m : ℕ) where
   gather-most (suc n) h = omega (arith, length-append (gather n f) (f n), h n, gather-most n h, suc-mul n m)
 
   -- lists of at most m entries for those i of which b holds, and none for the others
-  pub gather-counted : (b : ℕ → Bool) (n : ℕ) → ((i : ℕ) → length (f i) ≤ cond (b i) m 0) → length (gather n f) ≤ m * howMany n b
-  unfolding gather howMany
+  pub gather-counted : (b : ℕ → Bool) (n : ℕ) → ((i : ℕ) → length (f i) ≤ cond (b i) m 0) → length (gather n f) ≤ m * how_many n b
+  unfolding gather how_many
   gather-counted b zero h = omega arith
   gather-counted b (suc n) h = more (b n) (h n) (gather-counted b n h)
     where
-      more : (c : Bool) → length (f n) ≤ cond c m 0 → length (gather n f) ≤ m * howMany n b → length (gather n f ++ f n) ≤ m * (howMany n b + cond c 1 0)
+      more : (c : Bool) → length (f n) ≤ cond c m 0 → length (gather n f) ≤ m * how_many n b → length (gather n f ++ f n) ≤ m * (how_many n b + cond c 1 0)
       more true l r = omega (arith, length-append (gather n f) (f n))
       more false l r = omega (arith, length-append (gather n f) (f n))
 
 -- ---- membership
 
 module _ {ℓ} {A : Type ℓ} (c : A) (f : ℕ → List A) where
-  pub gather-member : (n : ℕ) → Memᴰ c (gather n f) → (j : ℕ) × (j < n) × Memᴰ c (f j)
+  pub gather_member : (n : ℕ) → Memᴰ c (gather n f) → (j : ℕ) × (j < n) × Memᴰ c (f j)
   unfolding gather
-  gather-member zero h = absurd (Memᴰ.not-nil h)
-  gather-member (suc n) h =
-      ⊎_elim (λ u. let r = gather-member n u in (r.0, omega arith, r.2)) (λ u. (n, omega arith, u)) (Memᴰ.append_cases (gather n f) h)
+  gather_member zero h = absurd (Memᴰ.not-nil h)
+  gather_member (suc n) h =
+      ⊎_elim (λ u. let r = gather_member n u in (r.0, omega arith, r.2)) (λ u. (n, omega arith, u)) (Memᴰ.append_cases (gather n f) h)
 
-  pub member-gather : (n j : ℕ) → j < n → Memᴰ c (f j) → Memᴰ c (gather n f)
+  pub member_gather : (n j : ℕ) → j < n → Memᴰ c (f j) → Memᴰ c (gather n f)
   unfolding gather
-  member-gather zero j l h = absurd (not-suc-le-zero l)
-  member-gather (suc n) j l h =
-      ⊎_elim (λ e. Memᴰ.append_right (gather n f) (subst (λ (k : ℕ). Memᴰ c (f k)) e h)) (λ k. Memᴰ.append_left (f n) (member-gather n j k h)) (below_suc j n l)
+  member_gather zero j l h = absurd (not-suc-le-zero l)
+  member_gather (suc n) j l h =
+      ⊎_elim (λ e. Memᴰ.append_right (gather n f) (subst (λ (k : ℕ). Memᴰ c (f k)) e h)) (λ k. Memᴰ.append_left (f n) (member_gather n j k h)) (below_suc j n l)

@@ -14,36 +14,36 @@ use Rattle.definitions.specs.Threads.{list_of}
 use Rattle.basics.proofs.Quantifiers.{below_suc}
 use Rattle.basics.proofs.Tests.{same?}
 
-pub length-listOf {ℓ} : {A : Type ℓ} (n : ℕ) (f : ℕ → A) → length (list_of n f) ≡ n
+pub length-list_of {ℓ} : {A : Type ℓ} (n : ℕ) (f : ℕ → A) → length (list_of n f) ≡ n
 unfolding list_of
-length-listOf zero f = refl
-length-listOf (suc n) f = length-append (list_of n f) (f n ∷ []) ∙ (ap (λ (k : ℕ). k + 1) (length-listOf n f) ∙ add-one n)
+length-list_of zero f = refl
+length-list_of (suc n) f = length-append (list_of n f) (f n ∷ []) ∙ (ap (λ (k : ℕ). k + 1) (length-list_of n f) ∙ add-one n)
 
-pub getD-listOf {ℓ} : {A : Type ℓ} (n : ℕ) (f : ℕ → A) (i : ℕ) (d : A) → i < n → get_or (list_of n f) i d ≡ f i
+pub get_d_list_of {ℓ} : {A : Type ℓ} (n : ℕ) (f : ℕ → A) (i : ℕ) (d : A) → i < n → get_or (list_of n f) i d ≡ f i
 unfolding list_of
-getD-listOf zero f i d l = absurd (not-suc-le-zero l)
-getD-listOf {A = A} (suc n) f i d l = by (λ k. getD-listOf n f i d k) (below_suc i n l)
+get_d_list_of zero f i d l = absurd (not-suc-le-zero l)
+get_d_list_of {A = A} (suc n) f i d l = by (λ k. get_d_list_of n f i d k) (below_suc i n l)
   where
     by : (i < n → get_or (list_of n f) i d ≡ f i) → (i ≡ n) ⊎ (i < n) → get_or (list_of n f ++ (f n ∷ [])) i d ≡ f i
-    by rec (inl e) = get_or_at (list_of n f) (f n) [] d i (length-listOf n f ∙ sym e) ∙ ap f (sym e)
-    by rec (inr k) = get_or-append (list_of n f) (f n ∷ []) d i (subst (λ (m : ℕ). i < m) (sym (length-listOf n f)) k) ∙ rec k
+    by rec (inl e) = get_or_at (list_of n f) (f n) [] d i (length-list_of n f ∙ sym e) ∙ ap f (sym e)
+    by rec (inr k) = get_or-append (list_of n f) (f n ∷ []) d i (subst (λ (m : ℕ). i < m) (sym (length-list_of n f)) k) ∙ rec k
 
 module _ (n : ℕ) (f g : ℕ → ℕ) where
-  pub listOf-same : ((j : ℕ) → j < n → f j ≡ g j) → list_of n f ≡ list_of n g
-  listOf-same h =
-      ext_get_or 0 (list_of n f) (list_of n g) (length-listOf n f ∙ sym (length-listOf n g))
-      (λ j l. let k : j < n = subst (λ (m : ℕ). j < m) (length-listOf n f) l in getD-listOf n f j 0 k ∙ (h j k ∙ sym (getD-listOf n g j 0 k)))
+  pub list_of-same : ((j : ℕ) → j < n → f j ≡ g j) → list_of n f ≡ list_of n g
+  list_of-same h =
+      ext_get_or 0 (list_of n f) (list_of n g) (length-list_of n f ∙ sym (length-list_of n g))
+      (λ j l. let k : j < n = subst (λ (m : ℕ). j < m) (length-list_of n f) l in get_d_list_of n f j 0 k ∙ (h j k ∙ sym (get_d_list_of n g j 0 k)))
 
   -- g is f but at i: the list with that entry written
-  pub listOf-set : (i : ℕ) → i < n → ((j : ℕ) → (j ≡ i → ⊥) → g j ≡ f j) → list_of n g ≡ set (list_of n f) i (g i)
-  listOf-set i m others =
-      ext_get_or 0 (list_of n g) (set (list_of n f) i (g i)) (length-listOf n g ∙ sym (length-set (list_of n f) i (g i) ∙ length-listOf n f))
-      (λ j l. let k : j < n = subst (λ (x : ℕ). j < x) (length-listOf n g) l in getD-listOf n g j 0 k ∙ by j k (same? j i))
+  pub list_of-set : (i : ℕ) → i < n → ((j : ℕ) → (j ≡ i → ⊥) → g j ≡ f j) → list_of n g ≡ set (list_of n f) i (g i)
+  list_of-set i m others =
+      ext_get_or 0 (list_of n g) (set (list_of n f) i (g i)) (length-list_of n g ∙ sym (length-set (list_of n f) i (g i) ∙ length-list_of n f))
+      (λ j l. let k : j < n = subst (λ (x : ℕ). j < x) (length-list_of n g) l in get_d_list_of n g j 0 k ∙ by j k (same? j i))
     where
       by : (j : ℕ) → j < n → (j ≡ i) ⊎ (j ≡ i → ⊥) → g j ≡ get_or (set (list_of n f) i (g i)) j 0
       by j k (inl e) =
-          ap g e ∙ (sym (get_or-set_same (list_of n f) i (g i) 0 (subst (λ (x : ℕ). i < x) (sym (length-listOf n f)) m)) ∙ ap (λ (x : ℕ). get_or (set (list_of n f) i (g i)) x 0) (sym e))
-      by j k (inr h) = others j h ∙ sym (get_or-set_other (list_of n f) i j (g i) 0 h ∙ getD-listOf n f j 0 k)
+          ap g e ∙ (sym (get_or-set_same (list_of n f) i (g i) 0 (subst (λ (x : ℕ). i < x) (sym (length-list_of n f)) m)) ∙ ap (λ (x : ℕ). get_or (set (list_of n f) i (g i)) x 0) (sym e))
+      by j k (inr h) = others j h ∙ sym (get_or-set_other (list_of n f) i j (g i) 0 h ∙ get_d_list_of n f j 0 k)
 
 -- what holds of each of a list
 module _ {ℓ} {A : Type ℓ} (P : A → Type 0) where

@@ -9,10 +9,10 @@ use borrow.Author.Tests.{le-leb, lt-leb}
 use lib.Dec.{T, leb, leb→le}
 use lib.ListN.{length, take, drop, length-append, length-take, length-drop, take-append-drop}
 use lib.Seq.{take_at, drop-drop, drop-append-add, sets, sets-eq}
-use Rattle.definitions.specs.Answers.{Reply, accepted, refused, leaves, Test, passesAll, answered, filled, Delivery, counted, roomTest, deliveryReply, deliveryOutput}
+use Rattle.definitions.specs.Answers.{Reply, accepted, refused, leaves, Test, passes_all, answered, filled, Delivery, counted, room_test, delivery_reply, delivery_output}
 use Rattle.basics.specs.Outputs.{answering, put_at, RoomAt, PutAt, Delivered}
-use Rattle.basics.proofs.Replies.{peel, behind, in-front}
-use Rattle.basics.proofs.TestLists.{passes-split, answered-e}
+use Rattle.basics.proofs.Replies.{peel, behind, in_front_lem}
+use Rattle.basics.proofs.TestLists.{passes-split, answered_e}
 
 -- ---- what is left in the output
 
@@ -20,9 +20,9 @@ length-put : (out : List ℕ) (at : ℕ) (text : List ℕ) → at + length text 
 unfolding put_at
 length-put out at text h = simp (length-append, length-take, length-drop) (omega arith)
 
-put-nil : (out : List ℕ) (at : ℕ) → put_at out at [] ≡ out
+put_nil : (out : List ℕ) (at : ℕ) → put_at out at [] ≡ out
 unfolding put_at
-put-nil out at = rw (add-zero, take-append-drop)
+put_nil out at = rw (add-zero, take-append-drop)
 
 -- the front of the output, up to the end of the text
 pub put_front : (out : List ℕ) (at : ℕ) (text : List ℕ) → at + length text ≤ length out → take (at + length text) (put_at out at text) ≡ take at out ++ text
@@ -31,9 +31,9 @@ put_front out at text h =
     rw (← append_assoc (take at out) text (drop (at + length text) out))
     (take_at (take at out ++ text) (drop (at + length text) out) (at + length text) (simp (length-append, length-take) (omega arith)))
 
-put-append : (out : List ℕ) (at : ℕ) (s t : List ℕ) → at + length (s ++ t) ≤ length out → put_at (put_at out at s) (at + length s) t ≡ put_at out at (s ++ t)
+put_append : (out : List ℕ) (at : ℕ) (s t : List ℕ) → at + length (s ++ t) ≤ length out → put_at (put_at out at s) (at + length s) t ≡ put_at out at (s ++ t)
 unfolding put_at
-put-append out at s t h = written
+put_append out at s t h = written
   where
     n : length (take at out ++ s) ≡ at + length s
     n = simp (length-append, length-take) (omega (arith, length-append s t))
@@ -56,7 +56,7 @@ put-append out at s t h = written
 
 -- nothing put
 pub none : (a : List ℕ) (at : ℕ) → PutAt a at [] a at
-none a at = record { next = sym (add-zero at); output = sym (put-nil a at) }
+none a at = record { next = sym (add-zero at); output = sym (put_nil a at) }
 
 -- the output keeps its length
 pub same_size : {a : List ℕ} {at : ℕ} {s b : List ℕ} {n : ℕ} → RoomAt a at s → PutAt a at s b n → length b ≡ length a
@@ -64,17 +64,17 @@ same_size {a} {at} {s} r p = ap length p.output ∙ length-put a at s r.ends
 
 -- two texts, one behind the other
 module _ {a : List ℕ} {at : ℕ} (s t : List ℕ) (r : RoomAt a at (s ++ t)) where
-  pub room-first : RoomAt a at s
-  room-first = record { ends = omega (arith, r.ends, length-append s t) }
+  pub room_first : RoomAt a at s
+  room_first = record { ends = omega (arith, r.ends, length-append s t) }
 
-  pub room-second : {b : List ℕ} {n : ℕ} → PutAt a at s b n → RoomAt b n t
-  room-second {b} {n} p = record { ends = omega (arith, r.ends, length-append s t, p.next, same_size room-first p) }
+  pub room_second : {b : List ℕ} {n : ℕ} → PutAt a at s b n → RoomAt b n t
+  room_second {b} {n} p = record { ends = omega (arith, r.ends, length-append s t, p.next, same_size room_first p) }
 
   pub both : {b : List ℕ} {n : ℕ} {c : List ℕ} {m : ℕ} → PutAt a at s b n → PutAt b n t c m → PutAt a at (s ++ t) c m
   both p q =
       record {
         next = simp length-append (omega (arith, p.next, q.next));
-        output = cc (put-append a at s t r.ends);
+        output = cc (put_append a at s t r.ends);
       }
 
 -- bytes stored one behind the other
@@ -83,56 +83,56 @@ unfolding put_at
 stored bytes {out} {at} r = record { next = refl; output = sets-eq bytes out at r.ends ∙ append_assoc (take at out) bytes (drop (at + length bytes) out) }
 
 -- a text put at the front fills the output from there
-pub filled-up : {out text out' : List ℕ} {n : ℕ} → PutAt out 0 text out' n → out' ≡ filled out text
+pub filled_up : {out text out' : List ℕ} {n : ℕ} → PutAt out 0 text out' n → out' ≡ filled out text
 unfolding put_at
-filled-up p = rw zero-add at p.output
+filled_up p = rw zero-add at p.output
 
 -- ---- an entry that writes
 
 module _ {A : Type 0} (d : Delivery A) (out : List ℕ) where
   -- it is turned down by one of its tests
   pub turned_down : (a : A) (number place : ℕ) → answered d.tests a ≡ refused number place → Delivered d out out (refused number place)
-  unfolding deliveryReply deliveryOutput
+  unfolding delivery_reply delivery_output
   turned_down a number place e =
-      let r = in-front d.answer a d.tests (roomTest d.text out ∷ []) number place e in
+      let r = in_front_lem d.answer a d.tests (room_test d.text out ∷ []) number place e in
       record { reply = sym r; output = sym (ap (λ (x : Reply A). leaves x (filled out d.text) out) r) }
 
-  module _ (tested : T (passesAll d.tests)) where
+  module _ (tested : T (passes_all d.tests)) where
     -- the reply, by whether its text has room
-    reply-by : (b : Bool) → leb (length d.text) (length out) ≡ b → deliveryReply d out ≡ cond b (accepted d.answer) (refused 12 0)
-    unfolding deliveryReply answered
-    reply-by b e = behind d.answer d.tests (roomTest d.text out ∷ []) tested ∙ ap (λ (x : Bool). cond x (accepted d.answer) (refused 12 0)) e
+    reply-by : (b : Bool) → leb (length d.text) (length out) ≡ b → delivery_reply d out ≡ cond b (accepted d.answer) (refused 12 0)
+    unfolding delivery_reply answered
+    reply-by b e = behind d.answer d.tests (room_test d.text out ∷ []) tested ∙ ap (λ (x : Bool). cond x (accepted d.answer) (refused 12 0)) e
 
     -- it has none: nothing is written
     pub no_room : length out < length d.text → Delivered d out out (refused 12 0)
-    unfolding deliveryOutput
+    unfolding delivery_output
     no_room h =
         let r = reply-by false (lt-leb (length d.text) (length out) h) in
         record { reply = sym r; output = sym (ap (λ (x : Reply A). leaves x (filled out d.text) out) r) }
 
     -- it has: all of it is
     pub whole : length d.text ≤ length out → Delivered d out (filled out d.text) (accepted d.answer)
-    unfolding deliveryOutput
+    unfolding delivery_output
     whole h =
         let r = reply-by true (le-leb (length d.text) (length out) h) in
         record { reply = sym r; output = sym (ap (λ (x : Reply A). leaves x (filled out d.text) out) r) }
 
 -- what is answered and left, by equal terms
-pub delivered-as : {A : Type 0} {d : Delivery A} {out after after' : List ℕ} {r r' : Reply A} → Delivered d out after r → after' ≡ after → r' ≡ r → Delivered d out after' r'
-delivered-as p e f = record { reply = f ∙ p.reply; output = e ∙ p.output }
+pub delivered_as : {A : Type 0} {d : Delivery A} {out after after' : List ℕ} {r r' : Reply A} → Delivered d out after r → after' ≡ after → r' ≡ r → Delivered d out after' r'
+delivered_as p e f = record { reply = f ∙ p.reply; output = e ∙ p.output }
 
 -- a text delivered without tests is what an entry whose tests are passed delivers
-pub with-tests : (tests : List Test) {text out after : List ℕ} {r : Reply ℕ} → T (passesAll tests) → Delivered (counted [] text) out after r → Delivered (counted tests text) out after r
-unfolding deliveryReply deliveryOutput
-with-tests tests {text} {out} tested p =
-    let e = behind (length text) tests (roomTest text out ∷ []) tested in
+pub with_tests : (tests : List Test) {text out after : List ℕ} {r : Reply ℕ} → T (passes_all tests) → Delivered (counted [] text) out after r → Delivered (counted tests text) out after r
+unfolding delivery_reply delivery_output
+with_tests tests {text} {out} tested p =
+    let e = behind (length text) tests (room_test text out ∷ []) tested in
     record { reply = p.reply ∙ sym e; output = p.output ∙ ap (λ (x : Reply ℕ). leaves x (filled out text) out) (sym e) }
 
 -- two entries whose tests are passed deliver the same text alike, and the answer of the one puts that of the other in other words
-pub with-answer : {A B : Type 0} (f : A → B) (d : Delivery A) (e : Delivery B) {out after : List ℕ} {r : Reply A} → T (passesAll d.tests) → T (passesAll e.tests)
+pub with_answer : {A B : Type 0} (f : A → B) (d : Delivery A) (e : Delivery B) {out after : List ℕ} {r : Reply A} → T (passes_all d.tests) → T (passes_all e.tests)
     → e.text ≡ d.text → e.answer ≡ f d.answer → Delivered d out after r → Delivered e out after (answering f r)
-unfolding deliveryOutput
-with-answer {A} {B} f d e {out} tested tested' text answer p =
+unfolding delivery_output
+with_answer {A} {B} f d e {out} tested tested' text answer p =
     let fits = leb (length d.text) (length out) in
     let was = reply-by d out tested fits refl in
     let now = reply-by e out tested' fits (ap (λ (xs : List ℕ). leb (length xs) (length out)) text) ∙ ap (λ (b : B). cond fits (accepted b) (refused 12 0)) answer in
@@ -143,7 +143,7 @@ with-answer {A} {B} f d e {out} tested tested' text answer p =
           ∙ (ap (λ (x : Reply A). leaves x (filled out d.text) out) was
           ∙ (left fits
           ∙ (ap (λ (x : Reply B). leaves x (filled out d.text) out) (sym now)
-          ∙ ap (λ (xs : List ℕ). leaves (deliveryReply e out) (filled out xs) out) (sym text))));
+          ∙ ap (λ (xs : List ℕ). leaves (delivery_reply e out) (filled out xs) out) (sym text))));
     }
   where
     same : (b : Bool) → answering f (cond b (accepted d.answer) (refused 12 0)) ≡ cond b (accepted (f d.answer)) (refused 12 0)
@@ -160,25 +160,25 @@ with-answer {A} {B} f d e {out} tested tested' text answer p =
 module _ {A : Type 0} (d : Delivery A) (out : List ℕ) where
   -- its tests are passed, there is room, and the answer is its own
   pub record Answered (a : A) : Type 0 where
-    pub tested : T (passesAll d.tests)
+    pub tested : T (passes_all d.tests)
     pub room : length d.text ≤ length out
     pub answer : d.answer ≡ a
 
   -- that holds of an entry that answers
-  pub answered-so : (a : A) → deliveryReply d out ≡ accepted a → Answered a
-  unfolding deliveryReply
-  answered-so a e =
-      let last = roomTest d.text out ∷ [] in
-      let r = answered-e _ d.answer a e in
+  pub answered_so : (a : A) → delivery_reply d out ≡ accepted a → Answered a
+  unfolding delivery_reply
+  answered_so a e =
+      let last = room_test d.text out ∷ [] in
+      let r = answered_e _ d.answer a e in
       let p = passes-split d.tests last r.0 in
       record {
         tested = p.0;
-        room = leb→le (length d.text) (length out) (peel (roomTest d.text out) [] p.1).0;
+        room = leb→le (length d.text) (length out) (peel (room_test d.text out) [] p.1).0;
         answer = r.1;
       }
 
   -- and its text stands at the front of the output
-  pub text-first : (a : A) (size : ℕ) → deliveryReply d out ≡ accepted a → length d.text ≡ size → take size (deliveryOutput d out) ≡ d.text
-  text-first a size e long =
-      let s = answered-so a e in
+  pub text_first : (a : A) (size : ℕ) → delivery_reply d out ≡ accepted a → length d.text ≡ size → take size (delivery_output d out) ≡ d.text
+  text_first a size e long =
+      let s = answered_so a e in
       ap (take size) (sym (whole d out s.tested s.room).output) ∙ take_at d.text (drop (length d.text) out) size long

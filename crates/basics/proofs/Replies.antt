@@ -5,7 +5,7 @@ use mathlib.Core.List.{List, [], ◌∷◌, ◌++◌}
 use mathlib.Core.Logic.{◌⊎◌, inl, inr}
 use mathlib.Core.Path.{◌≡◌, refl, sym, subst, ap, ◌∙◌}
 use lib.Dec.{T}
-use Rattle.definitions.specs.Answers.{Reply, accepted, refused, isAccepted, leaves, Test, answered, passesAll}
+use Rattle.definitions.specs.Answers.{Reply, accepted, refused, is_accepted, leaves, Test, answered, passes_all}
 use Rattle.basics.proofs.Tests.{and_l, and_r, and_i, cond_yes, cond_no}
 
 -- ---- one test
@@ -19,48 +19,48 @@ module _ {A : Type 0} (t : Test) (ts : List Test) (a : A) where
   unfolding answered
   failed p = cond_no t.passed (answered ts a) (refused t.number t.place) p
 
-pub peel : (t : Test) (ts : List Test) → T (passesAll (t ∷ ts)) → T t.passed × T (passesAll ts)
-unfolding passesAll
-peel t ts p = (and_l t.passed (passesAll ts) p, and_r t.passed (passesAll ts) p)
+pub peel : (t : Test) (ts : List Test) → T (passes_all (t ∷ ts)) → T t.passed × T (passes_all ts)
+unfolding passes_all
+peel t ts p = (and_l t.passed (passes_all ts) p, and_r t.passed (passes_all ts) p)
 
-pub pass : (t : Test) (ts : List Test) → T t.passed → T (passesAll ts) → T (passesAll (t ∷ ts))
-unfolding passesAll
-pass t ts p q = and_i t.passed (passesAll ts) p q
+pub pass : (t : Test) (ts : List Test) → T t.passed → T (passes_all ts) → T (passes_all (t ∷ ts))
+unfolding passes_all
+pass t ts p q = and_i t.passed (passes_all ts) p q
 
-pub no_test : T (passesAll [])
-unfolding passesAll
+pub no_test : T (passes_all [])
+unfolding passes_all
 no_test = tt
 
 -- ---- all of them
 
 module _ {A : Type 0} (a : A) where
-  pub accepted-is : (ts : List Test) → isAccepted (answered ts a) ≡ passesAll ts
-  unfolding answered passesAll
-  accepted-is [] = refl
-  accepted-is (t ∷ ts) = by t.passed (accepted-is ts)
+  pub accepted_is : (ts : List Test) → is_accepted (answered ts a) ≡ passes_all ts
+  unfolding answered passes_all
+  accepted_is [] = refl
+  accepted_is (t ∷ ts) = by t.passed (accepted_is ts)
     where
-      by : (b : Bool) → isAccepted (answered ts a) ≡ passesAll ts → isAccepted (cond b (answered ts a) (refused t.number t.place)) ≡ (b && passesAll ts)
+      by : (b : Bool) → is_accepted (answered ts a) ≡ passes_all ts → is_accepted (cond b (answered ts a) (refused t.number t.place)) ≡ (b && passes_all ts)
       by true e = e
       by false e = refl
 
-  pub all-passed : (ts : List Test) → T (passesAll ts) → answered ts a ≡ accepted a
+  pub all-passed : (ts : List Test) → T (passes_all ts) → answered ts a ≡ accepted a
   unfolding answered
   all-passed [] p = refl
   all-passed (t ∷ ts) p = let r = peel t ts p in cond_yes t.passed (answered ts a) (refused t.number t.place) r.0 ∙ all-passed ts r.1
 
   -- tests behind those that are passed
-  pub behind : (ts us : List Test) → T (passesAll ts) → answered (ts ++ us) a ≡ answered us a
+  pub behind : (ts us : List Test) → T (passes_all ts) → answered (ts ++ us) a ≡ answered us a
   behind [] us p = refl
   behind (t ∷ ts) us p = let r = peel t ts p in passed t (ts ++ us) a r.0 ∙ behind ts us r.1
 
   -- and behind one that isn't, whatever would be answered
-  pub in-front : {B : Type 0} (b : B) (ts us : List Test) (number place : ℕ) → answered ts b ≡ refused number place → answered (ts ++ us) a ≡ refused number place
+  pub in_front_lem : {B : Type 0} (b : B) (ts us : List Test) (number place : ℕ) → answered ts b ≡ refused number place → answered (ts ++ us) a ≡ refused number place
   unfolding answered
-  in-front b [] us number place e = absurd (no-refusal e)
+  in_front_lem b [] us number place e = absurd (no_refusal e)
     where
-      no-refusal : accepted b ≡ refused number place → ⊥
-      no-refusal e = subst T (ap isAccepted e) tt
-  in-front {B} b (t ∷ ts) us number place e = by t.passed e (λ d. in-front b ts us number place d)
+      no_refusal : accepted b ≡ refused number place → ⊥
+      no_refusal e = subst T (ap is_accepted e) tt
+  in_front_lem {B} b (t ∷ ts) us number place e = by t.passed e (λ d. in_front_lem b ts us number place d)
     where
       by : (p : Bool) → cond p (answered ts b) (refused t.number t.place) ≡ refused number place → (answered ts b ≡ refused number place → answered (ts ++ us) a ≡ refused number place)
           → cond p (answered (ts ++ us) a) (refused t.number t.place) ≡ refused number place
@@ -68,20 +68,20 @@ module _ {A : Type 0} (a : A) where
       by false d rec = cc
 
   -- either all are passed, or the first that isn't answers
-  pub passed-or-refused : (ts : List Test) → T (passesAll ts) ⊎ ((number : ℕ) × (place : ℕ) × (answered ts a ≡ refused number place))
-  passed-or-refused ts = by (answered ts a) refl (accepted-is ts)
+  pub passed_or_refused : (ts : List Test) → T (passes_all ts) ⊎ ((number : ℕ) × (place : ℕ) × (answered ts a ≡ refused number place))
+  passed_or_refused ts = by (answered ts a) refl (accepted_is ts)
     where
-      by : (x : Reply A) → answered ts a ≡ x → isAccepted (answered ts a) ≡ passesAll ts → T (passesAll ts) ⊎ ((number : ℕ) × (place : ℕ) × (answered ts a ≡ refused number place))
-      by (accepted b) e d = inl (subst T (sym (ap isAccepted e) ∙ d) tt)
+      by : (x : Reply A) → answered ts a ≡ x → is_accepted (answered ts a) ≡ passes_all ts → T (passes_all ts) ⊎ ((number : ℕ) × (place : ℕ) × (answered ts a ≡ refused number place))
+      by (accepted b) e d = inl (subst T (sym (ap is_accepted e) ∙ d) tt)
       by (refused number place) e d = inr (number, place, e)
 
 -- ---- what is left
 
 module _ {ℓ} {A : Type 0} {B : Type ℓ} (x y : B) where
-  pub leaves-yes : (r : Reply A) → T (isAccepted r) → leaves r x y ≡ x
+  pub leaves-yes : (r : Reply A) → T (is_accepted r) → leaves r x y ≡ x
   leaves-yes (accepted a) t = refl
   leaves-yes (refused number place) t = absurd t
 
-  pub leaves-no : (r : Reply A) → T (not (isAccepted r)) → leaves r x y ≡ y
-  leaves-no (accepted a) t = absurd t
-  leaves-no (refused number place) t = refl
+  pub leaves_no : (r : Reply A) → T (not (is_accepted r)) → leaves r x y ≡ y
+  leaves_no (accepted a) t = absurd t
+  leaves_no (refused number place) t = refl

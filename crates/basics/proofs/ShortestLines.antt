@@ -3,16 +3,16 @@
 use mathlib.Core.Path.{◌≡◌, refl}
 use lib.ListN.{length}
 use Rattle.definitions.specs.Codes.{go}
-use Rattle.definitions.specs.Forms.{threadsLine, actText, spelled}
+use Rattle.definitions.specs.Forms.{threads_line, act_text, spelled}
 use Rattle.definitions.specs.Moves.{ask}
 use Rattle.definitions.specs.Scripts.{ended}
-use Rattle.definitions.specs.Texts.{bytes, decimalWithin}
-use Rattle.basics.specs.ShortestLines.{shortestThreads, shortestMove}
+use Rattle.definitions.specs.Texts.{bytes, decimal_within}
+use Rattle.basics.specs.ShortestLines.{shortest_threads, shortest_move}
 
-pub shortest-threads : length (ended (threadsLine 1)) ≡ shortestThreads
-unfolding bytes decimalWithin
-shortest-threads = refl
+pub shortest_threads_lem : length (ended (threads_line 1)) ≡ shortest_threads
+unfolding bytes decimal_within
+shortest_threads_lem = refl
 
-pub shortest-move : length (ended (spelled (ask 0 go 0))) ≡ shortestMove
-unfolding bytes decimalWithin actText
-shortest-move = refl
+pub shortest_move_lem : length (ended (spelled (ask 0 go 0))) ≡ shortest_move
+unfolding bytes decimal_within act_text
+shortest_move_lem = refl

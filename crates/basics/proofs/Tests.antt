@@ -19,9 +19,9 @@ pub and_i : (a b : Bool) → T a → T b → T (a && b)
 and_i true b s t = t
 and_i false b s t = s
 
-pub or-e : (a b : Bool) → T (a || b) → T a ⊎ T b
-or-e true b t = inl tt
-or-e false b t = inr t
+pub or_e : (a b : Bool) → T (a || b) → T a ⊎ T b
+or_e true b t = inl tt
+or_e false b t = inr t
 
 pub or_l : (a b : Bool) → T a → T (a || b)
 or_l true b t = tt
@@ -65,25 +65,25 @@ pub and_both : (a b : Bool) → (a && b) ≡ true → (a ≡ true) × (b ≡ tru
 and_both a b e = let t = true-T (a && b) e in (T_true a (and_l a b t), T_true b (and_r a b t))
 
 -- the second tests are compared where the first holds
-pub and-cong : (a a' b b' : Bool) → a ≡ a' → (T a → b ≡ b') → (a && b) ≡ (a' && b')
-and-cong true a' b b' e f = f tt ∙ ap (λ (x : Bool). x && b') e
-and-cong false a' b b' e f = ap (λ (x : Bool). x && b') e
+pub and_cong : (a a' b b' : Bool) → a ≡ a' → (T a → b ≡ b') → (a && b) ≡ (a' && b')
+and_cong true a' b b' e f = f tt ∙ ap (λ (x : Bool). x && b') e
+and_cong false a' b b' e f = ap (λ (x : Bool). x && b') e
 
 pub no_both : (b : Bool) → T b → T (not b) → ⊥
 no_both true s t = t
 no_both false s t = s
 
-pub not-i : (b : Bool) → (T b → ⊥) → T (not b)
-not-i true f = f tt
-not-i false f = tt
+pub not_i : (b : Bool) → (T b → ⊥) → T (not b)
+not_i true f = f tt
+not_i false f = tt
 
-pub implies-e : (p q : Bool) → T (cond p q true) → T p → T q
-implies-e true q t h = t
-implies-e false q t h = absurd h
+pub implies_e : (p q : Bool) → T (cond p q true) → T p → T q
+implies_e true q t h = t
+implies_e false q t h = absurd h
 
-pub implies-i : (p q : Bool) → (T p → T q) → T (cond p q true)
-implies-i true q f = f tt
-implies-i false q f = tt
+pub implies_i : (p q : Bool) → (T p → T q) → T (cond p q true)
+implies_i true q f = f tt
+implies_i false q f = tt
 
 -- a `cond` whose test is known
 pub cond_yes {ℓ} : {A : Type ℓ} (b : Bool) (x y : A) → T b → cond b x y ≡ x
@@ -99,19 +99,19 @@ pub cond_either {ℓ} : {A : Type ℓ} (P : A → Type 0) (b : Bool) (x y : A) �
 cond_either P true x y f g = f tt
 cond_either P false x y f g = g tt
 
-pub eq-T : (a b : ℕ) → a ≡ b → T (eqb a b)
-eq-T a b e = subst (λ (k : ℕ). T (eqb a k)) e (eqb_refl a)
+pub eq_T : (a b : ℕ) → a ≡ b → T (eqb a b)
+eq_T a b e = subst (λ (k : ℕ). T (eqb a k)) e (eqb_refl a)
 
-pub ne-T : (a b : ℕ) → (a ≡ b → ⊥) → T (not (eqb a b))
-ne-T a b h = not-i (eqb a b) (λ t. h (eqb→eq a b t))
+pub ne_T : (a b : ℕ) → (a ≡ b → ⊥) → T (not (eqb a b))
+ne_T a b h = not_i (eqb a b) (λ t. h (eqb→eq a b t))
 
-pub T-ne : (a b : ℕ) → T (not (eqb a b)) → a ≡ b → ⊥
-T-ne a b t e = no_both (eqb a b) (eq-T a b e) t
+pub T_ne : (a b : ℕ) → T (not (eqb a b)) → a ≡ b → ⊥
+T_ne a b t e = no_both (eqb a b) (eq_T a b e) t
 
 -- a test counts one or nothing
-pub one-most : (b : Bool) → cond b 1 0 ≤ 1
-one-most true = omega arith
-one-most false = omega arith
+pub one_most : (b : Bool) → cond b 1 0 ≤ 1
+one_most true = omega arith
+one_most false = omega arith
 
 -- two numbers are equal or not
 pub same? : (a b : ℕ) → (a ≡ b) ⊎ (a ≡ b → ⊥)
@@ -119,7 +119,7 @@ same? a b = go (decided (eqb a b))
   where
     go : T (eqb a b) ⊎ T (not (eqb a b)) → (a ≡ b) ⊎ (a ≡ b → ⊥)
     go (inl t) = inl (eqb→eq a b t)
-    go (inr t) = inr (T-ne a b t)
+    go (inr t) = inr (T_ne a b t)
 
 -- n is below k, or not
 pub below? : (k n : ℕ) → (n < k) ⊎ (k ≤ n)

@@ -15,16 +15,16 @@ unfolding same
 same_refl [] = refl
 same_refl (x ∷ xs) = rw (eq-eqb x x refl) (same_refl xs)
 
-pub same-eq : (xs ys : List ℕ) → same xs ys ≡ true → xs ≡ ys
+pub same_eq : (xs ys : List ℕ) → same xs ys ≡ true → xs ≡ ys
 unfolding same
-same-eq [] [] e = refl
-same-eq [] (y ∷ ys) e = absurd (false≢true e)
-same-eq (x ∷ xs) [] e = absurd (false≢true e)
-same-eq (x ∷ xs) (y ∷ ys) e =
+same_eq [] [] e = refl
+same_eq [] (y ∷ ys) e = absurd (false≢true e)
+same_eq (x ∷ xs) [] e = absurd (false≢true e)
+same_eq (x ∷ xs) (y ∷ ys) e =
     let both = and_both (eqb x y) (same xs ys) e in
     let head = eqb-true x y both.0 in
-    let tail = same-eq xs ys both.1 in
+    let tail = same_eq xs ys both.1 in
     cc
 
 pub starts-length : (p xs : List ℕ) → starts p xs ≡ true → length p ≤ length xs
-starts-length p xs e = omega (arith, simp length-take at (ap length (same-eq (take (length p) xs) p e)))
+starts-length p xs e = omega (arith, simp length-take at (ap length (same_eq (take (length p) xs) p e)))

@@ -1,6 +1,6 @@
 -- A text put into a lent output at a position, and the promise of an entry that writes.
 use Rattle.std.specs.Prelude.{ℕ, ◌+◌, ◌≤◌, List, ◌++◌, ◌≡◌, length, take, drop}
-use Rattle.definitions.specs.Answers.{Reply, accepted, refused, Delivery, deliveryReply, deliveryOutput}
+use Rattle.definitions.specs.Answers.{Reply, accepted, refused, Delivery, delivery_reply, delivery_output}
 
 -- the output with the text at `at`
 unfoldable pub put_at : List ℕ → ℕ → List ℕ → List ℕ
@@ -22,5 +22,5 @@ answering f (refused number place) = refused number place
 
 -- the promise of an entry that writes: its answer, and the output at exit, refused or not
 pub record Delivered {A : Type 0} (d : Delivery A) (before after : List ℕ) (answer : Reply A) : Type 0 where
-  pub reply : answer ≡ deliveryReply d before
-  pub output : after ≡ deliveryOutput d before
+  pub reply : answer ≡ delivery_reply d before
+  pub output : after ≡ delivery_output d before

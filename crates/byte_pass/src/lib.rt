@@ -2,10 +2,10 @@
 // decides by.
 ghost use Rattle.std.specs.Prelude.{◌+◌, ◌<◌, ◌≡◌, length};
 ghost use Rattle.definitions.specs.Table.{table_of};
-ghost use Rattle.rows.specs.Rows.{threadWord};
-ghost use Rattle.soundness.specs.Pass.{foundOf};
+ghost use Rattle.rows.specs.Rows.{thread_word};
+ghost use Rattle.soundness.specs.Pass.{found_of};
 ghost use Rattle.theory.specs.Tables.{Sized};
-ghost use Rattle.byte_pass.specs.Words.{wordFrom, oddWord};
+ghost use Rattle.byte_pass.specs.Words.{word_from, odd_word};
 
 use layout::phase_at;
 use soundness::Found;
@@ -13,7 +13,7 @@ use soundness::Found;
 // Four bytes as one number, the lowest first. The compiler makes one load of it.
 fn word_at(table: &[u8], at: usize) -> u64
     requires { at + 3 < length table.now }
-    ensures { result ≡ wordFrom table.now at }
+    ensures { result ≡ word_from table.now at }
 {
     let a = table[at] as u64;
     let b = table[at + 1] as u64;
@@ -25,7 +25,7 @@ fn word_at(table: &[u8], at: usize) -> u64
 // The word of a thread that is not the last: its three bytes, and the next thread's phase above them.
 fn thread_word(table: &[u8], thread: usize) -> u64
     requires { Sized table.now × (thread + 1 < (table_of table.now).threads) }
-    ensures { result ≡ threadWord (table_of table.now) thread ((table_of table.now).phase (thread + 1)) }
+    ensures { result ≡ thread_word (table_of table.now) thread ((table_of table.now).phase (thread + 1)) }
 {
     word_at(table, phase_at(thread))
 }
@@ -33,7 +33,7 @@ fn thread_word(table: &[u8], thread: usize) -> u64
 // The word of any thread, the last too: from the word that starts one byte before its own, without that byte.
 fn last_word(table: &[u8], thread: usize) -> u64
     requires { Sized table.now × (thread < (table_of table.now).threads) }
-    ensures { result ≡ threadWord (table_of table.now) thread 0 }
+    ensures { result ≡ thread_word (table_of table.now) thread 0 }
 {
     let at = phase_at(thread);
     word_at(table, at - 1) / 256
@@ -42,7 +42,7 @@ fn last_word(table: &[u8], thread: usize) -> u64
 // The word of the last thread but one, where the threads before the last are odd in number; else 0, the word of a free thread.
 fn odd_word(table: &[u8], last: usize) -> u64
     requires { Sized table.now × (last < (table_of table.now).threads) }
-    ensures { result ≡ oddWord (table_of table.now) last }
+    ensures { result ≡ odd_word (table_of table.now) last }
 {
     if last % 2 == 0 {
         return 0;
@@ -55,7 +55,7 @@ fn odd_word(table: &[u8], last: usize) -> u64
 // which is a little faster than once.
 pub fn found(table: &[u8], threads: usize) -> Found
     requires { Sized table.now × (threads ≡ (table_of table.now).threads) }
-    ensures { result ≡ foundOf (table_of table.now) threads }
+    ensures { result ≡ found_of (table_of table.now) threads }
 {
     let last = threads - 1;
     let mut left = last / 2;

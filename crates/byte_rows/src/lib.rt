@@ -4,14 +4,14 @@
 mod states;
 
 ghost use Rattle.std.specs.Prelude.{◌+◌, ◌^◌, ◌<◌, ◌≡◌};
-ghost use Rattle.rows.specs.Rows.{row_at, stateIn};
+ghost use Rattle.rows.specs.Rows.{row_at, state_in};
 
 use states::row_of;
 
 // The row of the state in a word. The product brings forbidden, busy and phase next to each other, at bit 25.
 fn row_in(word: u64) -> u64
     requires { word < 2 ^ 32 }
-    ensures { result ≡ row_at (stateIn word) }
+    ensures { result ≡ row_at (state_in word) }
 {
     let state = word * 0x804_0200 / 0x200_0000 % 128;
     row_of(state)
@@ -21,7 +21,7 @@ fn row_in(word: u64) -> u64
 // puts it there without a call.
 pub fn two_rows(first: u64, second: u64) -> u64
     requires { (first < 2 ^ 32) × (second < 2 ^ 32) }
-    ensures { result ≡ row_at (stateIn first) + row_at (stateIn second) }
+    ensures { result ≡ row_at (state_in first) + row_at (state_in second) }
 {
     let mut sum: u64 = 0;
     let mut word = first;

@@ -1,9 +1,9 @@
 // The choice of a thread, and the request of that thread.
 ghost use Rattle.std.specs.Prelude.{ℕ, ◌<◌, ◌≡◌};
-ghost use Rattle.definitions.specs.Dispatch.{targetFor};
+ghost use Rattle.definitions.specs.Dispatch.{target_for};
 ghost use Rattle.definitions.specs.Table.{table_of};
-ghost use Rattle.ready.specs.ReadyBits.{readyIn};
-ghost use Rattle.choice.specs.Choosing.{CountedFor, SoundFor, requestFor, choice_of};
+ghost use Rattle.ready.specs.ReadyBits.{ready_in};
+ghost use Rattle.choice.specs.Choosing.{CountedFor, SoundFor, request_for, choice_of};
 
 use crate::searches::{lowest_ready, lowest_with};
 use layout::{read_head, read_task};
@@ -33,7 +33,7 @@ fn target_busy(table: &[u8], threads: usize) -> u8
 // The phases in which a thread is ready, a bit each.
 fn phases_in(table: &[u8], threads: usize) -> u32
     requires { CountedFor table.now threads }
-    ensures { result ≡ readyIn (table_of table.now) }
+    ensures { result ≡ ready_in (table_of table.now) }
 {
     let head = read_head(table);
     let busy = target_busy(table, threads);
@@ -43,7 +43,7 @@ fn phases_in(table: &[u8], threads: usize) -> u32
 // The target of a thread by its phase: "In 10 the target is the lowest thread with forbidden 0, in 15 the lowest with forbidden 1."
 fn target_in(table: &[u8], threads: usize, phase: u8) -> usize
     requires { CountedFor table.now threads }
-    ensures { (i : ℕ) → phase ≡ (table_of table.now).phase i → result ≡ targetFor (table_of table.now) i }
+    ensures { (i : ℕ) → phase ≡ (table_of table.now).phase i → result ≡ target_for (table_of table.now) i }
 {
     match phase {
         10 => lowest_with(table, threads, 0),
@@ -55,7 +55,7 @@ fn target_in(table: &[u8], threads: usize, phase: u8) -> usize
 // The request of a thread that is ready.
 fn request_for(table: &[u8], threads: usize, thread: usize) -> Choice
     requires { CountedFor table.now threads × (thread < threads) }
-    ensures { result ≡ requestFor (table_of table.now) thread }
+    ensures { result ≡ request_for (table_of table.now) thread }
 {
     let task = read_task(table, thread);
     let mv = move_in(task.phase);

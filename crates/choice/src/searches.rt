@@ -3,7 +3,7 @@ ghost use Rattle.std.specs.Prelude.{◌≡◌, eqb};
 ghost use Rattle.definitions.specs.Table.{table_of};
 ghost use Rattle.definitions.specs.Threads.{lowest};
 ghost use Rattle.dispatching.specs.Ready.{ready};
-ghost use Rattle.choice.specs.Choosing.{CountedFor, SearchedFor, lowestFrom};
+ghost use Rattle.choice.specs.Choosing.{CountedFor, SearchedFor, lowest_from};
 
 use layout::read_task;
 use ready::is_ready;
@@ -11,7 +11,7 @@ use ready::is_ready;
 // The lowest thread from `from` to `to` - 1 that is ready, and `to` where there is none.
 pub fn lowest_ready(table: &[u8], from: usize, to: usize, phases: u32) -> usize
     requires { SearchedFor table.now to phases }
-    ensures { result ≡ lowestFrom from to (ready (table_of table.now)) }
+    ensures { result ≡ lowest_from from to (ready (table_of table.now)) }
 {
     let mut thread = from;
     while thread < to {

@@ -2,13 +2,13 @@
 // code is a function of the type (definitions::Event).
 ghost use Rattle.std.specs.Prelude.{◌≡◌};
 ghost use Rattle.definitions.specs.Answers.{code_of, number_of};
-ghost use Rattle.definitions.specs.Table.{countFits};
+ghost use Rattle.definitions.specs.Table.{count_fits};
 
 use definitions::{Event, MOST_THREADS, Refusal};
 
 // Whether N is from 1 to 200.
 pub fn count_fits(threads: usize) -> bool
-    ensures { result ≡ countFits threads }
+    ensures { result ≡ count_fits threads }
 {
     (1 <= threads) & (threads <= MOST_THREADS as usize)
 }

@@ -8,6 +8,6 @@ sound-reached =
       complete = completeness.complete;
       move-refused = completeness.move-refused;
       nodes-refused = completeness.nodes-refused;
-      open-refused = completeness.open-refused;
+      open_refused = completeness.open_refused;
       dispatch-refused = completeness.dispatch-refused;
     }

@@ -1,6 +1,6 @@
 -- The tables that moves leave.
 use Rattle.std.specs.Prelude.{ℕ, List, ◌≡◌, T}
-use Rattle.definitions.specs.Chains.{tableAfter, acceptsAll, AllFit16}
+use Rattle.definitions.specs.Chains.{table_after, accepts_all, AllFit16}
 use Rattle.definitions.specs.Table.{fresh}
 use Rattle.definitions.specs.declared.Request.{Request}
 
@@ -8,5 +8,5 @@ use Rattle.definitions.specs.declared.Request.{Request}
 pub record Reached (n : ℕ) (bytes : List ℕ) : Type 0 where
   pub requests : List Request
   pub numbers : AllFit16 requests
-  pub all-accepted : T (acceptsAll (fresh n) requests)
-  pub leaves : tableAfter (fresh n) requests ≡ bytes
+  pub all-accepted : T (accepts_all (fresh n) requests)
+  pub leaves : table_after (fresh n) requests ≡ bytes

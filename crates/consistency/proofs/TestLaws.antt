@@ -5,32 +5,32 @@ use mathlib.Core.List.{[], ◌∷◌}
 use mathlib.Core.Path.{◌≡◌, sym, ◌∙◌}
 use lib.Dec.{leb, leb→le}
 use Rattle.definitions.specs.Answers.{accepted, refused, Test, test, answered}
-use Rattle.definitions.specs.Bounds.{mostThreads}
-use Rattle.definitions.specs.Table.{countFits}
-use Rattle.definitions.specs.Watch.{consistent, recordTests}
+use Rattle.definitions.specs.Bounds.{most_threads}
+use Rattle.definitions.specs.Table.{count_fits}
+use Rattle.definitions.specs.Watch.{consistent, record_tests}
 use Rattle.definitions.specs.declared.Watcher.{Watcher}
 use Rattle.basics.proofs.Replies.{passed, failed}
 use Rattle.basics.proofs.Tests.{and_r, true-T, false-T}
 
-pub few-threads : (n : ℕ) → countFits n ≡ true → n ≤ mostThreads
-few-threads n e = leb→le n mostThreads (and_r (leb 1 n) (leb n mostThreads) (true-T (countFits n) e))
+pub few-threads : (n : ℕ) → count_fits n ≡ true → n ≤ most_threads
+few-threads n e = leb→le n most_threads (and_r (leb 1 n) (leb n most_threads) (true-T (count_fits n) e))
 
 -- ---- a record
 
 module _ (w : Watcher) where
   abbrev size : Test
-  size = test 1 (countFits w.threads)
+  size = test 1 (count_fits w.threads)
 
   abbrev sure : Test
   sure = test 13 (consistent w)
 
   module _ {A : Type 0} (a : A) where
-    pub record-size : countFits w.threads ≡ false → refused 1 0 ≡ answered (recordTests w) a
-    record-size e = sym (failed size (sure ∷ []) a (false-T (countFits w.threads) e))
+    pub record_size : count_fits w.threads ≡ false → refused 1 0 ≡ answered (record_tests w) a
+    record_size e = sym (failed size (sure ∷ []) a (false-T (count_fits w.threads) e))
 
-    pub record-bad : countFits w.threads ≡ true → consistent w ≡ false → refused 13 0 ≡ answered (recordTests w) a
-    record-bad e f = sym (passed size (sure ∷ []) a (true-T (countFits w.threads) e) ∙ failed sure [] a (false-T (consistent w) f))
+    pub record_bad : count_fits w.threads ≡ true → consistent w ≡ false → refused 13 0 ≡ answered (record_tests w) a
+    record_bad e f = sym (passed size (sure ∷ []) a (true-T (count_fits w.threads) e) ∙ failed sure [] a (false-T (consistent w) f))
 
-    pub record-good : countFits w.threads ≡ true → consistent w ≡ true → accepted a ≡ answered (recordTests w) a
+    pub record_good : count_fits w.threads ≡ true → consistent w ≡ true → accepted a ≡ answered (record_tests w) a
     unfolding answered
-    record-good e f = sym (passed size (sure ∷ []) a (true-T (countFits w.threads) e) ∙ passed sure [] a (true-T (consistent w) f))
+    record_good e f = sym (passed size (sure ∷ []) a (true-T (count_fits w.threads) e) ∙ passed sure [] a (true-T (consistent w) f))

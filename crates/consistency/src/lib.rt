@@ -2,10 +2,10 @@
 // are lent as a slice, so that they are copied once, by whoever hands the record over.
 ghost use Rattle.std.specs.Prelude.{◌≡◌, length};
 ghost use Rattle.definitions.specs.Answers.{answered};
-ghost use Rattle.definitions.specs.Bounds.{mostThreads};
-ghost use Rattle.definitions.specs.Watch.{consistent, watchedReply, recordTests};
-ghost use Rattle.consistency.specs.Pass.{Room, withPlace, foundIn, emptyUpTo, foundFits};
-ghost use Rattle.consistency.specs.Records.{watcherOf, Small};
+ghost use Rattle.definitions.specs.Bounds.{most_threads};
+ghost use Rattle.definitions.specs.Watch.{consistent, watched_reply, record_tests};
+ghost use Rattle.consistency.specs.Pass.{Room, with_place, found_in, empty_up_to, found_fits};
+ghost use Rattle.consistency.specs.Records.{watcher_of, Small};
 
 use codes::count_fits;
 use definitions::{MOST_THREADS, Refusal, Watched};
@@ -29,7 +29,7 @@ struct Found {
 // With one more thread.
 fn with_place(found: Found, place: u8) -> Found
     requires { Room found }
-    ensures { result ≡ withPlace found place }
+    ensures { result ≡ with_place found place }
 {
     let reader = (place == 2) as u8;
     let writer = (place == 6) as u8;
@@ -46,7 +46,7 @@ fn with_place(found: Found, place: u8) -> Found
 // The pass over the threads' entries.
 fn find(threads: u8, places: &[u8]) -> Found
     requires { Small threads places.now }
-    ensures { result ≡ foundIn places.now threads }
+    ensures { result ≡ found_in places.now threads }
 {
     let mut found = Found {
         shared: 0,
@@ -66,7 +66,7 @@ fn find(threads: u8, places: &[u8]) -> Found
 // It goes on over the entries from N upward: whether all are 0.
 fn rest_is_empty(threads: u8, places: &[u8]) -> bool
     requires { Small threads places.now }
-    ensures { result ≡ emptyUpTo threads places.now mostThreads }
+    ensures { result ≡ empty_up_to threads places.now most_threads }
 {
     let mut empty = true;
     let mut t = threads as usize;
@@ -80,7 +80,7 @@ fn rest_is_empty(threads: u8, places: &[u8]) -> bool
 
 // Whether a record's totals are what the pass found, and nobody is inside beside a thread in exclusive.
 fn found_fits(totals: Totals, found: Found, empty: bool) -> bool
-    ensures { result ≡ foundFits totals found empty }
+    ensures { result ≡ found_fits totals found empty }
 {
     let same = (totals.shared == found.shared) & (totals.exclusive == found.exclusive);
     let apart = (found.exclusive <= 1) & ((found.exclusive == 0) | (found.shared == 0));
@@ -90,7 +90,7 @@ fn found_fits(totals: Totals, found: Found, empty: bool) -> bool
 // One pass over the 200 entries.
 fn is_consistent(totals: Totals, places: &[u8]) -> bool
     requires { Small totals.threads places.now }
-    ensures { result ≡ consistent (watcherOf totals places.now) }
+    ensures { result ≡ consistent (watcher_of totals places.now) }
 {
     let found = find(totals.threads, places);
     let empty = rest_is_empty(totals.threads, places);
@@ -99,8 +99,8 @@ fn is_consistent(totals: Totals, places: &[u8]) -> bool
 
 // Refusals 1 and 13.
 pub fn test_record(totals: Totals, places: &[u8]) -> Watched
-    requires { length places.now ≡ mostThreads }
-    ensures { watchedReply result ≡ answered (recordTests (watcherOf totals places.now)) tt }
+    requires { length places.now ≡ most_threads }
+    ensures { watched_reply result ≡ answered (record_tests (watcher_of totals places.now)) tt }
 {
     let count = totals.threads as usize;
     if !count_fits(count) {

@@ -7,7 +7,7 @@ use lib.ListN.{length, take, drop, length-append}
 use lib.Seq.{length-take-le, take-append-le, take-take, drop_at}
 use Rattle.definitions.specs.Texts.{decimal}
 use Rattle.basics.specs.Outputs.{put_at, RoomAt, PutAt}
-use Rattle.basics.proofs.Numbers.{decimal-small, decimal-more, decimal-longer, decimal-some, decimal-short}
+use Rattle.basics.proofs.Numbers.{decimal_small, decimal_more, decimal_longer, decimal-some, decimal-short}
 use Rattle.basics.proofs.Outputs.{none, same_size}
 
 -- ---- measured
@@ -19,11 +19,11 @@ pub record DigitsCounted (n digits high : ℕ) : Type 0 where
 pub counted_none : (n : ℕ) → DigitsCounted n 1 n
 counted_none n = record { sum = omega arith }
 
-pub counted-more : (n digits high : ℕ) → 10 ≤ high → DigitsCounted n digits high → DigitsCounted n (digits + 1) (high / 10)
-counted-more n digits high h w = record { sum = omega (arith, w.sum, decimal-longer high (length (decimal (high / 10))) h refl) }
+pub counted_more : (n digits high : ℕ) → 10 ≤ high → DigitsCounted n digits high → DigitsCounted n (digits + 1) (high / 10)
+counted_more n digits high h w = record { sum = omega (arith, w.sum, decimal_longer high (length (decimal (high / 10))) h refl) }
 
 pub counted-all : (n digits high : ℕ) → high < 10 → DigitsCounted n digits high → digits ≡ length (decimal n)
-counted-all n digits high h w = omega (arith, w.sum, ap length (decimal-small high h))
+counted-all n digits high h w = omega (arith, w.sum, ap length (decimal_small high h))
 
 -- a number of the code has 20 digits at most
 pub counted-few : (n digits high : ℕ) → n < 2 ^ 64 → DigitsCounted n digits high → digits ≤ 20
@@ -52,8 +52,8 @@ before_text out place b low h =
     (ap (λ (k : ℕ). take place out ++ (b ∷ (low ++ drop k out))) end)
 
 module _ {out : List ℕ} {at n : ℕ} (r : RoomAt out at (decimal n)) where
-  pub lower-none : {end : ℕ} → end ≡ at + length (decimal n) → Lower out at n n out end
-  lower-none {end} e = record { low = []; digits = sym (append-nil (decimal n)); start = e; output = (none out end).output; size = refl }
+  pub lower_none : {end : ℕ} → end ≡ at + length (decimal n) → Lower out at n n out end
+  lower_none {end} e = record { low = []; digits = sym (append-nil (decimal n)); start = e; output = (none out end).output; size = refl }
 
   module _ {high : ℕ} {out' : List ℕ} {place : ℕ} (w : Lower out at n high out' place) (before : ℕ) (e : before + 1 ≡ place) (b : ℕ) where
     -- the digits of `high` and those behind them fit
@@ -61,8 +61,8 @@ module _ {out : List ℕ} {at n : ℕ} (r : RoomAt out at (decimal n)) where
     within = omega (arith, r.ends, w.start, ap length w.digits, length-append (decimal high) w.low)
 
     -- the byte before the place
-    pub lower-room : RoomAt out' before (b ∷ [])
-    lower-room = record { ends = omega (arith, within, w.size) }
+    pub lower_room : RoomAt out' before (b ∷ [])
+    lower_room = record { ends = omega (arith, within, w.size) }
 
     module _ {out'' : List ℕ} {m : ℕ} (p : PutAt out' before (b ∷ []) out'' m) where
       joined : out'' ≡ put_at out before (b ∷ w.low)
@@ -71,16 +71,16 @@ module _ {out : List ℕ} {at n : ℕ} (r : RoomAt out at (decimal n)) where
           ∙ before_text out before b w.low within)
 
       -- one digit more, the last of `high`
-      pub lower-more : 10 ≤ high → b ≡ 48 + high % 10 → Lower out at n (high / 10) out'' before
-      lower-more h d =
+      pub lower_more : 10 ≤ high → b ≡ 48 + high % 10 → Lower out at n (high / 10) out'' before
+      lower_more h d =
           record {
             low = b ∷ w.low;
-            digits = w.digits ∙ rw (decimal-more high h, d, append_assoc);
-            start = omega (arith, w.start, decimal-longer high (length (decimal (high / 10))) h refl);
+            digits = w.digits ∙ rw (decimal_more high h, d, append_assoc);
+            start = omega (arith, w.start, decimal_longer high (length (decimal (high / 10))) h refl);
             output = joined;
-            size = same_size lower-room p ∙ w.size;
+            size = same_size lower_room p ∙ w.size;
           }
 
       -- the first digit
-      pub lower-all : high < 10 → before ≡ at → b ≡ 48 + high → {end : ℕ} → end ≡ at + length (decimal n) → PutAt out at (decimal n) out'' end
-      lower-all h f d e = record { next = e; output = rw (w.digits, decimal-small high h, ← d, ← f) joined }
+      pub lower_all : high < 10 → before ≡ at → b ≡ 48 + high → {end : ℕ} → end ≡ at + length (decimal n) → PutAt out at (decimal n) out'' end
+      lower_all h f d e = record { next = e; output = rw (w.digits, decimal_small high h, ← d, ← f) joined }

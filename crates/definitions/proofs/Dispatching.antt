@@ -3,15 +3,15 @@ use Prim.Native.Nat.{ℕ}
 use mathlib.Core.Bool.{false}
 use mathlib.Core.List.{List, [], ◌∷◌}
 use mathlib.Core.Path.{◌≡◌, refl}
-use Rattle.definitions.specs.Answers.{accepted, refused, Seen, shown, quiet, moved, answered, passesAll}
-use Rattle.definitions.specs.Codes.{go, setMove, clearMove}
-use Rattle.definitions.specs.Dispatch.{mayDispatch, hasTurnBy, hasTurn, moverIn, moveFor, targetFor, isWaiting}
-use Rattle.definitions.specs.Dispatch.{made, waiting, turnAnswer, turnReplyIn, turnIn, dispatchReply, dispatchTable}
-use Rattle.definitions.specs.Moves.{ask, goEffect, setEffect, clearEffect, effect, isRetry, stepReply, replyIn, stepIn}
+use Rattle.definitions.specs.Answers.{accepted, refused, Seen, shown, quiet, moved, answered, passes_all}
+use Rattle.definitions.specs.Codes.{go, set_move, clear_move}
+use Rattle.definitions.specs.Dispatch.{may_dispatch, has_turn_by, has_turn, mover_in, move_for, target_for, is_waiting}
+use Rattle.definitions.specs.Dispatch.{made, waiting, turn_answer, turn_reply_in, turn_in, dispatch_reply, dispatch_table}
+use Rattle.definitions.specs.Moves.{ask, go_effect, set_effect, clear_effect, effect, is_retry, step_reply, reply_in, step_in}
 use Rattle.definitions.specs.Phases.{rows}
-use Rattle.definitions.specs.Sound.{phaseRule, flagRule, busyRule, holderRule, mutexRule, targetRule, openRule, rule10, rule11, rule13, rule15, elsewhereRule, sound}
+use Rattle.definitions.specs.Sound.{phase_rule, flag_rule, busy_rule, holder_rule, mutex_rule, target_rule, open_rule, rule10, rule11, rule13, rule15, elsewhere_rule, sound}
 use Rattle.definitions.specs.Table.{sized, stored}
-use Rattle.definitions.specs.Threads.{every, some, howMany, lowest, among, all_of}
+use Rattle.definitions.specs.Threads.{every, some, how_many, lowest, among, all_of}
 
 -- two threads: mutex and target, then each thread's phase, busy and forbidden
 abbrev two : ℕ → ℕ → ℕ → ℕ → ℕ → ℕ → ℕ → ℕ → List ℕ
@@ -19,47 +19,47 @@ two mutex target p b f q c g = 2 ∷ mutex ∷ target ∷ p ∷ b ∷ f ∷ q �
 
 -- a turn that makes a move of thread, move and target, and leaves a table
 abbrev Turns : List ℕ → ℕ → ℕ → ℕ → Seen → List ℕ → Type 0
-Turns table thread mv target seen after = (dispatchReply table ≡ accepted (made (ask thread mv target) (moved seen false))) × (dispatchTable table ≡ after)
+Turns table thread mv target seen after = (dispatch_reply table ≡ accepted (made (ask thread mv target) (moved seen false))) × (dispatch_table table ≡ after)
 
 -- one that waits
 abbrev Waits : List ℕ → Type 0
-Waits table = (dispatchReply table ≡ accepted waiting) × (dispatchTable table ≡ table)
+Waits table = (dispatch_reply table ≡ accepted waiting) × (dispatch_table table ≡ table)
 
 pub record DispatchingExamples : Type 0 where
   -- the lowest thread that has a move: 0 before 1, and 1 where 0 has only a call, a retry or a leaving
-  pub lowest-first : Turns (two 0 255 1 0 0 1 0 0) 0 go 0 quiet (two 0 255 2 1 0 1 0 0)
-  pub free-passed : Turns (two 0 255 0 0 0 5 1 0) 1 go 0 (shown 2) (two 0 255 0 0 0 6 1 0)
+  pub lowest_first : Turns (two 0 255 1 0 0 1 0 0) 0 go 0 quiet (two 0 255 2 1 0 1 0 0)
+  pub free_passed : Turns (two 0 255 0 0 0 5 1 0) 1 go 0 (shown 2) (two 0 255 0 0 0 6 1 0)
   pub retry-passed : Turns (two 0 255 4 0 0 17 0 0) 1 go 0 (shown 8) (two 0 255 4 0 0 0 0 0)
-  pub leaving-passed : Turns (two 0 255 6 1 0 8 0 0) 1 go 0 (shown 4) (two 0 255 6 1 0 0 0 0)
+  pub leaving_passed : Turns (two 0 255 6 1 0 8 0 0) 1 go 0 (shown 4) (two 0 255 6 1 0 0 0 0)
   -- "In 10 the target is the lowest thread with forbidden 0, in 15 the lowest with forbidden 1."
-  pub in-10 : Turns (two 1 255 10 0 1 0 0 0) 0 setMove 1 quiet (two 1 1 11 0 1 0 0 1) × Turns (two 1 255 0 0 0 10 0 0) 1 setMove 0 quiet (two 1 0 0 0 1 11 0 0)
-  pub in-15 : Turns (two 1 255 15 0 0 0 0 1) 0 clearMove 1 quiet (two 1 255 16 0 0 0 0 0) × Turns (two 1 255 15 0 1 0 0 1) 0 clearMove 0 quiet (two 1 255 15 0 0 0 0 1)
+  pub in_10 : Turns (two 1 255 10 0 1 0 0 0) 0 set_move 1 quiet (two 1 1 11 0 1 0 0 1) × Turns (two 1 255 0 0 0 10 0 0) 1 set_move 0 quiet (two 1 0 0 0 1 11 0 0)
+  pub in_15 : Turns (two 1 255 15 0 0 0 0 1) 0 clear_move 1 quiet (two 1 255 16 0 0 0 0 0) × Turns (two 1 255 15 0 1 0 0 1) 0 clear_move 0 quiet (two 1 255 15 0 0 0 0 1)
   -- in 9 while the mutex is free, in 11 while the target isn't busy
-  pub in-9 : Turns (two 0 255 9 0 0 9 0 0) 0 go 0 quiet (two 1 255 10 0 0 9 0 0)
-  pub in-11 : Turns (two 1 1 11 0 0 0 0 1) 0 go 0 quiet (two 1 255 10 0 0 0 0 1)
+  pub in_9 : Turns (two 0 255 9 0 0 9 0 0) 0 go 0 quiet (two 1 255 10 0 0 9 0 0)
+  pub in_11 : Turns (two 1 1 11 0 0 0 0 1) 0 go 0 quiet (two 1 255 10 0 0 0 0 1)
   pub target_first : Turns (two 1 1 11 0 0 2 1 1) 1 go 0 quiet (two 1 1 11 0 0 3 1 1)
-  pub in-18 : Turns (two 1 255 18 0 0 0 0 0) 0 go 0 quiet (two 0 255 1 0 0 0 0 0)
+  pub in_18 : Turns (two 1 255 18 0 0 0 0 0) 0 go 0 quiet (two 0 255 1 0 0 0 0 0)
   -- waiting: nobody has a move but calls, retries and leavings; a writer in 11 whose target is in Shared; a thread in 9 while the mutex is taken
   pub idle : Waits (two 0 255 0 0 0 0 0 0) × Waits (two 0 255 4 0 0 6 1 0)
   pub held_up : Waits (two 1 1 11 0 0 6 1 1)
   pub before-mutex : Waits (two 1 255 14 0 1 9 0 1)
   -- "(Only 1 and 2 can occur.)"
-  pub refusals : (dispatchReply (2 ∷ 0 ∷ 255 ∷ []) ≡ refused 1 0) × (dispatchTable (2 ∷ 0 ∷ 255 ∷ []) ≡ 2 ∷ 0 ∷ 255 ∷ []) × (dispatchReply (two 1 255 0 0 0 0 0 0) ≡ refused 2 0)
+  pub refusals : (dispatch_reply (2 ∷ 0 ∷ 255 ∷ []) ≡ refused 1 0) × (dispatch_table (2 ∷ 0 ∷ 255 ∷ []) ≡ 2 ∷ 0 ∷ 255 ∷ []) × (dispatch_reply (two 1 255 0 0 0 0 0 0) ≡ refused 2 0)
 
-pub dispatching-examples : DispatchingExamples
-unfolding every some howMany lowest among all_of passesAll answered sized stored rows sound phaseRule flagRule busyRule holderRule mutexRule targetRule openRule rule10 rule11 rule13 rule15 elsewhereRule goEffect setEffect clearEffect effect isRetry stepReply replyIn stepIn mayDispatch hasTurnBy hasTurn moverIn moveFor targetFor isWaiting turnAnswer turnReplyIn turnIn
-dispatching-examples =
+pub dispatching_examples : DispatchingExamples
+unfolding every some how_many lowest among all_of passes_all answered sized stored rows sound phase_rule flag_rule busy_rule holder_rule mutex_rule target_rule open_rule rule10 rule11 rule13 rule15 elsewhere_rule go_effect set_effect clear_effect effect is_retry step_reply reply_in step_in may_dispatch has_turn_by has_turn mover_in move_for target_for is_waiting turn_answer turn_reply_in turn_in
+dispatching_examples =
     record {
-      lowest-first = (refl, refl);
-      free-passed = (refl, refl);
+      lowest_first = (refl, refl);
+      free_passed = (refl, refl);
       retry-passed = (refl, refl);
-      leaving-passed = (refl, refl);
-      in-10 = ((refl, refl), (refl, refl));
-      in-15 = ((refl, refl), (refl, refl));
-      in-9 = (refl, refl);
-      in-11 = (refl, refl);
+      leaving_passed = (refl, refl);
+      in_10 = ((refl, refl), (refl, refl));
+      in_15 = ((refl, refl), (refl, refl));
+      in_9 = (refl, refl);
+      in_11 = (refl, refl);
       target_first = (refl, refl);
-      in-18 = (refl, refl);
+      in_18 = (refl, refl);
       idle = ((refl, refl), (refl, refl));
       held_up = (refl, refl);
       before-mutex = (refl, refl);

@@ -4,12 +4,12 @@ use mathlib.Core.Bool.{true, false}
 use mathlib.Core.List.{List, ◌++◌}
 use mathlib.Core.Path.{◌≡◌, refl}
 use lib.ListN.{replicate}
-use Rattle.definitions.specs.Answers.{Reply, accepted, refused, answered, deliveryReply}
-use Rattle.definitions.specs.Forms.{occurrences, noteFits, noteForm, form_of}
+use Rattle.definitions.specs.Answers.{Reply, accepted, refused, answered, delivery_reply}
+use Rattle.definitions.specs.Forms.{occurrences, note_fits, note_form, form_of}
 use Rattle.definitions.specs.Plan.{bytes_of}
-use Rattle.definitions.specs.Run.{stepsLine, refusedLine, printed, printedFirst, runText, runOutputOf}
-use Rattle.definitions.specs.Scripts.{linesTests, requestsIn, scriptTests, Listed, read_entry}
-use Rattle.definitions.specs.Texts.{bytes, same, lines_of, digitsOf, valueFrom, decimalWithin, numberRead}
+use Rattle.definitions.specs.Run.{steps_line, refused_line, printed, printed_first, run_text, run_output_of}
+use Rattle.definitions.specs.Scripts.{lines_tests, requests_in, script_tests, Listed, read_entry}
+use Rattle.definitions.specs.Texts.{bytes, same, lines_of, digits_of, value_from, decimal_within, number_read}
 use Rattle.definitions.specs.Threads.{every}
 
 -- a text of brackets to a depth, and a script with it as a note
@@ -20,18 +20,18 @@ abbrev noted : ℕ → List ℕ
 noted depth = bytes "(threads 1)\n(note " ++ (nested depth ++ bytes ")\n")
 
 abbrev read : List ℕ → Reply Listed
-read script = deliveryReply (read_entry script) (replicate 3 7)
+read script = delivery_reply (read_entry script) (replicate 3 7)
 
 pub record NotingExamples : Type 0 where
   -- "depth 16 stays the last that passes", also behind brackets that are closed
-  pub deepest : (noteFits (nested 16) ≡ true) × (noteFits (nested 15 ++ nested 16) ≡ true)
-  pub deeper : (noteFits (nested 17) ≡ false) × (noteFits (nested 16 ++ nested 17) ≡ false)
-  pub run : (runOutputOf (noted 16) ≡ bytes "(steps 0)\n") × (runOutputOf (noted 17) ≡ bytes "(refused 8 2)\n")
+  pub deepest : (note_fits (nested 16) ≡ true) × (note_fits (nested 15 ++ nested 16) ≡ true)
+  pub deeper : (note_fits (nested 17) ≡ false) × (note_fits (nested 16 ++ nested 17) ≡ false)
+  pub run : (run_output_of (noted 16) ≡ bytes "(steps 0)\n") × (run_output_of (noted 17) ≡ bytes "(refused 8 2)\n")
   pub reading : (read (noted 16) ≡ accepted (record { threads = 1; bytes = 0 })) × (read (noted 17) ≡ refused 8 2)
 
-pub noting-examples : NotingExamples
-unfolding answered deliveryReply bytes_of occurrences noteFits noteForm form_of stepsLine refusedLine printed printedFirst runText linesTests requestsIn scriptTests bytes same lines_of digitsOf valueFrom decimalWithin numberRead every
-noting-examples =
+pub noting_examples : NotingExamples
+unfolding answered delivery_reply bytes_of occurrences note_fits note_form form_of steps_line refused_line printed printed_first run_text lines_tests requests_in script_tests bytes same lines_of digits_of value_from decimal_within number_read every
+noting_examples =
     record {
       deepest = (refl, refl);
       deeper = (refl, refl);

@@ -44,8 +44,8 @@ events =
     ∷ []
 
 -- the event of a code, if there is one
-unfoldable pub eventOf : ℕ → MaybeEvent
-eventOf code = get_or events code Unknown
+unfoldable pub event_of : ℕ → MaybeEvent
+event_of code = get_or events code Unknown
 
 -- "Turned down, in checking order": the numbers 1 to 12; "New: 13, the watcher record is inconsistent" (02 §2); "New: 14, a length outside 1 to 6 events or N from 4 to 200" (02 §9)
 abbrev pub number_of : Refusal → ℕ
@@ -85,21 +85,21 @@ abbrev pub moved : Seen → Bool → MoveAnswer
 moved seen retry = record { seen = seen; retry = retry }
 
 -- the reply that each case of a move's outcome stands for; a move's refusal has place 0
-abbrev pub outcomeReply : Outcome → Reply MoveAnswer
-outcomeReply (outcome.Shown e) = accepted (moved (shown (code_of e)) false)
-outcomeReply outcome.Quiet = accepted (moved quiet false)
-outcomeReply outcome.Retry = accepted (moved quiet true)
-outcomeReply (outcome.Refused r) = refused (number_of r) 0
+abbrev pub outcome_reply : Outcome → Reply MoveAnswer
+outcome_reply (outcome.Shown e) = accepted (moved (shown (code_of e)) false)
+outcome_reply outcome.Quiet = accepted (moved quiet false)
+outcome_reply outcome.Retry = accepted (moved quiet true)
+outcome_reply (outcome.Refused r) = refused (number_of r) 0
 
 -- the reply that each case of another entry's answer stands for
-abbrev pub answerReply : Answer → Reply ℕ
-answerReply (answer.Done n) = accepted n
-answerReply (answer.Refused r place) = refused (number_of r) place
+abbrev pub answer_reply : Answer → Reply ℕ
+answer_reply (answer.Done n) = accepted n
+answer_reply (answer.Refused r place) = refused (number_of r) place
 
 -- "Accepted means answered with a shown event or quiet.", and of any entry: answered with no refusal
-abbrev pub isAccepted : {A : Type 0} → Reply A → Bool
-isAccepted (accepted a) = true
-isAccepted (refused number place) = false
+abbrev pub is_accepted : {A : Type 0} → Reply A → Bool
+is_accepted (accepted a) = true
+is_accepted (refused number place) = false
 
 -- what is left where a request is accepted, or else where it is refused: "Every lent byte stays."
 abbrev pub leaves {ℓ} : {A : Type 0} {B : Type ℓ} → Reply A → B → B → B
@@ -118,8 +118,8 @@ pub record Test : Type 0 where
 abbrev pub test : ℕ → Bool → Test
 test number passed = record { number = number; place = 0; passed = passed }
 
-abbrev pub testAt : ℕ → ℕ → Bool → Test
-testAt place number passed = record { number = number; place = place; passed = passed }
+abbrev pub test_at : ℕ → ℕ → Bool → Test
+test_at place number passed = record { number = number; place = place; passed = passed }
 
 -- "the first number that fits": that of the first test that isn't passed; where all are, the request is accepted
 unfoldable pub answered : {A : Type 0} → List Test → A → Reply A
@@ -127,9 +127,9 @@ answered [] a = accepted a
 answered (t ∷ ts) a = cond t.passed (answered ts a) (refused t.number t.place)
 
 -- a request passes all of a list of tests
-unfoldable pub passesAll : List Test → Bool
-passesAll [] = true
-passesAll (t ∷ ts) = t.passed && passesAll ts
+unfoldable pub passes_all : List Test → Bool
+passes_all [] = true
+passes_all (t ∷ ts) = t.passed && passes_all ts
 
 -- ---- entries that write
 
@@ -144,16 +144,16 @@ pub record Delivery (A : Type 0) : Type 0 where
   pub answer : A
 
 -- 12: "The lent output is shorter than the whole output."
-abbrev pub roomTest : List ℕ → List ℕ → Test
-roomTest text out = test 12 (leb (length text) (length out))
+abbrev pub room_test : List ℕ → List ℕ → Test
+room_test text out = test 12 (leb (length text) (length out))
 
 -- what it answers, 12 tested last
-unfoldable pub deliveryReply : {A : Type 0} → Delivery A → List ℕ → Reply A
-deliveryReply d out = answered (d.tests ++ (roomTest d.text out ∷ [])) d.answer
+unfoldable pub delivery_reply : {A : Type 0} → Delivery A → List ℕ → Reply A
+delivery_reply d out = answered (d.tests ++ (room_test d.text out ∷ [])) d.answer
 
 -- and the lent output at its exit
-unfoldable pub deliveryOutput : {A : Type 0} → Delivery A → List ℕ → List ℕ
-deliveryOutput d out = leaves (deliveryReply d out) (filled out d.text) out
+unfoldable pub delivery_output : {A : Type 0} → Delivery A → List ℕ → List ℕ
+delivery_output d out = leaves (delivery_reply d out) (filled out d.text) out
 
 -- an entry that answers "the number of bytes written"
 abbrev pub counted : List Test → List ℕ → Delivery ℕ

@@ -39,17 +39,17 @@ OE = 10
 abbrev pub go : ℕ
 go = 0
 
-abbrev pub callShared : ℕ
-callShared = 1
+abbrev pub call_shared : ℕ
+call_shared = 1
 
-abbrev pub callExclusive : ℕ
-callExclusive = 2
+abbrev pub call_exclusive : ℕ
+call_exclusive = 2
 
-abbrev pub setMove : ℕ
-setMove = 3
+abbrev pub set_move : ℕ
+set_move = 3
 
-abbrev pub clearMove : ℕ
-clearMove = 4
+abbrev pub clear_move : ℕ
+clear_move = 4
 
 abbrev pub relent : ℕ
 relent = 5

@@ -3,18 +3,18 @@ use Rattle.std.specs.Prelude.{ℕ, ◌<◌, Bool, false, not, ◌||◌, ◌⊎�
 use mathlib.Core.List.{List, [], ◌∷◌, Memᴰ}
 use Rattle.definitions.specs.Answers.{Seen, shown, quiet, Delivery, counted}
 use Rattle.definitions.specs.Codes.{Free, ES, LOE, Shared, LS, EE, SAF, LOS, Exclusive, LE, OE}
-use Rattle.definitions.specs.Phases.{nodeOf}
-use Rattle.definitions.specs.Sound.{tableTests}
+use Rattle.definitions.specs.Phases.{node_of}
+use Rattle.definitions.specs.Sound.{table_tests}
 use Rattle.definitions.specs.Table.{Table, table_of}
 use Rattle.definitions.specs.Threads.{list_of, among}
 
 -- "Nodes are N bytes."
-unfoldable pub nodesOf : Table → List ℕ
-nodesOf s = list_of s.threads (λ i. nodeOf (s.phase i))
+unfoldable pub nodes_of : Table → List ℕ
+nodes_of s = list_of s.threads (λ i. node_of (s.phase i))
 
 -- the nodes entry
-abbrev pub nodesEntry : List ℕ → Delivery ℕ
-nodesEntry bytes = counted (tableTests bytes) (nodesOf (table_of bytes))
+abbrev pub nodes_entry : List ℕ → Delivery ℕ
+nodes_entry bytes = counted (table_tests bytes) (nodes_of (table_of bytes))
 
 -- ---- Figure 1
 
@@ -23,10 +23,10 @@ pub record Arrow : Type 0 where
   pub from : ℕ
   pub to : ℕ
   pub shows : Seen
-  pub nobodyIn : List ℕ
+  pub nobody_in : List ℕ
 
 abbrev arrow : ℕ → ℕ → Seen → List ℕ → Arrow
-arrow a b e g = record { from = a; to = b; shows = e; nobodyIn = g }
+arrow a b e g = record { from = a; to = b; shows = e; nobody_in = g }
 
 -- the twelve arrows; "Figure 1's guards: ES to LOE needs nobody in LOS or Exclusive; EE to SAF nobody in SAF, LOS, Exclusive or LE; SAF to LOS nobody in LOE or Shared."
 unfoldable pub arrows : List Arrow
@@ -46,15 +46,15 @@ arrows =
     ∷ []
 
 -- some thread's node is one of a list
-unfoldable pub anyIn : List ℕ → List ℕ → Bool
-anyIn wanted [] = false
-anyIn wanted (node ∷ nodes) = among node wanted || anyIn wanted nodes
+unfoldable pub any_in : List ℕ → List ℕ → Bool
+any_in wanted [] = false
+any_in wanted (node ∷ nodes) = among node wanted || any_in wanted nodes
 
 -- thread i takes an arrow: it is one of the threads, it stands where the arrow begins, the arrow's guard is met, exactly this thread's node changes, and the arrow's event is seen
 pub record Taken (a : Arrow) (before : List ℕ) (i : ℕ) (seen : Seen) (after : List ℕ) : Type 0 where
   pub there : i < length before
   pub begins : get_or before i 0 ≡ a.from
-  pub guard : T (not (anyIn a.nobodyIn before))
+  pub guard : T (not (any_in a.nobody_in before))
   pub ends : after ≡ set before i a.to
   pub shows : seen ≡ a.shows
 

@@ -1,7 +1,7 @@
 -- What each phase says of a thread in it: one row a phase, as Table 1 of source document 000 has one line each. Everything that the rules ask of a phase by itself is a column of this table.
 -- A number above the last phase has the row `no_row`: Free, no flag, no move.
 use Rattle.std.specs.Prelude.{ℕ, Bool, true, false, List, [], ◌∷◌, get_or}
-use Rattle.definitions.specs.Codes.{Free, ES, LOE, Shared, LS, EE, SAF, LOS, Exclusive, LE, OE, go, callShared, callExclusive, setMove, clearMove, relent, hold}
+use Rattle.definitions.specs.Codes.{Free, ES, LOE, Shared, LS, EE, SAF, LOS, Exclusive, LE, OE, go, call_shared, call_exclusive, set_move, clear_move, relent, hold}
 use Rattle.definitions.specs.Threads.{among}
 
 pub record Row : Type 0 where
@@ -28,7 +28,7 @@ no_row = row Free 0 false false []
 unfoldable pub rows : List Row
 rows =
     -- 0: outside the lock
-    row Free 0 false false (callShared ∷ callExclusive ∷ [])
+    row Free 0 false false (call_shared ∷ call_exclusive ∷ [])
     -- 1, enter_shared: p.busy := true
     ∷ row ES 0 false false (go ∷ [])
     -- 2: while p.forbidden
@@ -48,7 +48,7 @@ rows =
     -- 9, enter_exclusive: mutex.lock()
     ∷ row EE 0 false false (go ∷ [])
     -- 10: while some q.forbidden is false, select r; r.forbidden := true
-    ∷ row SAF 0 true false (setMove ∷ [])
+    ∷ row SAF 0 true false (set_move ∷ [])
     -- 11: if r.busy, or sometimes
     ∷ row SAF 0 true false (go ∷ relent ∷ [])
     -- 12: r.forbidden := false
@@ -58,7 +58,7 @@ rows =
     -- 14: in the exclusive section
     ∷ row Exclusive 0 true false (go ∷ [])
     -- 15, leave_exclusive: while some q.forbidden is true, select r; usually r.forbidden := false, sometimes r.forbidden := true
-    ∷ row LE 0 true false (setMove ∷ clearMove ∷ [])
+    ∷ row LE 0 true false (set_move ∷ clear_move ∷ [])
     -- 16: mutex.unlock()
     ∷ row OE 0 true false (go ∷ [])
     -- 17: leave_exclusive returns
@@ -72,11 +72,11 @@ row_of phase = get_or rows phase no_row
 
 -- ---- the columns
 
-abbrev pub nodeOf : ℕ → ℕ
-nodeOf phase = (row_of phase).node
+abbrev pub node_of : ℕ → ℕ
+node_of phase = (row_of phase).node
 
-abbrev pub busyIn : ℕ → ℕ
-busyIn phase = (row_of phase).busy
+abbrev pub busy_in : ℕ → ℕ
+busy_in phase = (row_of phase).busy
 
 abbrev pub holds : ℕ → Bool
 holds phase = (row_of phase).holder
@@ -84,5 +84,5 @@ holds phase = (row_of phase).holder
 abbrev pub reading : ℕ → Bool
 reading phase = (row_of phase).reader
 
-abbrev pub hasMove : ℕ → ℕ → Bool
-hasMove mv phase = among mv (row_of phase).moves
+abbrev pub has_move : ℕ → ℕ → Bool
+has_move mv phase = among mv (row_of phase).moves

@@ -2,9 +2,9 @@
 -- A line's form is judged by the line alone; a line that lacks its line feed is a bad form; `(refused R L)` follows the events already printed.
 use Rattle.std.specs.Prelude.{ℕ, suc, ◌+◌, cond, List, [], ◌∷◌, ◌++◌, leb, length, get_or, drop}
 use Rattle.definitions.specs.Answers.{Reply, accepted, refused, Seen, shown, quiet, MoveAnswer, number_of, test, answered, Delivery}
-use Rattle.definitions.specs.Bounds.{mostScript}
-use Rattle.definitions.specs.Forms.{Form, lineForm, firstForm, firstTests, threadsFirst, lineTests, requestIn}
-use Rattle.definitions.specs.Moves.{moveReply, moveTable}
+use Rattle.definitions.specs.Bounds.{most_script}
+use Rattle.definitions.specs.Forms.{Form, line_form, first_form, first_tests, threads_first, line_tests, request_in}
+use Rattle.definitions.specs.Moves.{move_reply, move_table}
 use Rattle.definitions.specs.PlainLock.{Pair}
 use Rattle.definitions.specs.Table.{table_of, fresh}
 use Rattle.definitions.specs.Texts.{bytes, Line, lines_of, decimal}
@@ -13,8 +13,8 @@ use Rattle.definitions.specs.declared.Running.{Running}
 use Rattle.definitions.specs.declared.Running.TheVariants as running
 
 -- "the name as listed above", by the event's code
-unfoldable pub eventName : ℕ → List ℕ
-eventName event =
+unfoldable pub event_name : ℕ → List ℕ
+event_name event =
     get_or
     ([]
     ∷ bytes "enter shared call"
@@ -30,23 +30,23 @@ eventName event =
     []
 
 -- "prints `(event T (name))` for each event as it comes"; quiet prints nothing
-unfoldable pub eventLine : ℕ → Seen → List ℕ
-eventLine thread (shown event) =
-    bytes "(event " ++ (decimal thread ++ (bytes " (" ++ (eventName event ++ bytes "))\n")))
-eventLine thread quiet = []
+unfoldable pub event_line : ℕ → Seen → List ℕ
+event_line thread (shown event) =
+    bytes "(event " ++ (decimal thread ++ (bytes " (" ++ (event_name event ++ bytes "))\n")))
+event_line thread quiet = []
 
 -- the lines of a history
-unfoldable pub eventLines : List Pair → List ℕ
-eventLines [] = []
-eventLines (x ∷ xs) = eventLine x.thread (shown x.event) ++ eventLines xs
+unfoldable pub event_lines : List Pair → List ℕ
+event_lines [] = []
+event_lines (x ∷ xs) = event_line x.thread (shown x.event) ++ event_lines xs
 
 -- "then `(steps K)`, K being the moves made"
-unfoldable pub stepsLine : ℕ → List ℕ
-stepsLine steps = bytes "(steps " ++ (decimal steps ++ bytes ")\n")
+unfoldable pub steps_line : ℕ → List ℕ
+steps_line steps = bytes "(steps " ++ (decimal steps ++ bytes ")\n")
 
 -- "`(refused R L)`, R the number (a bad form is 8, a bad N 1), L the line from 1"
-unfoldable pub refusedLine : ℕ → ℕ → List ℕ
-refusedLine number line =
+unfoldable pub refused_line : ℕ → ℕ → List ℕ
+refused_line number line =
     bytes "(refused " ++ (decimal number ++ (bytes " " ++ (decimal line ++ bytes ")\n")))
 
 -- what a line does to the run: it stops it with a refusal's number, it is a note, or it makes a move, with what this answers
@@ -56,66 +56,66 @@ pub data Turn : Type 0 where
   makes : Request → MoveAnswer → Turn
 
 -- a line's request, which the table accepts or refuses
-abbrev pub turnFor : Request → Reply MoveAnswer → Turn
-turnFor r (accepted answer) = makes r answer
-turnFor r (refused number place) = stops number
+abbrev pub turn_for : Request → Reply MoveAnswer → Turn
+turn_for r (accepted answer) = makes r answer
+turn_for r (refused number place) = stops number
 
 -- what the line says: a refusal of its form or its numbers, no request, or one
-abbrev pub turnSaid : List ℕ → Reply (List Request) → Turn
-turnSaid table (refused number place) = stops number
-turnSaid table (accepted []) = passes
-turnSaid table (accepted (r ∷ rs)) = turnFor r (moveReply table r)
+abbrev pub turn_said : List ℕ → Reply (List Request) → Turn
+turn_said table (refused number place) = stops number
+turn_said table (accepted []) = passes
+turn_said table (accepted (r ∷ rs)) = turn_for r (move_reply table r)
 
 abbrev pub turn_of : List ℕ → Form → Turn
-turn_of table form = turnSaid table (answered (lineTests 0 (table_of table).threads form) (requestIn form))
+turn_of table form = turn_said table (answered (line_tests 0 (table_of table).threads form) (request_in form))
 
 -- what is printed from a line on: `table` is the table before it, `line` its number, `steps` the moves made before it
 unfoldable pub printed : List ℕ → ℕ → ℕ → List Line → List ℕ
-printed table line steps [] = stepsLine steps
+printed table line steps [] = steps_line steps
 printed table line steps (l ∷ ls) =
-    elim (turn_of table (lineForm l)) [
-      | stops number ↦ refusedLine number line
+    elim (turn_of table (line_form l)) [
+      | stops number ↦ refused_line number line
       | passes ↦ printed table (suc line) steps ls
-      | makes r answer ↦ eventLine r.thread answer.seen ++ printed (moveTable table r) (suc line) (suc steps) ls
+      | makes r answer ↦ event_line r.thread answer.seen ++ printed (move_table table r) (suc line) (suc steps) ls
     ]
 
 -- "The run starts fresh", at line 2, with the N of the first line, or it is turned down there
-abbrev pub printedFor : Reply ℕ → List Line → List ℕ
-printedFor (accepted n) ls = printed (fresh n) 2 0 ls
-printedFor (refused number line) ls = refusedLine number line
+abbrev pub printed_for : Reply ℕ → List Line → List ℕ
+printed_for (accepted n) ls = printed (fresh n) 2 0 ls
+printed_for (refused number line) ls = refused_line number line
 
-unfoldable pub printedFirst : Form → List Line → List ℕ
-printedFirst form ls = printedFor (answered (firstTests form) (threadsFirst form)) ls
+unfoldable pub printed_first : Form → List Line → List ℕ
+printed_first form ls = printed_for (answered (first_tests form) (threads_first form)) ls
 
 -- the whole output of a run
-unfoldable pub runText : List Line → List ℕ
-runText ls = printedFirst (firstForm ls) (drop 1 ls)
+unfoldable pub run_text : List Line → List ℕ
+run_text ls = printed_first (first_form ls) (drop 1 ls)
 
-abbrev pub runOutputOf : List ℕ → List ℕ
-runOutputOf script = runText (lines_of script)
+abbrev pub run_output_of : List ℕ → List ℕ
+run_output_of script = run_text (lines_of script)
 
 -- ---- the retries of a run
 
 -- how many of the moves made from a line on were retries (02 §7)
-unfoldable pub retriesFrom : List ℕ → List Line → ℕ
-retriesFrom table [] = 0
-retriesFrom table (l ∷ ls) =
-    elim (turn_of table (lineForm l)) [
+unfoldable pub retries_from : List ℕ → List Line → ℕ
+retries_from table [] = 0
+retries_from table (l ∷ ls) =
+    elim (turn_of table (line_form l)) [
       | stops number ↦ 0
-      | passes ↦ retriesFrom table ls
-      | makes r answer ↦ cond answer.retry 1 0 + retriesFrom (moveTable table r) ls
+      | passes ↦ retries_from table ls
+      | makes r answer ↦ cond answer.retry 1 0 + retries_from (move_table table r) ls
     ]
 
-abbrev pub retriesFor : Reply ℕ → List Line → ℕ
-retriesFor (accepted n) ls = retriesFrom (fresh n) ls
-retriesFor (refused number line) ls = 0
+abbrev pub retries_for : Reply ℕ → List Line → ℕ
+retries_for (accepted n) ls = retries_from (fresh n) ls
+retries_for (refused number line) ls = 0
 
-unfoldable pub retriesFirst : Form → List Line → ℕ
-retriesFirst form ls = retriesFor (answered (firstTests form) (threadsFirst form)) ls
+unfoldable pub retries_first : Form → List Line → ℕ
+retries_first form ls = retries_for (answered (first_tests form) (threads_first form)) ls
 
 -- those of a whole run
-unfoldable pub runRetries : List Line → ℕ
-runRetries ls = retriesFirst (firstForm ls) (drop 1 ls)
+unfoldable pub run_retries : List Line → ℕ
+run_retries ls = retries_first (first_form ls) (drop 1 ls)
 
 -- ---- the entry
 
@@ -125,21 +125,21 @@ pub record RunCounts : Type 0 where
   pub retries : ℕ
 
 -- the reply that each case of its answer stands for
-abbrev pub runningReply : Running → Reply RunCounts
-runningReply (running.Ran bytes retries) = accepted (record { bytes = bytes; retries = retries })
-runningReply (running.Refused r place) = refused (number_of r) place
+abbrev pub running_reply : Running → Reply RunCounts
+running_reply (running.Ran bytes retries) = accepted (record { bytes = bytes; retries = retries })
+running_reply (running.Refused r place) = refused (number_of r) place
 
 -- "Only a script too long (8) or a short output (12) refuses the run itself."
-abbrev pub runEntry : List ℕ → Delivery RunCounts
-runEntry script =
+abbrev pub run_entry : List ℕ → Delivery RunCounts
+run_entry script =
     record {
-      tests = test 8 (leb (length script) mostScript) ∷ [];
-      text = runOutputOf script;
-      answer = record { bytes = length (runOutputOf script); retries = runRetries (lines_of script) };
+      tests = test 8 (leb (length script) most_script) ∷ [];
+      text = run_output_of script;
+      answer = record { bytes = length (run_output_of script); retries = run_retries (lines_of script) };
     }
 
 -- ---- the program
 
 -- "The program reads standard input and prints the run's output, ..; for a script too long it prints `(refused 8 0)`."
-unfoldable pub programOutput : List ℕ → List ℕ
-programOutput input = cond (leb (length input) mostScript) (runOutputOf input) (refusedLine 8 0)
+unfoldable pub program_output : List ℕ → List ℕ
+program_output input = cond (leb (length input) most_script) (run_output_of input) (refused_line 8 0)

@@ -1,10 +1,10 @@
 -- The table: a record of N, mutex, target and three functions of the thread, whatever stores it; writes to it; and its bytes, which are one storage of it.
 -- The rules speak of the record alone. A `Storage` says how a table is read off what stores it and how writes are made there;
--- `byteTable` is the storage of the scope paper, and `table_of` and `stored` are the only definitions that know where a thread's bytes stand.
+-- `byte_table` is the storage of the scope paper, and `table_of` and `stored` are the only definitions that know where a thread's bytes stand.
 -- What a phase says of its thread stands in Phases, what makes a table sound in Sound.
 use Rattle.std.specs.Prelude.{ℕ, ◌+◌, ◌*◌, Bool, true, cond, ◌&&◌, List, [], ◌∷◌, leb, eqb, length, get_or, set, replicate}
 use Rattle.definitions.specs.Answers.{test, Delivery, counted}
-use Rattle.definitions.specs.Bounds.{mostThreads, noTarget}
+use Rattle.definitions.specs.Bounds.{most_threads, no_target}
 
 -- ---- the record
 
@@ -18,13 +18,13 @@ pub record Table : Type 0 where
   pub forbidden : ℕ → ℕ
 
 -- N is from 1 to 200
-abbrev pub countFits : ℕ → Bool
-countFits n = leb 1 n && leb n mostThreads
+abbrev pub count_fits : ℕ → Bool
+count_fits n = leb 1 n && leb n most_threads
 
 -- "A fresh table has mutex 0, target 255, all else 0."
-abbrev pub freshTable : ℕ → Table
-freshTable n =
-    record { threads = n; mutex = 0; target = noTarget; phase = λ i. 0; busy = λ i. 0; forbidden = λ i. 0 }
+abbrev pub fresh_table : ℕ → Table
+fresh_table n =
+    record { threads = n; mutex = 0; target = no_target; phase = λ i. 0; busy = λ i. 0; forbidden = λ i. 0 }
 
 -- ---- writes
 
@@ -40,22 +40,22 @@ pub data Write : Type 0 where
 abbrev pub update : (ℕ → ℕ) → ℕ → ℕ → ℕ → ℕ
 update f i v = λ j. cond (eqb j i) v (f j)
 
-abbrev pub appliedOne : Table → Write → Table
-appliedOne s (mutex≔ v) =
+abbrev pub applied_one : Table → Write → Table
+applied_one s (mutex≔ v) =
     record { threads = s.threads; mutex = v; target = s.target; phase = s.phase; busy = s.busy; forbidden = s.forbidden }
-appliedOne s (target≔ v) =
+applied_one s (target≔ v) =
     record { threads = s.threads; mutex = s.mutex; target = v; phase = s.phase; busy = s.busy; forbidden = s.forbidden }
-appliedOne s (phase≔ i v) =
+applied_one s (phase≔ i v) =
     record { threads = s.threads; mutex = s.mutex; target = s.target; phase = update s.phase i v; busy = s.busy; forbidden = s.forbidden }
-appliedOne s (busy≔ i v) =
+applied_one s (busy≔ i v) =
     record { threads = s.threads; mutex = s.mutex; target = s.target; phase = s.phase; busy = update s.busy i v; forbidden = s.forbidden }
-appliedOne s (forbidden≔ i v) =
+applied_one s (forbidden≔ i v) =
     record { threads = s.threads; mutex = s.mutex; target = s.target; phase = s.phase; busy = s.busy; forbidden = update s.forbidden i v }
 
 -- "What isn't named keeps its value."
 abbrev pub applied : Table → List Write → Table
 applied s [] = s
-applied s (w ∷ ws) = applied (appliedOne s w) ws
+applied s (w ∷ ws) = applied (applied_one s w) ws
 
 -- ---- storages
 
@@ -76,14 +76,14 @@ abbrev pub size : ℕ → ℕ
 size n = 3 + 3 * n
 
 -- "Then for each thread: phase, busy, forbidden."
-abbrev pub phaseAt : ℕ → ℕ
-phaseAt i = 3 + 3 * i
+abbrev pub phase_at : ℕ → ℕ
+phase_at i = 3 + 3 * i
 
-abbrev pub busyAt : ℕ → ℕ
-busyAt i = 4 + 3 * i
+abbrev pub busy_at : ℕ → ℕ
+busy_at i = 4 + 3 * i
 
-abbrev pub forbiddenAt : ℕ → ℕ
-forbiddenAt i = 5 + 3 * i
+abbrev pub forbidden_at : ℕ → ℕ
+forbidden_at i = 5 + 3 * i
 
 -- "Byte 0 is N, byte 1 the mutex (0 or 1), byte 2 the target (a thread number, or 255 for none)."
 abbrev pub table_of : List ℕ → Table
@@ -92,33 +92,33 @@ table_of bytes =
       threads = get_or bytes 0 0;
       mutex = get_or bytes 1 0;
       target = get_or bytes 2 0;
-      phase = λ i. get_or bytes (phaseAt i) 0;
-      busy = λ i. get_or bytes (busyAt i) 0;
-      forbidden = λ i. get_or bytes (forbiddenAt i) 0;
+      phase = λ i. get_or bytes (phase_at i) 0;
+      busy = λ i. get_or bytes (busy_at i) 0;
+      forbidden = λ i. get_or bytes (forbidden_at i) 0;
     }
 
 -- refusal 1: "N is 0 or above 200, or the table isn't 3 + 3N bytes (an empty one included)."
 unfoldable pub sized : List ℕ → Bool
-sized bytes = countFits (get_or bytes 0 0) && eqb (length bytes) (size (get_or bytes 0 0))
+sized bytes = count_fits (get_or bytes 0 0) && eqb (length bytes) (size (get_or bytes 0 0))
 
-abbrev pub storedOne : List ℕ → Write → List ℕ
-storedOne bytes (mutex≔ v) = set bytes 1 v
-storedOne bytes (target≔ v) = set bytes 2 v
-storedOne bytes (phase≔ i v) = set bytes (phaseAt i) v
-storedOne bytes (busy≔ i v) = set bytes (busyAt i) v
-storedOne bytes (forbidden≔ i v) = set bytes (forbiddenAt i) v
+abbrev pub stored_one : List ℕ → Write → List ℕ
+stored_one bytes (mutex≔ v) = set bytes 1 v
+stored_one bytes (target≔ v) = set bytes 2 v
+stored_one bytes (phase≔ i v) = set bytes (phase_at i) v
+stored_one bytes (busy≔ i v) = set bytes (busy_at i) v
+stored_one bytes (forbidden≔ i v) = set bytes (forbidden_at i) v
 
 unfoldable pub stored : List ℕ → List Write → List ℕ
 stored bytes [] = bytes
-stored bytes (w ∷ ws) = stored (storedOne bytes w) ws
+stored bytes (w ∷ ws) = stored (stored_one bytes w) ws
 
-abbrev pub byteTable : Storage (List ℕ)
-byteTable = record { fits = sized; table = table_of; store = stored }
+abbrev pub byte_table : Storage (List ℕ)
+byte_table = record { fits = sized; table = table_of; store = stored }
 
 -- the bytes of a fresh table
 unfoldable pub fresh : ℕ → List ℕ
-fresh n = n ∷ 0 ∷ noTarget ∷ replicate (3 * n) 0
+fresh n = n ∷ 0 ∷ no_target ∷ replicate (3 * n) 0
 
 -- the fresh table's entry turns down by 1, 12
-abbrev pub freshEntry : ℕ → Delivery ℕ
-freshEntry n = counted (test 1 (countFits n) ∷ []) (fresh n)
+abbrev pub fresh_entry : ℕ → Delivery ℕ
+fresh_entry n = counted (test 1 (count_fits n) ∷ []) (fresh n)

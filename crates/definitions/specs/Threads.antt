@@ -13,9 +13,9 @@ some zero f = false
 some (suc n) f = some n f || f n
 
 -- of how many threads below n f holds
-unfoldable pub howMany : ℕ → (ℕ → Bool) → ℕ
-howMany zero f = 0
-howMany (suc n) f = howMany n f + cond (f n) 1 0
+unfoldable pub how_many : ℕ → (ℕ → Bool) → ℕ
+how_many zero f = 0
+how_many (suc n) f = how_many n f + cond (f n) 1 0
 
 -- the lowest thread below n of which f holds, and n where there is none
 unfoldable pub lowest : ℕ → (ℕ → Bool) → ℕ

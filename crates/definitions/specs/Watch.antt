@@ -3,9 +3,9 @@
 -- An event is judged by the plain lock's own tests (PlainLock), at the places that the record holds. A record's `places` are 200 bytes, as its type says.
 use Rattle.std.specs.Prelude.{ℕ, Bool, true, false, cond, not, ◌||◌, List, [], ◌∷◌, ◌++◌, leb, ltb, eqb, replicate}
 use Rattle.definitions.specs.Answers.{Reply, accepted, refused, number_of, Test, test, answered, leaves}
-use Rattle.definitions.specs.Bounds.{mostThreads}
-use Rattle.definitions.specs.PlainLock.{Pair, Places, placesIn, advanced, howManyAt, pairTests}
-use Rattle.definitions.specs.Table.{countFits}
+use Rattle.definitions.specs.Bounds.{most_threads}
+use Rattle.definitions.specs.PlainLock.{Pair, Places, places_in, advanced, how_many_at, pair_tests}
+use Rattle.definitions.specs.Table.{count_fits}
 use Rattle.definitions.specs.Threads.{every, list_of, among, all_of, implies}
 use Rattle.definitions.specs.declared.Inside.{Inside}
 use Rattle.definitions.specs.declared.Inside.TheVariants as inside
@@ -17,85 +17,85 @@ use Rattle.definitions.specs.declared.Watcher.{Watcher}
 
 -- "A watcher record holds N, each thread's place in its round (its last event's code, 0 before the first and after a 4 or 8), and how many are in shared and in exclusive.",
 -- "and entries from N upward must stay 0": the record of n threads at these places
-abbrev pub recordOf : ℕ → Places → Watcher
-recordOf n places =
+abbrev pub record_of : ℕ → Places → Watcher
+record_of n places =
     record {
       threads = n;
-      shared = howManyAt n places 2;
-      exclusive = howManyAt n places 6;
-      places = list_of mostThreads (λ t. cond (ltb t n) (places t) 0);
+      shared = how_many_at n places 2;
+      exclusive = how_many_at n places 6;
+      places = list_of most_threads (λ t. cond (ltb t n) (places t) 0);
     }
 
 -- "It starts with every place 0 and both totals 0"
 abbrev pub started : ℕ → Watcher
-started n = record { threads = n; shared = 0; exclusive = 0; places = replicate mostThreads 0 }
+started n = record { threads = n; shared = 0; exclusive = 0; places = replicate most_threads 0 }
 
 -- the places of a round: the events' codes but 4 and 8, which lead to 0
-abbrev pub roundPlaces : List ℕ
-roundPlaces = 0 ∷ 1 ∷ 2 ∷ 3 ∷ 5 ∷ 6 ∷ 7 ∷ []
+abbrev pub round_places : List ℕ
+round_places = 0 ∷ 1 ∷ 2 ∷ 3 ∷ 5 ∷ 6 ∷ 7 ∷ []
 
 -- "places that the plain lock never shows" are all but these: each in a round, one thread at most in exclusive, and then nobody in shared
-unfoldable pub placesFit : ℕ → Places → Bool
-placesFit n places =
+unfoldable pub places_fit : ℕ → Places → Bool
+places_fit n places =
     all_of
-    (every n (λ t. among (places t) roundPlaces)
-    ∷ leb (howManyAt n places 6) 1
-    ∷ (eqb (howManyAt n places 6) 0 || eqb (howManyAt n places 2) 0)
+    (every n (λ t. among (places t) round_places)
+    ∷ leb (how_many_at n places 6) 1
+    ∷ (eqb (how_many_at n places 6) 0 || eqb (how_many_at n places 2) 0)
     ∷ [])
 
 -- "A record with a false total, an entry from N upward that isn't 0, or places that the plain lock never shows" isn't consistent
 unfoldable pub consistent : Watcher → Bool
 consistent w =
     all_of
-    (eqb w.shared (howManyAt w.threads (placesIn w.places) 2)
-    ∷ eqb w.exclusive (howManyAt w.threads (placesIn w.places) 6)
-    ∷ every mostThreads (λ t. implies (leb w.threads t) (eqb (placesIn w.places t) 0))
-    ∷ placesFit w.threads (placesIn w.places)
+    (eqb w.shared (how_many_at w.threads (places_in w.places) 2)
+    ∷ eqb w.exclusive (how_many_at w.threads (places_in w.places) 6)
+    ∷ every most_threads (λ t. implies (leb w.threads t) (eqb (places_in w.places t) 0))
+    ∷ places_fit w.threads (places_in w.places)
     ∷ [])
 
 -- ---- the entries
 
 -- the reply that each answer to the start or to an event stands for; a watcher's refusal has place 0
-abbrev pub watchedReply : Watched → Reply (Unit {0})
-watchedReply watched.Good = accepted tt
-watchedReply (watched.Refused r) = refused (number_of r) 0
+abbrev pub watched_reply : Watched → Reply (Unit {0})
+watched_reply watched.Good = accepted tt
+watched_reply (watched.Refused r) = refused (number_of r) 0
 
 -- and each answer to the question: yes or no
-abbrev pub insideReply : Inside → Reply Bool
-insideReply inside.Somebody = accepted true
-insideReply inside.Nobody = accepted false
-insideReply (inside.Refused r) = refused (number_of r) 0
+abbrev pub inside_reply : Inside → Reply Bool
+inside_reply inside.Somebody = accepted true
+inside_reply inside.Nobody = accepted false
+inside_reply (inside.Refused r) = refused (number_of r) 0
 
 -- the start: 1 for a bad N, and then the record stays
-unfoldable pub startReply : ℕ → Reply (Unit {0})
-startReply n = answered (test 1 (countFits n) ∷ []) tt
+unfoldable pub start_reply : ℕ → Reply (Unit {0})
+start_reply n = answered (test 1 (count_fits n) ∷ []) tt
 
-unfoldable pub startRecord : ℕ → Watcher → Watcher
-startRecord n w = leaves (startReply n) (started n) w
+unfoldable pub start_record : ℕ → Watcher → Watcher
+start_record n w = leaves (start_reply n) (started n) w
 
 -- "13, the watcher record is inconsistent, tested after 1 and before 9"
-abbrev pub recordTests : Watcher → List Test
-recordTests w = test 1 (countFits w.threads) ∷ test 13 (consistent w) ∷ []
+abbrev pub record_tests : Watcher → List Test
+record_tests w = test 1 (count_fits w.threads) ∷ test 13 (consistent w) ∷ []
 
 -- one event: "a bad event gets 9, 10 or 11 with place 0"
-unfoldable pub eventReply : Watcher → Pair → Reply (Unit {0})
-eventReply w x = answered (recordTests w ++ pairTests w.threads (placesIn w.places) 0 x) tt
+unfoldable pub event_reply : Watcher → Pair → Reply (Unit {0})
+event_reply w x = answered (record_tests w ++ pair_tests w.threads (places_in w.places) 0 x) tt
 
 -- "A bad event leaves the record as found"; another one leaves that of the places after it
-unfoldable pub eventRecord : Watcher → Pair → Watcher
-eventRecord w x = leaves (eventReply w x) (recordOf w.threads (advanced (placesIn w.places) x)) w
+unfoldable pub event_record : Watcher → Pair → Watcher
+event_record w x = leaves (event_reply w x) (record_of w.threads (advanced (places_in w.places) x)) w
 
 -- "'Is anybody inside?' is yes exactly when a total isn't 0"
-unfoldable pub questionReply : Watcher → Reply Bool
-questionReply w = answered (recordTests w) (not (eqb w.shared 0) || not (eqb w.exclusive 0))
+unfoldable pub question_reply : Watcher → Reply Bool
+question_reply w = answered (record_tests w) (not (eqb w.shared 0) || not (eqb w.exclusive 0))
 
 -- ---- a watch
 
 -- "It .. is updated there, event by event": what a watcher answers to a list of events, and the record that they leave
-unfoldable pub watchReplies : Watcher → List Pair → List (Reply (Unit {0}))
-watchReplies w [] = []
-watchReplies w (x ∷ xs) = eventReply w x ∷ watchReplies (eventRecord w x) xs
+unfoldable pub watch_replies : Watcher → List Pair → List (Reply (Unit {0}))
+watch_replies w [] = []
+watch_replies w (x ∷ xs) = event_reply w x ∷ watch_replies (event_record w x) xs
 
-unfoldable pub watchRecord : Watcher → List Pair → Watcher
-watchRecord w [] = w
-watchRecord w (x ∷ xs) = watchRecord (eventRecord w x) xs
+unfoldable pub watch_record : Watcher → List Pair → Watcher
+watch_record w [] = w
+watch_record w (x ∷ xs) = watch_record (event_record w x) xs

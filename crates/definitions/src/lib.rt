@@ -2,7 +2,7 @@
 // of an enum means in the paper's numbers stands in specs/Answers.antt; the rest of specs/ holds the definitions that every
 // promise of the part cites. "02 §1" is paragraph 1 of the paper of change requests.
 ghost use Rattle.std.specs.Prelude.{◌≡◌};
-ghost use Rattle.definitions.specs.Answers.{eventOf};
+ghost use Rattle.definitions.specs.Answers.{event_of};
 
 // "N threads, 1 to 200"
 pub const MOST_THREADS: u8 = 200;
@@ -108,7 +108,7 @@ impl Event {
     pub const LAST: u8 = 8;
 
     pub fn from_code(code: u8) -> MaybeEvent
-        ensures { result ≡ eventOf code }
+        ensures { result ≡ event_of code }
     {
         match code {
             Event::FIRST => MaybeEvent::Known(Event::EnterSharedCall),

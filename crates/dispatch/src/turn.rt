@@ -1,6 +1,6 @@
 // One turn of the dispatcher.
 ghost use Rattle.std.specs.Prelude.{◌≡◌};
-ghost use Rattle.dispatch.specs.Turned.{TurnTable, Turned, TurnTaken, eventIn};
+ghost use Rattle.dispatch.specs.Turned.{TurnTable, Turned, TurnTaken, event_in};
 
 use choice::{Choice, choose};
 use definitions::{Dispatched, MoveEvent, Outcome, Request};
@@ -15,7 +15,7 @@ struct Turn {
 
 // What is seen of a move.
 fn event_of(outcome: Outcome) -> MoveEvent
-    ensures { result ≡ eventIn outcome }
+    ensures { result ≡ event_in outcome }
 {
     match outcome {
         Outcome::Shown(event) => MoveEvent::Shown(event),

@@ -1,10 +1,10 @@
 -- What this crate has on the page of promises (specs/HostAndTurns), each line by citing its theorem.
 use Rattle.dispatched_orders.specs.HostAndTurns.{HostAndTurns}
-use Rattle.dispatched_orders.proofs.StepsSafe.{as-requests, steps-safe}
+use Rattle.dispatched_orders.proofs.StepsSafe.{as_requests, steps_safe}
 
-pub host-and-turns : HostAndTurns
-host-and-turns =
+pub host_and_turns : HostAndTurns
+host_and_turns =
     record {
-      as-requests = as-requests;
-      steps-safe = steps-safe;
+      as_requests = as_requests;
+      steps_safe = steps_safe;
     }

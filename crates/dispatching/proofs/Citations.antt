@@ -1,21 +1,21 @@
 -- What this crate has on the page of promises (specs/TurnsAndWaiting), each line by citing its theorem.
 use Rattle.dispatching.specs.TurnsAndWaiting.{TurnsAndWaiting}
-use Rattle.dispatching.proofs.TurnIsMove.{turn_by, mover-names, turn-is-move}
-use Rattle.dispatching.proofs.WaitingExactly.{waiting-any, refused-any, waiting-exactly, waiting_stays, refused-so}
-use Rattle.dispatching.proofs.WaitingMeans.{waiting-means, waiting-holder, waiting-host}
+use Rattle.dispatching.proofs.TurnIsMove.{turn_by, mover_names, turn_is_move}
+use Rattle.dispatching.proofs.WaitingExactly.{waiting-any, refused-any, waiting_exactly, waiting_stays, refused_so}
+use Rattle.dispatching.proofs.WaitingMeans.{waiting_means, waiting-holder, waiting_host}
 
-pub turns-and-waiting : TurnsAndWaiting
-turns-and-waiting =
+pub turns_and_waiting : TurnsAndWaiting
+turns_and_waiting =
     record {
-      turn-is-move = turn-is-move;
+      turn_is_move = turn_is_move;
       turn_by = turn_by;
-      mover-names = mover-names;
-      waiting-exactly = waiting-exactly;
+      mover_names = mover_names;
+      waiting_exactly = waiting_exactly;
       waiting_stays = waiting_stays;
-      turn-refused = refused-so;
+      turn-refused = refused_so;
       waiting-any = waiting-any;
       refused-any = refused-any;
-      waiting-means = waiting-means;
+      waiting_means = waiting_means;
       waiting-holder = waiting-holder;
-      waiting-host = waiting-host;
+      waiting_host = waiting_host;
     }

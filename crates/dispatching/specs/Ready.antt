@@ -1,6 +1,6 @@
 -- Whether a thread of a sound table has a move of the dispatcher's, and which, from its phase, the mutex and the busy of the table's target. TurnKinds shows that these are the definitions' own.
 use Rattle.std.specs.Prelude.{ℕ, Bool, cond, not, ◌&&◌, ◌||◌, eqb}
-use Rattle.definitions.specs.Codes.{go, setMove, clearMove}
+use Rattle.definitions.specs.Codes.{go, set_move, clear_move}
 use Rattle.definitions.specs.Table.{Table}
 use Rattle.definitions.specs.Threads.{implies}
 
@@ -9,12 +9,12 @@ abbrev pub hosts : ℕ → Bool
 hosts phase = eqb phase 0 || (eqb phase 4 || (eqb phase 6 || eqb phase 14))
 
 -- in the others a thread is ready, but that in 9 the mutex must be free, and in 11 the target not busy
-unfoldable pub readyBy : ℕ → ℕ → ℕ → Bool
-readyBy mutex busy phase = not (hosts phase) && (implies (eqb phase 9) (eqb mutex 0) && implies (eqb phase 11) (eqb busy 0))
+unfoldable pub ready_by : ℕ → ℕ → ℕ → Bool
+ready_by mutex busy phase = not (hosts phase) && (implies (eqb phase 9) (eqb mutex 0) && implies (eqb phase 11) (eqb busy 0))
 
 abbrev pub ready : Table → ℕ → Bool
-ready s i = readyBy s.mutex (s.busy s.target) (s.phase i)
+ready s i = ready_by s.mutex (s.busy s.target) (s.phase i)
 
 -- the move is set in 10, clear in 15, and else go
-unfoldable pub moveBy : ℕ → ℕ
-moveBy phase = cond (eqb phase 10) setMove (cond (eqb phase 15) clearMove go)
+unfoldable pub move_by : ℕ → ℕ
+move_by phase = cond (eqb phase 10) set_move (cond (eqb phase 15) clear_move go)

@@ -1,8 +1,8 @@
 // How a run ended, and the last line of its output: how long it is, and the same put into an output.
 ghost use Rattle.std.specs.Prelude.{◌≡◌, length};
-ghost use Rattle.definitions.specs.Run.{stepsLine, refusedLine};
+ghost use Rattle.definitions.specs.Run.{steps_line, refused_line};
 ghost use Rattle.basics.specs.Outputs.{RoomAt, PutAt};
-ghost use Rattle.endings.specs.LastLine.{endingLine};
+ghost use Rattle.endings.specs.LastLine.{ending_line};
 
 use codes::number_of;
 use decimals::{decimal_length, put_decimal};
@@ -24,7 +24,7 @@ const AROUND_REFUSED: usize = 12;
 
 // The length of the last line.
 pub fn ending_length(ending: Ending) -> usize
-    ensures { result ≡ length (endingLine ending) }
+    ensures { result ≡ length (ending_line ending) }
 {
     match ending {
         Ending::Steps(steps) => {
@@ -42,8 +42,8 @@ pub fn ending_length(ending: Ending) -> usize
 
 // `(steps K)`
 fn put_steps(out: &mut [u8], at: usize, steps: usize) -> usize
-    requires { RoomAt out.old at (stepsLine steps) }
-    ensures { PutAt out.old at (stepsLine steps) out.new result }
+    requires { RoomAt out.old at (steps_line steps) }
+    ensures { PutAt out.old at (steps_line steps) out.new result }
 {
     let a = put_text(out, at, b"(steps ");
     let b = put_decimal(out, a, steps);
@@ -52,8 +52,8 @@ fn put_steps(out: &mut [u8], at: usize, steps: usize) -> usize
 
 // `(refused R L)`
 fn put_refused(out: &mut [u8], at: usize, number: usize, line: usize) -> usize
-    requires { RoomAt out.old at (refusedLine number line) }
-    ensures { PutAt out.old at (refusedLine number line) out.new result }
+    requires { RoomAt out.old at (refused_line number line) }
+    ensures { PutAt out.old at (refused_line number line) out.new result }
 {
     let a = put_text(out, at, b"(refused ");
     let b = put_decimal(out, a, number);
@@ -64,8 +64,8 @@ fn put_refused(out: &mut [u8], at: usize, number: usize, line: usize) -> usize
 
 // The last line: `(steps K)`, or `(refused R L)`.
 pub fn put_ending(out: &mut [u8], at: usize, ending: Ending) -> usize
-    requires { RoomAt out.old at (endingLine ending) }
-    ensures { PutAt out.old at (endingLine ending) out.new result }
+    requires { RoomAt out.old at (ending_line ending) }
+    ensures { PutAt out.old at (ending_line ending) out.new result }
 {
     match ending {
         Ending::Steps(steps) => put_steps(out, at, steps),

@@ -1,9 +1,9 @@
 // The lines of a run's events, from the history that it showed: byte pairs, thread then event. They are measured before they are put.
 ghost use Rattle.std.specs.Prelude.{◌≤◌, ◌≡◌, length};
 ghost use Rattle.definitions.specs.Answers.{shown};
-ghost use Rattle.definitions.specs.Bounds.{enoughOutput};
-ghost use Rattle.definitions.specs.PlainLock.{pairsOf};
-ghost use Rattle.definitions.specs.Run.{eventLine, eventLines};
+ghost use Rattle.definitions.specs.Bounds.{enough_output};
+ghost use Rattle.definitions.specs.PlainLock.{pairs_of};
+ghost use Rattle.definitions.specs.Run.{event_line, event_lines};
 ghost use Rattle.basics.specs.Outputs.{RoomAt, PutAt};
 
 use decimals::{decimal_length, put_decimal};
@@ -15,7 +15,7 @@ const AROUND_EVENT: usize = 12;
 
 // The length of an event's line.
 fn event_length(thread: u8, code: u8) -> usize
-    ensures { result ≡ length (eventLine thread (shown code)) }
+    ensures { result ≡ length (event_line thread (shown code)) }
 {
     let number = decimal_length(thread as usize);
     let name = name_length(code);
@@ -24,8 +24,8 @@ fn event_length(thread: u8, code: u8) -> usize
 
 // The length of the lines of a history.
 pub fn events_length(history: &[u8]) -> usize
-    requires { length (eventLines (pairsOf history.now)) ≤ enoughOutput }
-    ensures { result ≡ length (eventLines (pairsOf history.now)) }
+    requires { length (event_lines (pairs_of history.now)) ≤ enough_output }
+    ensures { result ≡ length (event_lines (pairs_of history.now)) }
 {
     let events = history.len() / 2;
     let mut total: usize = 0;
@@ -42,8 +42,8 @@ pub fn events_length(history: &[u8]) -> usize
 
 // `(event T (name))`
 fn put_event(out: &mut [u8], at: usize, thread: u8, code: u8) -> usize
-    requires { RoomAt out.old at (eventLine thread (shown code)) }
-    ensures { PutAt out.old at (eventLine thread (shown code)) out.new result }
+    requires { RoomAt out.old at (event_line thread (shown code)) }
+    ensures { PutAt out.old at (event_line thread (shown code)) out.new result }
 {
     let a = put_text(out, at, b"(event ");
     let b = put_decimal(out, a, thread as usize);
@@ -54,8 +54,8 @@ fn put_event(out: &mut [u8], at: usize, thread: u8, code: u8) -> usize
 
 // The lines of a history, from the front.
 pub fn put_events(out: &mut [u8], history: &[u8]) -> usize
-    requires { RoomAt out.old 0 (eventLines (pairsOf history.now)) }
-    ensures { PutAt out.old 0 (eventLines (pairsOf history.now)) out.new result }
+    requires { RoomAt out.old 0 (event_lines (pairs_of history.now)) }
+    ensures { PutAt out.old 0 (event_lines (pairs_of history.now)) out.new result }
 {
     let pairs = history.len() / 2;
     let mut at: usize = 0;

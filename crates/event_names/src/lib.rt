@@ -1,6 +1,6 @@
 // The names of the events by their codes: how long they are, and the same put into an output.
 ghost use Rattle.std.specs.Prelude.{◌≡◌, length};
-ghost use Rattle.definitions.specs.Run.{eventName};
+ghost use Rattle.definitions.specs.Run.{event_name};
 ghost use Rattle.basics.specs.Outputs.{RoomAt, PutAt};
 
 use definitions::Event;
@@ -11,7 +11,7 @@ const NAME_LENGTHS: [u8; Event::LAST as usize + 1] = [0, 17, 19, 17, 19, 20, 22,
 
 // The length of an event's name, by the event's code.
 pub fn name_length(code: u8) -> u8
-    ensures { result ≡ length (eventName code) }
+    ensures { result ≡ length (event_name code) }
 {
     if Event::LAST < code {
         return 0;
@@ -21,8 +21,8 @@ pub fn name_length(code: u8) -> u8
 
 // The event's name, by its code.
 pub fn put_name(out: &mut [u8], at: usize, code: u8) -> usize
-    requires { RoomAt out.old at (eventName code) }
-    ensures { PutAt out.old at (eventName code) out.new result }
+    requires { RoomAt out.old at (event_name code) }
+    ensures { PutAt out.old at (event_name code) out.new result }
 {
     match code {
         1 => put_text(out, at, b"enter shared call"),

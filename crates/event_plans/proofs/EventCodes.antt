@@ -7,15 +7,15 @@ use mathlib.Core.Logic.{◌⊎◌, inl, inr, ⊎_elim}
 use mathlib.Core.Path.{◌≡◌, sym, subst}
 use lib.Dec.{T, leb, eqb, leb→le, le→leb, eqb→eq}
 use lib.ListN.{get_or-eq_default}
-use Rattle.definitions.specs.Answers.{code_of, events, eventOf}
+use Rattle.definitions.specs.Answers.{code_of, events, event_of}
 use Rattle.definitions.specs.Plan.{plan_of}
 use Rattle.definitions.specs.Threads.{every, between}
 use Rattle.definitions.specs.declared.Event.{Event}
 use Rattle.definitions.specs.declared.MaybeEvent.{MaybeEvent}
 use Rattle.definitions.specs.declared.MaybeEvent.TheVariants.{Known, Unknown}
-use Rattle.basics.proofs.Quantifiers.{every-at}
-use Rattle.basics.proofs.Tests.{and_r, and_i, no_both, not-i, below?}
-use Rattle.theory.proofs.PlanLengths.{plan-past}
+use Rattle.basics.proofs.Quantifiers.{every_at}
+use Rattle.basics.proofs.Tests.{and_r, and_i, no_both, not_i, below?}
+use Rattle.theory.proofs.PlanLengths.{plan_past}
 
 -- ---- the event of a code
 
@@ -24,30 +24,30 @@ agrees : MaybeEvent → ℕ → Bool
 agrees (Known e) code = eqb (code_of e) code
 agrees Unknown code = not (between 1 8 code)
 
-none-past : (code : ℕ) → 9 ≤ code → eventOf code ≡ Unknown
-unfolding eventOf events
-none-past code l = get_or-eq_default events Unknown l
+none_past : (code : ℕ) → 9 ≤ code → event_of code ≡ Unknown
+unfolding event_of events
+none_past code l = get_or-eq_default events Unknown l
 
 -- by a test of the codes up to 8
-agrees-all : (code : ℕ) → T (agrees (eventOf code) code)
-unfolding eventOf events every agrees
-agrees-all code = ⊎_elim (λ l. every-at (λ k. agrees (eventOf k) k) 9 tt code l) past (below? 9 code)
+agrees_all : (code : ℕ) → T (agrees (event_of code) code)
+unfolding event_of events every agrees
+agrees_all code = ⊎_elim (λ l. every_at (λ k. agrees (event_of k) k) 9 tt code l) past (below? 9 code)
   where
-    past : 9 ≤ code → T (agrees (eventOf code) code)
+    past : 9 ≤ code → T (agrees (event_of code) code)
     past l =
-        subst (λ (found : MaybeEvent). T (agrees found code)) (sym (none-past code l))
-        (not-i (between 1 8 code) (λ t. let m = leb→le code 8 (and_r (leb 1 code) (leb code 8) t) in omega arith))
+        subst (λ (found : MaybeEvent). T (agrees found code)) (sym (none_past code l))
+        (not_i (between 1 8 code) (λ t. let m = leb→le code 8 (and_r (leb 1 code) (leb code 8) t) in omega arith))
 
-pub known-code : (code : ℕ) (e : Event) → Known e ≡ eventOf code → code_of e ≡ code
+pub known-code : (code : ℕ) (e : Event) → Known e ≡ event_of code → code_of e ≡ code
 unfolding agrees
-known-code code e q = eqb→eq (code_of e) code (subst (λ (found : MaybeEvent). T (agrees found code)) (sym q) (agrees-all code))
+known-code code e q = eqb→eq (code_of e) code (subst (λ (found : MaybeEvent). T (agrees found code)) (sym q) (agrees_all code))
 
-unknown-code : (code : ℕ) → Unknown ≡ eventOf code → (code ≡ 0) ⊎ (9 ≤ code)
+unknown_code : (code : ℕ) → Unknown ≡ event_of code → (code ≡ 0) ⊎ (9 ≤ code)
 unfolding agrees
-unknown-code code q = ⊎_elim (λ l. inl (zero l)) inr (below? 9 code)
+unknown_code code q = ⊎_elim (λ l. inl (zero l)) inr (below? 9 code)
   where
     outside : T (not (between 1 8 code))
-    outside = subst (λ (found : MaybeEvent). T (agrees found code)) (sym q) (agrees-all code)
+    outside = subst (λ (found : MaybeEvent). T (agrees found code)) (sym q) (agrees_all code)
 
     inside : 1 ≤ code → code < 9 → T (between 1 8 code)
     inside m l = and_i (leb 1 code) (leb code 8) (le→leb 1 code m) (le→leb code 8 (omega arith))
@@ -57,5 +57,5 @@ unknown-code code q = ⊎_elim (λ l. inl (zero l)) inr (below? 9 code)
 
 -- ---- no event, no plan
 
-pub no-plan : (n thread code : ℕ) → Unknown ≡ eventOf code → plan_of n (record { thread = thread; event = code }) ≡ []
-no-plan n thread code q = plan-past n thread code (unknown-code code q)
+pub no_plan : (n thread code : ℕ) → Unknown ≡ event_of code → plan_of n (record { thread = thread; event = code }) ≡ []
+no_plan n thread code q = plan_past n thread code (unknown_code code q)

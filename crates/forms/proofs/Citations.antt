@@ -2,12 +2,12 @@
 use Rattle.forms.specs.ReadAsSpelled.{ReadAsSpelled}
 use Rattle.forms.proofs.Spelling as spelled
 
-pub read-as-spelled : ReadAsSpelled
-read-as-spelled =
+pub read_as_spelled : ReadAsSpelled
+read_as_spelled =
     record {
       threads-read = spelled.threads-read;
       request-read = spelled.request-read;
       note-read = spelled.note-read;
-      spelled-once = spelled.spelled-once;
+      spelled_once = spelled.spelled_once;
       read-spelled = spelled.read-spelled;
     }

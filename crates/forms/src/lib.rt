@@ -1,8 +1,8 @@
 // The reader of a script's forms: one line, handed over alone and without its line feed.
 ghost use Rattle.std.specs.Prelude.{◌≡◌};
-ghost use Rattle.definitions.specs.Forms.{noteForm, threadsForm, moveForm, form_of};
-ghost use Rattle.definitions.specs.Texts.{numberRead};
-ghost use Rattle.act_forms.specs.Readings.{formFor};
+ghost use Rattle.definitions.specs.Forms.{note_form, threads_form, move_form, form_of};
+ghost use Rattle.definitions.specs.Texts.{number_read};
+ghost use Rattle.act_forms.specs.Readings.{form_for};
 
 use act_forms::{Form, read_act};
 use notes::ends_note;
@@ -10,7 +10,7 @@ use words::{MaybeNumber, read_closed, read_number, starts_with};
 
 // What follows `(threads `: `N)`.
 fn read_threads(part: &[u8]) -> Form
-    ensures { formFor result ≡ threadsForm (numberRead part.now) }
+    ensures { form_for result ≡ threads_form (number_read part.now) }
 {
     let number = read_closed(part, b")");
     match number {
@@ -21,7 +21,7 @@ fn read_threads(part: &[u8]) -> Form
 
 // What follows a line's first bracket, where it is no threads line and no note: `T`, then the act.
 fn read_request(part: &[u8]) -> Form
-    ensures { formFor result ≡ moveForm (numberRead part.now) }
+    ensures { form_for result ≡ move_form (number_read part.now) }
 {
     let number = read_number(part);
     match number {
@@ -32,7 +32,7 @@ fn read_request(part: &[u8]) -> Form
 
 // What follows `(note `.
 fn read_note(part: &[u8]) -> Form
-    ensures { formFor result ≡ noteForm part.now }
+    ensures { form_for result ≡ note_form part.now }
 {
     if ends_note(part) {
         Form::Note
@@ -43,7 +43,7 @@ fn read_note(part: &[u8]) -> Form
 
 // The form of a line. proofs/Spelling.antt shows that this is the inverse of the spelling of forms.
 pub fn read_form(line: &[u8]) -> Form
-    ensures { formFor result ≡ form_of line.now }
+    ensures { form_for result ≡ form_of line.now }
 {
     if starts_with(line, b"(threads ") {
         return read_threads(&line[9..]);

@@ -1,8 +1,8 @@
 // Where the bytes of a table stand, and the byte table as a storage: its head and its tasks, read and written by value. What
 // decides works on these, and knows of no bytes.
 ghost use Rattle.std.specs.Prelude.{◌<◌, ◌^◌, ◌≡◌};
-ghost use Rattle.definitions.specs.Table.{size, phaseAt, busyAt, forbiddenAt, table_of, byteTable};
-ghost use Rattle.theory.specs.Tables.{Sized, head_of, task_of, putHead, putTask};
+ghost use Rattle.definitions.specs.Table.{size, phase_at, busy_at, forbidden_at, table_of, byte_table};
+ghost use Rattle.theory.specs.Tables.{Sized, head_of, task_of, put_head, put_task};
 
 use definitions::{Head, MOST_THREADS, Task};
 
@@ -16,21 +16,21 @@ pub const TARGET_AT: usize = 2;
 // "Then for each thread: phase, busy, forbidden."
 pub fn phase_at(thread: usize) -> usize
     requires { thread < 2 ^ 16 }
-    ensures { result ≡ phaseAt thread }
+    ensures { result ≡ phase_at thread }
 {
     3 + 3 * thread
 }
 
 pub fn busy_at(thread: usize) -> usize
     requires { thread < 2 ^ 16 }
-    ensures { result ≡ busyAt thread }
+    ensures { result ≡ busy_at thread }
 {
     4 + 3 * thread
 }
 
 pub fn forbidden_at(thread: usize) -> usize
     requires { thread < 2 ^ 16 }
-    ensures { result ≡ forbiddenAt thread }
+    ensures { result ≡ forbidden_at thread }
 {
     5 + 3 * thread
 }
@@ -77,7 +77,7 @@ pub fn read_task(table: &[u8], thread: usize) -> Task
 // N stays.
 pub fn write_head(table: &mut [u8], head: Head)
     requires { Sized table.old }
-    ensures { table.new ≡ putHead byteTable table.old head }
+    ensures { table.new ≡ put_head byte_table table.old head }
 {
     table[MUTEX_AT] = head.mutex;
     table[TARGET_AT] = head.target;
@@ -85,7 +85,7 @@ pub fn write_head(table: &mut [u8], head: Head)
 
 pub fn write_task(table: &mut [u8], thread: usize, task: Task)
     requires { Sized table.old × (thread < (table_of table.old).threads) }
-    ensures { table.new ≡ putTask byteTable table.old thread task }
+    ensures { table.new ≡ put_task byte_table table.old thread task }
 {
     table[phase_at(thread)] = task.phase;
     table[busy_at(thread)] = task.busy;

@@ -1,11 +1,11 @@
 // The least history of a length that keeps some pairs: each pair is the least that fits from its floor on.
 ghost use Rattle.std.specs.Prelude.{[], ◌∷◌, ◌≡◌, get_or};
 ghost use Rattle.definitions.specs.Answers.{filled};
-ghost use Rattle.definitions.specs.PlainLock.{pair_of, historyBytes};
+ghost use Rattle.definitions.specs.PlainLock.{pair_of, history_bytes};
 ghost use Rattle.basics.specs.Outputs.{RoomAt, PutAt};
-ghost use Rattle.plain_lock.specs.Permitted.{noPair};
-ghost use Rattle.least_histories.specs.Floors.{floorsOf, Ready};
-ghost use Rattle.succession.specs.Successor.{leastList};
+ghost use Rattle.plain_lock.specs.Permitted.{no_pair};
+ghost use Rattle.least_histories.specs.Floors.{floors_of, Ready};
+ghost use Rattle.succession.specs.Successor.{least_list};
 
 use least_pairs::least_pair;
 
@@ -18,7 +18,7 @@ struct Floor {
 
 // Of pairs that are kept: each of them but the last, the last one with its event raised, and none behind them.
 fn floor_of(kept: &[u8], k: usize) -> Floor
-    ensures { pair_of result.thread result.event ≡ get_or (floorsOf kept.now) k noPair }
+    ensures { pair_of result.thread result.event ≡ get_or (floors_of kept.now) k no_pair }
 {
     let pairs = kept.len() / 2;
     if pairs <= k {
@@ -37,8 +37,8 @@ fn floor_of(kept: &[u8], k: usize) -> Floor
 
 // One pair, put at an index; answers the index behind it.
 fn put_pair(out: &mut [u8], at: usize, thread: u8, event: u8) -> usize
-    requires { RoomAt out.old at (historyBytes (pair_of thread event ∷ [])) }
-    ensures { PutAt out.old at (historyBytes (pair_of thread event ∷ [])) out.new result }
+    requires { RoomAt out.old at (history_bytes (pair_of thread event ∷ [])) }
+    ensures { PutAt out.old at (history_bytes (pair_of thread event ∷ [])) out.new result }
 {
     out[at] = thread;
     out[at + 1] = event;
@@ -48,7 +48,7 @@ fn put_pair(out: &mut [u8], at: usize, thread: u8, event: u8) -> usize
 // So many events, each the least pair that fits from its floor on.
 pub fn write_least(out: &mut [u8], threads: u16, kept: &[u8], events: usize)
     requires { Ready threads kept.now events out.old }
-    ensures { out.new ≡ filled out.old (historyBytes (leastList threads (floorsOf kept.now) events)) }
+    ensures { out.new ≡ filled out.old (history_bytes (least_list threads (floors_of kept.now) events)) }
 {
     let mut places = [0u8; 256];
     let mut inside: u32 = 0;

@@ -1,9 +1,9 @@
 // The least pair that the plain lock permits at some places, in the order of its bytes: `least_pair` goes through the threads,
 // and `plain_lock::judge` decides on the two events that a place can have next.
 ghost use Rattle.std.specs.Prelude.{◌≡◌};
-ghost use Rattle.definitions.specs.PlainLock.{pair_of, placesIn};
+ghost use Rattle.definitions.specs.PlainLock.{pair_of, places_in};
 ghost use Rattle.plain_lock.specs.Counts.{Counted};
-ghost use Rattle.least_pairs.specs.Search.{nothing, tried, leastEvent, Kept, Finds};
+ghost use Rattle.least_pairs.specs.Search.{nothing, tried, least_event, Kept, Finds};
 
 use plain_lock::{Standing, Verdict, judge};
 
@@ -51,7 +51,7 @@ fn try_event(threads: u16, thread: u8, event: u16, from: u16, before: Standing) 
 // exclusive call.
 fn least_event(threads: u16, thread: u8, from: u16, before: Standing) -> Fitting
     requires { Counted threads thread before }
-    ensures { result ≡ leastEvent threads thread from before }
+    ensures { result ≡ least_event threads thread from before }
 {
     let behind = before.place as u16 + 1;
     let next = try_event(threads, thread, behind, from, before);
@@ -64,7 +64,7 @@ fn least_event(threads: u16, thread: u8, from: u16, before: Standing) -> Fitting
 // The least pair that fits, from a pair on: its own thread's events from its event on, and all events of the threads behind it.
 pub fn least_pair(threads: u16, places: &[u8], inside: u32, thread: u8, event: u16) -> Fitting
     requires { Kept threads places.now inside }
-    ensures { Finds threads (placesIn places.now) (pair_of thread event) result }
+    ensures { Finds threads (places_in places.now) (pair_of thread event) result }
 {
     let mut from = event;
     let mut t = thread as u16;

@@ -46,20 +46,20 @@ module _ {M : Type 1} {𝓤 : Ura M} (𝓛 : Logic 𝓤) (n : ℕ) (q : Share) (
 module _ {M : Type 1} {𝓤 : Ura M} {𝓛 : Logic 𝓤} {K : Type 0} {Γ : List (Item 𝓤)} {G : Goal 𝓤 𝓛.H} where
   open 𝓛 use {H}
 
-  pub entries-out : K → {i : Item 𝓤} (n : ℕ) (q : Share) (ys : List ℕ) (b o : ℕ) (back : Val → Item 𝓤) → Part K 𝓛 i q (bytes n) b o (listed ys) back → AreBytes n ys
+  pub entries_out : K → {i : Item 𝓤} (n : ℕ) (q : Share) (ys : List ℕ) (b o : ℕ) (back : Val → Item 𝓤) → Part K 𝓛 i q (bytes n) b o (listed ys) back → AreBytes n ys
       → Step K 𝓛 (‵ (row u8 q ys b o) ∷ raw (Back 𝓛 n q b o back) ∷ Γ) G (i ∷ Γ) G
   unfolding part_of Back
-  entries-out t n q ys b o back p is = step (λ s.
+  entries_out t n q ys b o back p is = step (λ s.
       use1 𝓛 (‵ (fat q (bytes n) b o (listed ys)) ⊛ raw (Back 𝓛 n q b o back)) p.out $ split t $
       owned t (Array u8 n) (Is (Array u8 n)) (Array-Makes 𝓛 u8 (uint_Makes 𝓛 w8) n) ys (listed ys ∷ []) is $ move t (1 ∷ 0 ∷ []) $
       -- [the array's cell; what it owns; the way back]
       fjoin t $ fpack t (List Val) (λ us. fsep (cell_at q (bytes n ∷ []) us b o) ((Array u8 n).own_val ys us)) (listed ys ∷ []) $
       use1 𝓛 (‵ ((arr_parts (shares u8) n).part q ys b o)) (Array-apart 𝓛 u8 q tt n ys b o) $ fsplit t $ drop t $ s)
 
-  pub entries-in : K → (n : ℕ) (q : Share) (zs : List ℕ) (b o : ℕ) (back : Val → Item 𝓤) → length zs ≡ n → (AreBytes n zs → Seq K 𝓛 (back (listed zs) ∷ Γ) G)
+  pub entries_in : K → (n : ℕ) (q : Share) (zs : List ℕ) (b o : ℕ) (back : Val → Item 𝓤) → length zs ≡ n → (AreBytes n zs → Seq K 𝓛 (back (listed zs) ∷ Γ) G)
       → Seq K 𝓛 (‵ (row u8 q zs b o) ∷ raw (Back 𝓛 n q b o back) ∷ Γ) G
   unfolding part_of Back
-  entries-in t n q zs b o back long k =
+  entries_in t n q zs b o back long k =
       feq_i t ℕ (length zs) n long $ fjoin t $ use1 𝓛 (‵ (part_at (Array u8 n) q zs b o)) (Array-whole 𝓛 u8 q n zs b o) $ fpick t (λ us. fsplit t $ move t (1 ∷ []) $
       facts t (Array u8 n) (Is (Array u8 n)) (shows 𝓛 (Array u8 n)) zs us (λ p.
       -- [the array's cell; the way back]

@@ -29,8 +29,8 @@ use denote.Steps.{facts, owned, heard}
 module _ {M : Type 1} {𝓤 : Ura M} {𝓛 : Logic 𝓤} {K : Type 0} {Γ : List (Item 𝓤)} {G : Goal 𝓤 𝓛.H} where
   open 𝓛 use {H}
 
-  pub uint-owned : K → (w : Width) (n : ℕ) → n < 2 ^ bits w → Step K 𝓛 (‵ ((UInt w).own_val n (vint w n ∷ [])) ∷ Γ) G Γ G
-  uint-owned t w n fits = owned t (UInt w) (Is (UInt w)) (uint_Makes 𝓛 w) n (vint w n ∷ []) (refl, fits)
+  pub uint_owned : K → (w : Width) (n : ℕ) → n < 2 ^ bits w → Step K 𝓛 (‵ ((UInt w).own_val n (vint w n ∷ [])) ∷ Γ) G Γ G
+  uint_owned t w n fits = owned t (UInt w) (Is (UInt w)) (uint_Makes 𝓛 w) n (vint w n ∷ []) (refl, fits)
 
   pub answered : K → Soaks G → (Q : RattleType) (P : Q.Denot → SProp 𝓤) (φ : Q.Denot → Type 0) → ((r : Q.Denot) → ent 𝓤 (P r) (fact 𝓤 (φ r))) → (v : Val)
       → ((r : Q.Denot) → φ r → Is Q r (v ∷ []) → Seq K 𝓛 Γ G)

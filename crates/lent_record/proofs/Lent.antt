@@ -30,39 +30,39 @@ module _ (T : Declared) (L : Laws T) where
   pub typed : {M : Type 1} {𝓤 : Ura M} (𝓛 : Logic 𝓤) (h : T.D) (vs : List Val) → Is (row T) h vs → Typed (row T).mir vs
   typed 𝓛 h vs is = (lawful T L 𝓛).typed h vs is
 
-  pub value-is : (h : T.D) (v : Val) → Is (row T) h (v ∷ []) → v ≡ only (vals T L h)
-  value-is h v is = ap only (tells T L h (v ∷ []) is)
+  pub value_is : (h : T.D) (v : Val) → Is (row T) h (v ∷ []) → v ≡ only (vals T L h)
+  value_is h v is = ap only (tells T L h (v ∷ []) is)
 
 module _ {M : Type 1} {𝓤 : Ura M} {𝓛 : Logic 𝓤} {K : Type 0} {Γ : List (Item 𝓤)} {G : Goal 𝓤 𝓛.H} (T : Declared) (L : Laws T) where
   -- the cell's machine value is written out, and of what is owned the facts are kept
-  spelt-out : K → (q : Share) (h : T.D) (vs : List Val) (b o : ℕ) → (Holds T L h → Seq K 𝓛 (‵ (cell_at q (row T).mir (vals T L h) b o) ∷ Γ) G)
+  spelt_out : K → (q : Share) (h : T.D) (vs : List Val) (b o : ℕ) → (Holds T L h → Seq K 𝓛 (‵ (cell_at q (row T).mir (vals T L h) b o) ∷ Γ) G)
       → Seq K 𝓛 (‵ (cell_at q (row T).mir vs b o) ∷ ‵ ((row T).own h vs) ∷ Γ) G
-  spelt-out t q h vs b o k =
+  spelt_out t q h vs b o k =
       spelt t (row T) (Is (row T)) (shows 𝓛 (row T)) (vals T L) (tells T L) q h vs b o $ move t (1 ∷ []) $ facts t (row T) (Is (row T)) (shows 𝓛 (row T)) h (vals T L h) k
 
   -- what the value owns is put beside its cell
-  owns-it : K → Plains (fields T) → (q : Share) (h : T.D) → Holds T L h → (b o : ℕ)
+  owns_it : K → Plains (fields T) → (q : Share) (h : T.D) → Holds T L h → (b o : ℕ)
       → Step K 𝓛 (‵ (cell_at q (row T).mir (vals T L h) b o) ∷ ‵ ((row T).own h (vals T L h)) ∷ Γ) G (‵ (cell_at q (row T).mir (vals T L h) b o) ∷ Γ) G
-  owns-it t p q h is b o = step (λ s. owned t (row T) (Is (row T)) (makes T p 𝓛) h (vals T L h) is $ move t (1 ∷ 0 ∷ []) $ s)
+  owns_it t p q h is b o = step (λ s. owned t (row T) (Is (row T)) (makes T p 𝓛) h (vals T L h) is $ move t (1 ∷ 0 ∷ []) $ s)
 
 module _ {M : Type 1} {𝓤 : Ura M} {𝓛 : Logic 𝓤} {K : Type 0} {Γ : List (Item 𝓤)} {G : Goal 𝓤 𝓛.H} (T : Declared) (L : Laws T) where
   pub borrowed : K → Soaks G → {κ : Lft} {q : Share} {γ : GName} (h : T.D) (b o : ℕ)
       → (Holds T L h → Seq K 𝓛 (‵ (cell_at full_share (row T).mir (vals T L h) b o) ∷ ‵ (fobor κ q (Body (mem (row T)) b o γ))
       ∷ ‵ (fobs γ ((row T).coded.code h)) ∷ ‵ (fauth γ ((row T).coded.code h)) ∷ Γ) G)
       → Seq K 𝓛 (‵ (fobs γ ((row T).coded.code h)) ∷ ‵ (fbor κ (Body (mem (row T)) b o γ)) ∷ ‵ (flft κ q) ∷ Γ) G
-  borrowed t z h b o k = opens t z (row T) {h = h} b o (λ vs. spelt-out T L t full_share h vs b o k)
+  borrowed t z h b o k = opens t z (row T) {h = h} b o (λ vs. spelt_out T L t full_share h vs b o k)
 
   pub restored : K → Soaks G → Plains (fields T) → {κ : Lft} {q : Share} {γ : GName} {u v : Gv} (h' : T.D) → Holds T L h' → (b o : ℕ)
       → Step K 𝓛 (‵ (fobs γ ((row T).coded.code h')) ∷ ‵ (fbor κ (Body (mem (row T)) b o γ)) ∷ ‵ (flft κ q) ∷ Γ) G
       (‵ (cell_at full_share (row T).mir (vals T L h') b o) ∷ ‵ (fobor κ q (Body (mem (row T)) b o γ)) ∷ ‵ (fobs γ u) ∷ ‵ (fauth γ v) ∷ Γ) G
-  restored t z p h' is b o = step (λ s. owns-it T L t p full_share h' is b o $ closes t z (row T) h' (vals T L h') b o $ s)
+  restored t z p h' is b o = step (λ s. owns_it T L t p full_share h' is b o $ closes t z (row T) h' (vals T L h') b o $ s)
 
   pub lent : K → Soaks G → Copyables T.parts → {κ : Lft} {q : Share} (h : T.D) (b o : ℕ)
       → ((q' : Share) → Holds T L h → Seq K 𝓛 (‵ (cell_at q' (row T).mir (vals T L h) b o) ∷ ‵ (fobor κ q (part_at (row T) q' h b o)) ∷ ‵ (fshr_bor κ (λ s. part_at (row T) s h b o)) ∷ Γ) G)
       → Seq K 𝓛 (‵ (fshr_bor κ (λ s. part_at (row T) s h b o)) ∷ ‵ (flft κ q) ∷ Γ) G
   lent t z c h b o k =
-      looks t z (row T) (Is (row T)) (shows 𝓛 (row T)) (vals T L) (tells T L) (copy T c 𝓛) h b o (λ q' vs. spelt-out T L t q' h vs b o (k q'))
+      looks t z (row T) (Is (row T)) (shows 𝓛 (row T)) (vals T L) (tells T L) (copy T c 𝓛) h b o (λ q' vs. spelt_out T L t q' h vs b o (k q'))
 
   pub returned : K → Soaks G → Plains (fields T) → {κ : Lft} {q : Share} (q' : Share) (h : T.D) → Holds T L h → (b o : ℕ)
       → Step K 𝓛 (‵ (flft κ q) ∷ Γ) G (‵ (cell_at q' (row T).mir (vals T L h) b o) ∷ ‵ (fobor κ q (part_at (row T) q' h b o)) ∷ Γ) G
-  returned t z p q' h is b o = step (λ s. owns-it T L t p q' h is b o $ shuts t z (row T) q' h (vals T L h) b o $ s)
+  returned t z p q' h is b o = step (λ s. owns_it T L t p q' h is b o $ shuts t z (row T) q' h (vals T L h) b o $ s)

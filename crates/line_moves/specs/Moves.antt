@@ -1,6 +1,6 @@
 -- What a line leaves of the moves: its triple behind those before it, or a refusal.
 use Rattle.std.specs.Prelude.{ℕ, List, ◌≡◌, T}
-use Rattle.definitions.specs.Answers.{Reply, refused, number_of, Test, answered, passesAll}
+use Rattle.definitions.specs.Answers.{Reply, refused, number_of, Test, answered, passes_all}
 use Rattle.definitions.specs.Plan.{bytes_of}
 use Rattle.definitions.specs.declared.Answer.{Answer}
 use Rattle.definitions.specs.declared.Answer.TheVariants.{Done, Refused}
@@ -9,7 +9,7 @@ use Rattle.basics.specs.Outputs.{PutAt}
 
 -- the tests are passed, and the triples of the requests are put
 pub record AllTaken (tests : List Test) (rs : List Request) (before : List ℕ) (at : ℕ) (after : List ℕ) (next : ℕ) : Type 0 where
-  pub passed : T (passesAll tests)
+  pub passed : T (passes_all tests)
   pub put : PutAt before at (bytes_of rs) after next
 
 -- or one of them isn't

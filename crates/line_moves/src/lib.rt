@@ -1,7 +1,7 @@
 // The move that a line of a script states, as a byte triple. The line is read by the function that the run uses.
 ghost use Rattle.std.specs.Prelude.{[], ◌∷◌};
-ghost use Rattle.definitions.specs.Forms.{form_of, lineTests, requestIn};
-ghost use Rattle.definitions.specs.Moves.{numberTests};
+ghost use Rattle.definitions.specs.Forms.{form_of, line_tests, request_in};
+ghost use Rattle.definitions.specs.Moves.{number_tests};
 ghost use Rattle.definitions.specs.Plan.{bytes_of};
 ghost use Rattle.basics.specs.Outputs.{RoomAt};
 ghost use Rattle.line_moves.specs.Moves.{MovesTaken};
@@ -15,7 +15,7 @@ use triples::put_triple;
 // A line's request: its numbers are tested, and its triple is put.
 fn take_request(request: Request, line: usize, threads: u8, moves: &mut [u8], at: usize) -> Answer
     requires { RoomAt moves.old at (bytes_of (request ∷ [])) }
-    ensures { MovesTaken (numberTests line threads request) (request ∷ []) moves.old at moves.new result }
+    ensures { MovesTaken (number_tests line threads request) (request ∷ []) moves.old at moves.new result }
 {
     let tested = test_numbers(threads as usize, request);
     if let Tested::Refused(refusal) = tested {
@@ -30,8 +30,8 @@ fn take_request(request: Request, line: usize, threads: u8, moves: &mut [u8], at
 
 // A line behind the first, handed over without its line feed. It answers the position behind its triple, if it has one.
 pub fn take_line(text: &[u8], line: usize, threads: u8, moves: &mut [u8], at: usize) -> Answer
-    requires { RoomAt moves.old at (bytes_of (requestIn (form_of text.now))) }
-    ensures { MovesTaken (lineTests line threads (form_of text.now)) (requestIn (form_of text.now)) moves.old at moves.new result }
+    requires { RoomAt moves.old at (bytes_of (request_in (form_of text.now))) }
+    ensures { MovesTaken (line_tests line threads (form_of text.now)) (request_in (form_of text.now)) moves.old at moves.new result }
 {
     let form = read_form(text);
     match form {

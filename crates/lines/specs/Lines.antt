@@ -1,13 +1,13 @@
 -- Where a line ends, and what the lines of a script are from a place on.
 use Rattle.std.specs.Prelude.{ℕ, suc, ◌+◌, ◌-◌, ◌≤◌, ◌<◌, true, false, cond, List, [], ◌∷◌, ◌≡◌, eqb, length, take, drop}
-use Rattle.definitions.specs.Texts.{lineFeed, lines_of}
+use Rattle.definitions.specs.Texts.{line_feed, lines_of}
 use Rattle.lines.specs.declared.Next.{Next}
 use Rattle.lines.specs.declared.Next.TheVariants.{Line, Unended, Done}
 
 -- how many bytes stand before the first line feed, or all where there is none
-unfoldable pub lineLength : List ℕ → ℕ
-lineLength [] = 0
-lineLength (c ∷ cs) = cond (eqb c lineFeed) 0 (suc (lineLength cs))
+unfoldable pub line_length : List ℕ → ℕ
+line_length [] = 0
+line_length (c ∷ cs) = cond (eqb c line_feed) 0 (suc (line_length cs))
 
 -- a line with its line feed at `end`, and the lines behind it
 pub record LineAt (script : List ℕ) (from end : ℕ) : Type 0 where
@@ -22,7 +22,7 @@ pub record UnendedAt (script : List ℕ) (from : ℕ) : Type 0 where
 
 -- no line
 pub record DoneAt (script : List ℕ) (from : ℕ) : Type 0 where
-  pub at-end : from ≡ length script
+  pub at_end : from ≡ length script
   pub lines : lines_of (drop from script) ≡ []
 
 -- what stands at a place of a script

@@ -1,6 +1,6 @@
 // The lines of a script, one after the other. Whoever walks them goes from 0 to behind each line feed, and hands on the part from a line's start to its end.
 ghost use Rattle.std.specs.Prelude.{◌+◌, ◌≤◌, cond, ◌≡◌, ltb, length, drop};
-ghost use Rattle.lines.specs.Lines.{lineLength, NextAt};
+ghost use Rattle.lines.specs.Lines.{line_length, NextAt};
 
 // What stands at a place of a script.
 #[derive(Drop)]
@@ -19,7 +19,7 @@ const LINE_FEED: u8 = 10;
 // The first line feed among the four bytes from a place on, as 0 to 3, or 4.
 fn feed_in_four(script: &[u8], at: usize) -> usize
     requires { at + 4 ≤ length script.now }
-    ensures { lineLength (drop at script.now) ≡ cond (ltb result 4) result (4 + lineLength (drop (at + 4) script.now)) }
+    ensures { line_length (drop at script.now) ≡ cond (ltb result 4) result (4 + line_length (drop (at + 4) script.now)) }
 {
     if script[at] == LINE_FEED {
         return 0;
@@ -39,7 +39,7 @@ fn feed_in_four(script: &[u8], at: usize) -> usize
 // The place of the first line feed from a place on, or the script's end. It is looked for in four bytes at a time.
 fn line_end(script: &[u8], from: usize) -> usize
     requires { from ≤ length script.now }
-    ensures { result ≡ from + lineLength (drop from script.now) }
+    ensures { result ≡ from + line_length (drop from script.now) }
 {
     let mut i = from;
     while 4 <= script.len() - i {

@@ -5,30 +5,30 @@ use mathlib.Core.Bool.{Bool, true, false, cond}
 use mathlib.Core.List.{[], ◌∷◌}
 use mathlib.Core.Path.{◌≡◌, refl}
 use lib.ListN.{length}
-use Rattle.definitions.specs.Bounds.{mostThreads, last_move}
-use Rattle.definitions.specs.Moves.{namesThread}
-use Rattle.listing.specs.Pairs.{isOpen, openTargets, pairs}
+use Rattle.definitions.specs.Bounds.{most_threads, last_move}
+use Rattle.definitions.specs.Moves.{names_thread}
+use Rattle.listing.specs.Pairs.{is_open, open_targets, pairs}
 use Rattle.listing.specs.declared.Mover.{Mover}
 use Rattle.basics.proofs.Gathering.{gather-length}
 use Rattle.basics.proofs.Parts.{Parts, gathered}
 
 -- the pairs of one move: a pair for each target
-abbrev pub pairParts : ℕ → ℕ → Parts
-pairParts mv n = gathered n (λ target. mv ∷ target ∷ [])
+abbrev pub pair_parts : ℕ → ℕ → Parts
+pair_parts mv n = gathered n (λ target. mv ∷ target ∷ [])
 
 pub pairs-length : (mv n : ℕ) → length (pairs mv n) ≡ 2 * n
 unfolding pairs
 pairs-length mv n = gather-length (λ t. mv ∷ t ∷ []) 2 n (λ t. refl)
 
 -- the pairs of all moves: those of each move
-abbrev pub openParts : Mover → Parts
-openParts at = gathered (suc last_move) (λ mv. pairs mv (openTargets at mv))
+abbrev pub open_parts : Mover → Parts
+open_parts at = gathered (suc last_move) (λ mv. pairs mv (open_targets at mv))
 
-pub targets-most : (at : Mover) (mv : ℕ) → at.threads ≤ mostThreads → openTargets at mv ≤ mostThreads
-unfolding openTargets
-targets-most at mv l = by (isOpen at mv) (namesThread mv)
+pub targets_most : (at : Mover) (mv : ℕ) → at.threads ≤ most_threads → open_targets at mv ≤ most_threads
+unfolding open_targets
+targets_most at mv l = by (is_open at mv) (names_thread mv)
   where
-    by : (is names : Bool) → cond is (cond names at.threads 1) 0 ≤ mostThreads
+    by : (is names : Bool) → cond is (cond names at.threads 1) 0 ≤ most_threads
     by true true = l
     by true false = omega arith
     by false names = omega arith

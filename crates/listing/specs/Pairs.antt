@@ -1,34 +1,34 @@
 -- The open moves of a thread by where it stands: each move is open with no target, with 0 alone, or with every thread.
--- That these are the pairs of `openMoves` stands in proofs/OpenList.
+-- That these are the pairs of `open_moves` stands in proofs/OpenList.
 use Rattle.std.specs.Prelude.{ℕ, suc, ◌≤◌, Bool, cond, not, ◌&&◌, List, [], ◌∷◌, ◌≡◌}
-use Rattle.definitions.specs.Bounds.{mostThreads, lastPhase, last_move}
-use Rattle.definitions.specs.Moves.{mustWait}
-use Rattle.definitions.specs.Phases.{hasMove}
+use Rattle.definitions.specs.Bounds.{most_threads, last_phase, last_move}
+use Rattle.definitions.specs.Moves.{must_wait}
+use Rattle.definitions.specs.Phases.{has_move}
 use Rattle.definitions.specs.Threads.{gather}
-use Rattle.phase_moves.specs.MoveBits.{moveBits, targetsOf}
+use Rattle.phase_moves.specs.MoveBits.{move_bits, targets_of}
 use Rattle.listing.specs.declared.Mover.{Mover}
 
 -- what is known of where a thread of a sound table stands
 pub record MoverFits (at : Mover) : Type 0 where
-  pub few : at.threads ≤ mostThreads
-  pub known : at.phase ≤ lastPhase
-  pub bits : at.moves ≡ moveBits at.phase
+  pub few : at.threads ≤ most_threads
+  pub known : at.phase ≤ last_phase
+  pub bits : at.moves ≡ move_bits at.phase
 
 -- a move is open: the phase has it, and it need not wait for the mutex
-abbrev pub isOpen : Mover → ℕ → Bool
-isOpen at mv = hasMove mv at.phase && not (mustWait at.phase at.mutex mv)
+abbrev pub is_open : Mover → ℕ → Bool
+is_open at mv = has_move mv at.phase && not (must_wait at.phase at.mutex mv)
 
 -- with how many targets, from 0 on
-unfoldable pub openTargets : Mover → ℕ → ℕ
-openTargets at mv = cond (isOpen at mv) (targetsOf at.threads mv) 0
+unfoldable pub open_targets : Mover → ℕ → ℕ
+open_targets at mv = cond (is_open at mv) (targets_of at.threads mv) 0
 
 -- "byte pairs, move then target": one move with the targets below n
 unfoldable pub pairs : ℕ → ℕ → List ℕ
 pairs mv n = gather n (λ target. mv ∷ target ∷ [])
 
 -- "by move, then target": the pairs of the moves below n
-unfoldable pub pairsBelow : Mover → ℕ → List ℕ
-pairsBelow at n = gather n (λ mv. pairs mv (openTargets at mv))
+unfoldable pub pairs_below : Mover → ℕ → List ℕ
+pairs_below at n = gather n (λ mv. pairs mv (open_targets at mv))
 
-abbrev pub openPairs : Mover → List ℕ
-openPairs at = pairsBelow at (suc last_move)
+abbrev pub open_pairs : Mover → List ℕ
+open_pairs at = pairs_below at (suc last_move)

@@ -1,10 +1,10 @@
 // The open moves of a thread, listed as byte pairs: counted first, then written.
 ghost use Rattle.std.specs.Prelude.{◌≤◌, [], ◌≡◌, length};
-ghost use Rattle.definitions.specs.Answers.{answerReply, counted};
-ghost use Rattle.definitions.specs.Bounds.{mostThreads, last_move};
-ghost use Rattle.definitions.specs.OpenMoves.{openEntry};
+ghost use Rattle.definitions.specs.Answers.{answer_reply, counted};
+ghost use Rattle.definitions.specs.Bounds.{most_threads, last_move};
+ghost use Rattle.definitions.specs.OpenMoves.{open_entry};
 ghost use Rattle.basics.specs.Outputs.{RoomAt, PutAt, Delivered};
-ghost use Rattle.listing.specs.Pairs.{MoverFits, isOpen, openTargets, pairs, openPairs};
+ghost use Rattle.listing.specs.Pairs.{MoverFits, is_open, open_targets, pairs, open_pairs};
 
 use definitions::{Answer, LAST_MOVE, Refusal};
 use layout::{read_head, read_task};
@@ -22,7 +22,7 @@ struct Mover {
 // Whether a move is open.
 fn is_open(at: Mover, mv: u8) -> bool
     requires { MoverFits at × (mv ≤ last_move) }
-    ensures { result ≡ isOpen at mv }
+    ensures { result ≡ is_open at mv }
 {
     phase_moves::has_bit(at.moves, mv) & !phase_moves::must_wait(at.phase, at.mutex, mv)
 }
@@ -30,7 +30,7 @@ fn is_open(at: Mover, mv: u8) -> bool
 // With how many targets, from 0 on.
 fn open_targets(at: Mover, mv: u8) -> usize
     requires { MoverFits at × (mv ≤ last_move) }
-    ensures { result ≡ openTargets at mv }
+    ensures { result ≡ open_targets at mv }
 {
     if !is_open(at, mv) {
         return 0;
@@ -40,7 +40,7 @@ fn open_targets(at: Mover, mv: u8) -> usize
 
 fn count_open(at: Mover) -> usize
     requires { MoverFits at }
-    ensures { result ≡ length (openPairs at) }
+    ensures { result ≡ length (open_pairs at) }
 {
     let mut bytes: usize = 0;
     for mv in 0..=LAST_MOVE {
@@ -51,7 +51,7 @@ fn count_open(at: Mover) -> usize
 
 // The pairs of one move, from a position on. The position behind them is answered.
 fn put_pairs(out: &mut [u8], start: usize, mv: u8, targets: usize) -> usize
-    requires { RoomAt out.old start (pairs mv targets) × (targets ≤ mostThreads) }
+    requires { RoomAt out.old start (pairs mv targets) × (targets ≤ most_threads) }
     ensures { PutAt out.old start (pairs mv targets) out.new result }
 {
     let mut at = start;
@@ -65,8 +65,8 @@ fn put_pairs(out: &mut [u8], start: usize, mv: u8, targets: usize) -> usize
 
 // The pairs of all moves.
 fn put_open(out: &mut [u8], at: Mover) -> usize
-    requires { MoverFits at × RoomAt out.old 0 (openPairs at) }
-    ensures { PutAt out.old 0 (openPairs at) out.new result }
+    requires { MoverFits at × RoomAt out.old 0 (open_pairs at) }
+    ensures { PutAt out.old 0 (open_pairs at) out.new result }
 {
     let mut next: usize = 0;
     for mv in 0..=LAST_MOVE {
@@ -78,7 +78,7 @@ fn put_open(out: &mut [u8], at: Mover) -> usize
 
 fn list_open(out: &mut [u8], at: Mover) -> Answer
     requires { MoverFits at }
-    ensures { Delivered (counted [] (openPairs at)) out.old out.new (answerReply result) }
+    ensures { Delivered (counted [] (open_pairs at)) out.old out.new (answer_reply result) }
 {
     let bytes = count_open(at);
     if out.len() < bytes {
@@ -89,7 +89,7 @@ fn list_open(out: &mut [u8], at: Mover) -> Answer
 }
 
 pub fn open_moves(table: &[u8], thread: u16, out: &mut [u8]) -> Answer
-    ensures { Delivered (openEntry table.now thread) out.old out.new (answerReply result) }
+    ensures { Delivered (open_entry table.now thread) out.old out.new (answer_reply result) }
 {
     let examined = table::examine(table);
     match examined {

@@ -1,9 +1,9 @@
 // The number of a move's outcome, and of a turn of the dispatcher, by the rule of the crate answer_numbers.
 ghost use Rattle.std.specs.Prelude.{◌+◌, ◌*◌, ◌≤◌, ◌≡◌};
-ghost use Rattle.answer_numbers.specs.Encoding.{moveNumber, turnNumber, madeMark, seenValue};
-ghost use Rattle.definitions.specs.Answers.{outcomeReply};
-ghost use Rattle.definitions.specs.Bounds.{lastEvent};
-ghost use Rattle.definitions.specs.Dispatch.{eventSeen, dispatchedReply};
+ghost use Rattle.answer_numbers.specs.Encoding.{move_number, turn_number, made_mark, seen_value};
+ghost use Rattle.definitions.specs.Answers.{outcome_reply};
+ghost use Rattle.definitions.specs.Bounds.{last_event};
+ghost use Rattle.definitions.specs.Dispatch.{event_seen, dispatched_reply};
 
 use answer_numbers::RETRY_UNIT;
 use codes::{code_of, number_of};
@@ -17,7 +17,7 @@ const MADE_MARK: u64 = 128;
 
 // The number of an outcome of the move.
 pub fn outcome_number(outcome: Outcome) -> u64
-    ensures { result ≡ moveNumber (outcomeReply outcome) }
+    ensures { result ≡ move_number (outcome_reply outcome) }
 {
     match outcome {
         Outcome::Shown(event) => 256 * (code_of(event) as u64),
@@ -29,7 +29,7 @@ pub fn outcome_number(outcome: Outcome) -> u64
 
 // The code of the event that a move showed, 0 for none.
 fn event_code(event: MoveEvent) -> u64
-    ensures { result ≡ seenValue (eventSeen event) }
+    ensures { result ≡ seen_value (event_seen event) }
 {
     match event {
         MoveEvent::Shown(event) => code_of(event) as u64,
@@ -39,8 +39,8 @@ fn event_code(event: MoveEvent) -> u64
 
 // The number of a turn that made a move: what is seen of the move, then the thread, the move and the target, a byte each.
 fn made_number(code: u64, thread: u8, mv: u8, target: u8) -> u64
-    requires { code ≤ lastEvent }
-    ensures { result ≡ 256 * (madeMark + code + 256 * thread + 65_536 * mv + 16_777_216 * target) }
+    requires { code ≤ last_event }
+    ensures { result ≡ 256 * (made_mark + code + 256 * thread + 65_536 * mv + 16_777_216 * target) }
 {
     let seen = MADE_MARK + code;
     let low = seen + 256 * (thread as u64);
@@ -50,7 +50,7 @@ fn made_number(code: u64, thread: u8, mv: u8, target: u8) -> u64
 
 // The number of the dispatcher's answer.
 pub fn dispatched_number(answer: Dispatched) -> u64
-    ensures { result ≡ turnNumber (dispatchedReply answer) }
+    ensures { result ≡ turn_number (dispatched_reply answer) }
 {
     match answer {
         Dispatched::Moved {

@@ -4,19 +4,19 @@ use native.Mathlib.Omega.{arith}
 use mathlib.Core.Bool.{Bool, true, false, cond, not, ◌||◌}
 use mathlib.Core.Path.{◌≡◌, refl, sym, ap, ◌∙◌}
 use lib.Dec.{eqb, eqb→eq}
-use Rattle.definitions.specs.Threads.{every, howMany}
-use Rattle.basics.proofs.Quantifiers.{every-same, howMany-at}
-use Rattle.basics.proofs.Tests.{eq-T, same_test}
+use Rattle.definitions.specs.Threads.{every, how_many}
+use Rattle.basics.proofs.Quantifiers.{every-same, how_many_at_lem}
+use Rattle.basics.proofs.Tests.{eq_T, same_test}
 use Rattle.soundness.proofs.Bools.{not-not}
-use Rattle.soundness.proofs.Threads.{except-count}
+use Rattle.soundness.proofs.Threads.{except_count}
 
 -- how many have it, and how many have not
-complement : (n : ℕ) (f : ℕ → Bool) → howMany n (λ j. not (f j)) + howMany n f ≡ n
-unfolding howMany
+complement : (n : ℕ) (f : ℕ → Bool) → how_many n (λ j. not (f j)) + how_many n f ≡ n
+unfolding how_many
 complement zero f = refl
 complement (suc n) f = more (f n) (complement n f)
   where
-    more : (b : Bool) → howMany n (λ j. not (f j)) + howMany n f ≡ n → howMany n (λ j. not (f j)) + cond (not b) 1 0 + (howMany n f + cond b 1 0) ≡ suc n
+    more : (b : Bool) → how_many n (λ j. not (f j)) + how_many n f ≡ n → how_many n (λ j. not (f j)) + cond (not b) 1 0 + (how_many n f + cond b 1 0) ≡ suc n
     more true e = omega arith
     more false e = omega arith
 
@@ -33,7 +33,7 @@ flag-zero (suc (suc x)) h = absurd (omega arith)
 
 -- an equation of numbers under another
 same-eqb : (a b c d : ℕ) → (a ≡ b → c ≡ d) → (c ≡ d → a ≡ b) → eqb a b ≡ eqb c d
-same-eqb a b c d f g = same_test (eqb a b) (eqb c d) (λ t. eq-T c d (f (eqb→eq a b t))) (λ t. eq-T a b (g (eqb→eq c d t)))
+same-eqb a b c d f g = same_test (eqb a b) (eqb c d) (λ t. eq_T c d (f (eqb→eq a b t))) (λ t. eq_T a b (g (eqb→eq c d t)))
 
 module _ (n t : ℕ) (flag : ℕ → ℕ) (l : t < n) (flags : (j : ℕ) → j < n → flag j ≤ 1) where
   abbrev up : ℕ → Bool
@@ -43,27 +43,27 @@ module _ (n t : ℕ) (flag : ℕ → ℕ) (l : t < n) (flags : (j : ℕ) → j <
   share : cond (up t) 1 0 ≡ flag t
   share = flag_one (flag t) (flags t l)
 
-  pub share-most : flag t ≤ howMany n up
-  share-most = omega (arith, howMany-at up n t l, share)
+  pub share_most : flag t ≤ how_many n up
+  share_most = omega (arith, how_many_at_lem up n t l, share)
 
   -- every flag but t's is 0
-  pub none-but : every n (λ j. eqb j t || eqb (flag j) 0) ≡ eqb (howMany n up) (flag t)
-  none-but =
+  pub none_but : every n (λ j. eqb j t || eqb (flag j) 0) ≡ eqb (how_many n up) (flag t)
+  none_but =
       every-same n _ _ (λ j k. ap (λ (b : Bool). eqb j t || b) (flag-zero (flag j) (flags j k)))
-      ∙ except-count n up t l
-      ∙ ap (eqb (howMany n up)) share
+      ∙ except_count n up t l
+      ∙ ap (eqb (how_many n up)) share
 
   -- every flag but t's is 1
-  pub all_but : every n (λ j. eqb j t || eqb (flag j) 1) ≡ eqb (howMany n up) (n - 1 + flag t)
+  pub all_but : every n (λ j. eqb j t || eqb (flag j) 1) ≡ eqb (how_many n up) (n - 1 + flag t)
   all_but =
       every-same n _ _ (λ j k. ap (λ (b : Bool). eqb j t || b) (sym (not-not (up j))))
-      ∙ except-count n (λ j. not (up j)) t l
-      ∙ same-eqb (howMany n (λ j. not (up j))) (cond (not (up t)) 1 0) (howMany n up) (n - 1 + flag t)
+      ∙ except_count n (λ j. not (up j)) t l
+      ∙ same-eqb (how_many n (λ j. not (up j))) (cond (not (up t)) 1 0) (how_many n up) (n - 1 + flag t)
       (λ e. omega (arith, complement n up, other)) (λ e. omega (arith, complement n up, other, flags t l))
     where
-      other-by : (b : Bool) → cond (not b) 1 0 + cond b 1 0 ≡ 1
-      other-by true = refl
-      other-by false = refl
+      other_by : (b : Bool) → cond (not b) 1 0 + cond b 1 0 ≡ 1
+      other_by true = refl
+      other_by false = refl
 
       other : cond (not (up t)) 1 0 + flag t ≡ 1
-      other = omega (arith, other-by (up t), share)
+      other = omega (arith, other_by (up t), share)

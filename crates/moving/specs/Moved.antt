@@ -1,33 +1,33 @@
 -- A move over any storage: its promise (`MoveMadeIn`), and what the functions behind it are handed: a table that was tested, and a request that it accepts.
 -- Bytes are one instance; `apply` names it.
 use Rattle.std.specs.Prelude.{ℕ, ◌≡◌, T}
-use Rattle.definitions.specs.Answers.{outcomeReply}
-use Rattle.definitions.specs.Moves.{accepts, replyIn, stepIn}
+use Rattle.definitions.specs.Answers.{outcome_reply}
+use Rattle.definitions.specs.Moves.{accepts, reply_in, step_in}
 use Rattle.definitions.specs.Table.{Storage}
 use Rattle.definitions.specs.declared.Head.{Head}
 use Rattle.definitions.specs.declared.Outcome.{Outcome}
 use Rattle.definitions.specs.declared.Request.{Request}
 use Rattle.definitions.specs.declared.Task.{Task}
-use Rattle.views.specs.View.{othersBy}
+use Rattle.views.specs.View.{others_by}
 use Rattle.views.specs.declared.View.{View}
-use Rattle.theory.specs.Tables.{SoundIn, forbiddenCount}
+use Rattle.theory.specs.Tables.{SoundIn, forbidden_count}
 use Rattle.moving.specs.declared.Made.{Made}
 
 module _ {B : Type 0} (storage : Storage B) where
   -- the move's answer, and what is stored at exit, refused or not
   pub record MoveMadeIn (before : B) (r : Request) (after : B) (answer : Outcome) : Type 0 where
-    pub reply : outcomeReply answer ≡ replyIn storage before r
-    pub table : after ≡ stepIn storage before r
+    pub reply : outcome_reply answer ≡ reply_in storage before r
+    pub table : after ≡ step_in storage before r
 
   -- the same of a move that also hands on how many forbidden are 1
   pub record MoveTriedIn (before : B) (r : Request) (after : B) (m : Made) : Type 0 where
     pub made : MoveMadeIn before r after m.outcome
-    pub count : m.forbidden ≡ forbiddenCount (storage.table after)
+    pub count : m.forbidden ≡ forbidden_count (storage.table after)
 
   -- a table that passes the tests 1 and 2, and of whose threads k have forbidden 1
   pub record TestedIn (b : B) (k : ℕ) : Type 0 where
     pub tested : SoundIn storage b
-    pub count : k ≡ forbiddenCount (storage.table b)
+    pub count : k ≡ forbidden_count (storage.table b)
 
   -- with a request that it accepts
   pub record AcceptingIn (b : B) (k : ℕ) (r : Request) : Type 0 where
@@ -35,6 +35,6 @@ module _ {B : Type 0} (storage : Storage B) where
     pub accepted : T (accepts (storage.table b) r)
 
 -- what is seen of a head, a mover and a subject, where k forbidden are 1
-abbrev pub viewBy : Head → Task → ℕ → Task → ℕ → View
-viewBy head mover number subject k =
-    record { head = head; mover = mover; number = number; subject = subject; others = othersBy head.threads k subject.forbidden }
+abbrev pub view_by : Head → Task → ℕ → Task → ℕ → View
+view_by head mover number subject k =
+    record { head = head; mover = mover; number = number; subject = subject; others = others_by head.threads k subject.forbidden }

@@ -1,8 +1,8 @@
 // An accepted move by value, apart from any storage: what is seen of the head, the mover and the subject, and how many forbidden
 // are 1 after it. A storage reads these, has the rules decide, and writes what they decided.
 ghost use Rattle.std.specs.Prelude.{◌+◌, ◌≤◌, ◌<◌, cond, ◌≡◌, eqb};
-ghost use Rattle.definitions.specs.Bounds.{mostThreads};
-ghost use Rattle.moving.specs.Moved.{viewBy};
+ghost use Rattle.definitions.specs.Bounds.{most_threads};
+ghost use Rattle.moving.specs.Moved.{view_by};
 
 use definitions::{Head, Outcome, Task};
 use views::View;
@@ -16,8 +16,8 @@ pub struct Made {
 
 // What the rules see, where `count` forbidden are 1.
 pub fn view_of(head: Head, mover: Task, number: usize, subject: Task, count: usize) -> View
-    requires { (1 ≤ head.threads) × (head.threads ≤ mostThreads) × (number < head.threads) }
-    ensures { result ≡ viewBy head mover number subject count }
+    requires { (1 ≤ head.threads) × (head.threads ≤ most_threads) × (number < head.threads) }
+    ensures { result ≡ view_by head mover number subject count }
 {
     let threads = head.threads as usize;
     let others = views::others_of(threads, count, subject.forbidden);
@@ -32,7 +32,7 @@ pub fn view_of(head: Head, mover: Task, number: usize, subject: Task, count: usi
 
 // How many forbidden are 1 after one of them changed.
 pub fn recount(forbidden: usize, before: u8, after: u8) -> usize
-    requires { (cond (eqb before 1) 1 0 ≤ forbidden) × (forbidden ≤ mostThreads) }
+    requires { (cond (eqb before 1) 1 0 ≤ forbidden) × (forbidden ≤ most_threads) }
     ensures { result + cond (eqb before 1) 1 0 ≡ forbidden + cond (eqb after 1) 1 0 }
 {
     if before == after {

@@ -1,8 +1,8 @@
 // The nodes of all threads.
 ghost use Rattle.std.specs.Prelude.{◌≡◌};
-ghost use Rattle.definitions.specs.Answers.{answerReply};
-ghost use Rattle.definitions.specs.Nodes.{nodesEntry};
-ghost use Rattle.definitions.specs.Phases.{nodeOf};
+ghost use Rattle.definitions.specs.Answers.{answer_reply};
+ghost use Rattle.definitions.specs.Nodes.{nodes_entry};
+ghost use Rattle.definitions.specs.Phases.{node_of};
 ghost use Rattle.definitions.specs.Table.{table_of};
 ghost use Rattle.basics.specs.Outputs.{Delivered};
 ghost use Rattle.theory.specs.Tables.{SoundBytes};
@@ -36,7 +36,7 @@ const OE: u8 = 10;
 
 // The node of a phase.
 fn node_of(phase: u8) -> u8
-    ensures { result ≡ nodeOf phase }
+    ensures { result ≡ node_of phase }
 {
     match phase {
         1..=4 | 18 => ES,
@@ -56,7 +56,7 @@ fn node_of(phase: u8) -> u8
 // The nodes of a sound table's threads.
 fn put_nodes(table: &[u8], threads: usize, out: &mut [u8]) -> Answer
     requires { SoundBytes table.now × (threads ≡ (table_of table.now).threads) }
-    ensures { Delivered (nodesEntry table.now) out.old out.new (answerReply result) }
+    ensures { Delivered (nodes_entry table.now) out.old out.new (answer_reply result) }
 {
     let room = out.len();
     if room < threads {
@@ -71,7 +71,7 @@ fn put_nodes(table: &[u8], threads: usize, out: &mut [u8]) -> Answer
 
 // One byte a thread. Their number is answered.
 pub fn nodes(table: &[u8], out: &mut [u8]) -> Answer
-    ensures { Delivered (nodesEntry table.now) out.old out.new (answerReply result) }
+    ensures { Delivered (nodes_entry table.now) out.old out.new (answer_reply result) }
 {
     let examined = table::examine(table);
     match examined {

@@ -1,4 +1,4 @@
--- Laws of `noteFits`: the depth before a byte, the test of a byte at its depth, and the whole text from the tests of its bytes.
+-- Laws of `note_fits`: the depth before a byte, the test of a byte at its depth, and the whole text from the tests of its bytes.
 use Prim.Native.Nat.{ℕ, suc, ◌+◌, ◌-◌, ◌≤◌, ◌<◌}
 use native.Mathlib.Numerals.{add-one}
 use native.Mathlib.Omega.{arith}
@@ -9,12 +9,12 @@ use borrow.Author.Tests.{ltb-true, ltb-false, le-leb, lt-leb, eqb-true, eq-eqb, 
 use lib.Dec.{leb, eqb, eqb→eq}
 use lib.ListN.{length, take, get_or}
 use lib.Seq.{take-suc, take_all}
-use Rattle.definitions.specs.Bounds.{mostDepth}
-use Rattle.definitions.specs.Forms.{occurrences, note, bad, noteFits, noteForm}
+use Rattle.definitions.specs.Bounds.{most_depth}
+use Rattle.definitions.specs.Forms.{occurrences, note, bad, note_fits, note_form}
 use Rattle.definitions.specs.Threads.{every, between}
-use Rattle.notes.specs.Brackets.{mayStand}
-use Rattle.basics.proofs.Quantifiers.{every-at}
-use Rattle.basics.proofs.Tests.{T_false, false-T, same_test, no_both, not-i, eq-T}
+use Rattle.notes.specs.Brackets.{may_stand}
+use Rattle.basics.proofs.Quantifiers.{every_at}
+use Rattle.basics.proofs.Tests.{T_false, false-T, same_test, no_both, not_i, eq_T}
 
 -- ---- tests of every place
 
@@ -23,12 +23,12 @@ unfolding every
 every_more f n h e = rw (add-one, h) e
 
 every-fails : (f : ℕ → Bool) (n k : ℕ) → k < n → f k ≡ false → every n f ≡ false
-every-fails f n k l e = T_false (every n f) (not-i (every n f) (λ t. no_both (f k) (every-at f n t k l) (false-T (f k) e)))
+every-fails f n k l e = T_false (every n f) (not_i (every n f) (λ t. no_both (f k) (every_at f n t k l) (false-T (f k) e)))
 
 -- neither of two
-or-none : (a b : Bool) → (a || b) ≡ false → (a ≡ false) × (b ≡ false)
-or-none false b h = (refl, h)
-or-none true b h = absurd (false≢true (sym h))
+or_none : (a b : Bool) → (a || b) ≡ false → (a ≡ false) × (b ≡ false)
+or_none false b h = (refl, h)
+or_none true b h = absurd (false≢true (sym h))
 
 -- ---- the depth
 
@@ -37,9 +37,9 @@ unfolding occurrences
 occurrences-behind c [] x = omega arith
 occurrences-behind c (y ∷ ys) x = rw (occurrences-behind c ys x) (omega arith)
 
-occurrences-more : (c : ℕ) (xs : List ℕ) (n : ℕ) → n < length xs
+occurrences_more : (c : ℕ) (xs : List ℕ) (n : ℕ) → n < length xs
     → occurrences c (take (n + 1) xs) ≡ occurrences c (take n xs) + cond (eqb (get_or xs n 0) c) 1 0
-occurrences-more c xs n h = rw (add-one, take-suc xs n 0) (occurrences-behind c (take n xs) (get_or xs n 0))
+occurrences_more c xs n h = rw (add-one, take-suc xs n 0) (occurrences-behind c (take n xs) (get_or xs n 0))
 
 -- the depth before byte n, 0 before the first
 abbrev pub Depth : List ℕ → ℕ → ℕ → Type 0
@@ -53,22 +53,22 @@ printable xs k = between 32 126 (get_or xs k 0)
 
 -- the depth before it is from 0 to the deepest
 abbrev pub nested : List ℕ → ℕ → Bool
-nested xs k = between (occurrences 41 (take k xs)) (occurrences 41 (take k xs) + mostDepth) (occurrences 40 (take k xs))
+nested xs k = between (occurrences 41 (take k xs)) (occurrences 41 (take k xs) + most_depth) (occurrences 40 (take k xs))
 
 -- a bracket, and one that may stand at a depth
 abbrev pub bracket : List ℕ → ℕ → Bool
 bracket xs k = eqb (get_or xs k 0) 40 || eqb (get_or xs k 0) 41
 
 abbrev pub stands : List ℕ → ℕ → ℕ → Bool
-stands xs k depth = mayStand depth (get_or xs k 0)
+stands xs k depth = may_stand depth (get_or xs k 0)
 
-nested-i : (xs : List ℕ) (n depth : ℕ) → Depth xs n depth → depth ≤ mostDepth → nested xs n ≡ true
-nested-i xs n depth h l =
-    rw (le-leb (occurrences 41 (take n xs)) (occurrences 40 (take n xs)) (omega arith), le-leb (occurrences 40 (take n xs)) (occurrences 41 (take n xs) + mostDepth) (omega arith))
+nested_i : (xs : List ℕ) (n depth : ℕ) → Depth xs n depth → depth ≤ most_depth → nested xs n ≡ true
+nested_i xs n depth h l =
+    rw (le-leb (occurrences 41 (take n xs)) (occurrences 40 (take n xs)) (omega arith), le-leb (occurrences 40 (take n xs)) (occurrences 41 (take n xs) + most_depth) (omega arith))
 
 -- a byte that no note has
-pub note-bad : (xs : List ℕ) (n : ℕ) → n < length xs → printable xs n ≡ false → noteFits xs ≡ false
-unfolding noteFits
+pub note-bad : (xs : List ℕ) (n : ℕ) → n < length xs → printable xs n ≡ false → note_fits xs ≡ false
+unfolding note_fits
 note-bad xs n l e = rw (every-fails (printable xs) (length xs) n l e)
 
 -- ---- the loop
@@ -78,36 +78,36 @@ pub record Behind (xs : List ℕ) (n depth : ℕ) : Type 0 where
   pub within : n ≤ length xs
   pub bytes : every n (printable xs) ≡ true
   pub depths : every (n + 1) (nested xs) ≡ true
-  pub is-depth : Depth xs n depth
-  pub deep : depth ≤ mostDepth
+  pub is_depth : Depth xs n depth
+  pub deep : depth ≤ most_depth
 
-pub behind-first : (xs : List ℕ) → Behind xs 0 0
+pub behind_first : (xs : List ℕ) → Behind xs 0 0
 unfolding every occurrences
-behind-first xs = record { within = omega arith; bytes = refl; depths = refl; is-depth = refl; deep = omega arith }
+behind_first xs = record { within = omega arith; bytes = refl; depths = refl; is_depth = refl; deep = omega arith }
 
 module _ (xs : List ℕ) (n depth : ℕ) (b : Behind xs n depth) (l : n < length xs) where
-  opens-more : (x : Bool) → eqb (get_or xs n 0) 40 ≡ x → occurrences 40 (take (n + 1) xs) ≡ occurrences 40 (take n xs) + cond x 1 0
-  opens-more x e = occurrences-more 40 xs n l ∙ ap (λ (y : Bool). occurrences 40 (take n xs) + cond y 1 0) e
+  opens_more : (x : Bool) → eqb (get_or xs n 0) 40 ≡ x → occurrences 40 (take (n + 1) xs) ≡ occurrences 40 (take n xs) + cond x 1 0
+  opens_more x e = occurrences_more 40 xs n l ∙ ap (λ (y : Bool). occurrences 40 (take n xs) + cond y 1 0) e
 
-  closes-more : (x : Bool) → eqb (get_or xs n 0) 41 ≡ x → occurrences 41 (take (n + 1) xs) ≡ occurrences 41 (take n xs) + cond x 1 0
-  closes-more x e = occurrences-more 41 xs n l ∙ ap (λ (y : Bool). occurrences 41 (take n xs) + cond y 1 0) e
+  closes_more : (x : Bool) → eqb (get_or xs n 0) 41 ≡ x → occurrences 41 (take (n + 1) xs) ≡ occurrences 41 (take n xs) + cond x 1 0
+  closes_more x e = occurrences_more 41 xs n l ∙ ap (λ (y : Bool). occurrences 41 (take n xs) + cond y 1 0) e
 
   -- one byte more
-  more : (next : ℕ) → printable xs n ≡ true → Depth xs (n + 1) next → next ≤ mostDepth → Behind xs (n + 1) next
+  more : (next : ℕ) → printable xs n ≡ true → Depth xs (n + 1) next → next ≤ most_depth → Behind xs (n + 1) next
   more next e d h =
       record {
         within = omega arith;
         bytes = every_more (printable xs) n b.bytes e;
-        depths = every_more (nested xs) (n + 1) b.depths (nested-i xs (n + 1) next d h);
-        is-depth = d;
+        depths = every_more (nested xs) (n + 1) b.depths (nested_i xs (n + 1) next d h);
+        is_depth = d;
         deep = h;
       }
 
   -- no bracket
   pub behind-plain : printable xs n ≡ true → bracket xs n ≡ false → Behind xs (n + 1) depth
   behind-plain e h =
-      let none = or-none (eqb (get_or xs n 0) 40) (eqb (get_or xs n 0) 41) h in
-      more depth e (omega (arith, opens-more false none.0, closes-more false none.1, b.is-depth)) b.deep
+      let none = or_none (eqb (get_or xs n 0) 40) (eqb (get_or xs n 0) 41) h in
+      more depth e (omega (arith, opens_more false none.0, closes_more false none.1, b.is_depth)) b.deep
 
   module _ (h : bracket xs n ≡ true) where
     -- it opens, or it closes
@@ -119,42 +119,42 @@ module _ (xs : List ℕ) (n depth : ℕ) (b : Behind xs n depth) (l : n < length
         go false e = g e (sym (ap (λ (y : Bool). y || eqb (get_or xs n 0) 41) e) ∙ h)
 
     -- a bracket that may stand there
-    pub behind-bracket : printable xs n ≡ true → stands xs n depth ≡ true → (next : ℕ)
+    pub behind_bracket : printable xs n ≡ true → stands xs n depth ≡ true → (next : ℕ)
         → next + cond (eqb (get_or xs n 0) 40) 0 1 ≡ depth + cond (eqb (get_or xs n 0) 40) 1 0 → Behind xs (n + 1) next
-    behind-bracket e s next q =
+    behind_bracket e s next q =
         which (Behind xs (n + 1) next)
         (λ o c.
-        let below = ltb-true depth mostDepth (rw o at s) in
+        let below = ltb-true depth most_depth (rw o at s) in
         let steps : next + 0 ≡ depth + 1 = rw o at q in
-        more next e (omega (arith, opens-more true o, closes-more false c, b.is-depth)) (omega arith))
+        more next e (omega (arith, opens_more true o, closes_more false c, b.is_depth)) (omega arith))
         (λ o c.
         let above = ltb-true 0 depth (rw o at s) in
         let steps : next + 1 ≡ depth + 0 = rw o at q in
-        more next e (omega (arith, opens-more false o, closes-more true c, b.is-depth)) (omega (arith, b.deep)))
+        more next e (omega (arith, opens_more false o, closes_more true c, b.is_depth)) (omega (arith, b.deep)))
 
     -- one that may not
-    pub note-deep : stands xs n depth ≡ false → noteFits xs ≡ false
-    unfolding noteFits
-    note-deep s =
+    pub note_deep : stands xs n depth ≡ false → note_fits xs ≡ false
+    unfolding note_fits
+    note_deep s =
         rw (every-fails (nested xs) (suc (length xs)) (n + 1) (omega arith) outside) (and-false (every (length xs) (printable xs)))
       where
         outside : nested xs (n + 1) ≡ false
         outside =
             which (nested xs (n + 1) ≡ false)
             (λ o c.
-            let full = ltb-false depth mostDepth (rw o at s) in
-            rw (lt-leb (occurrences 40 (take (n + 1) xs)) (occurrences 41 (take (n + 1) xs) + mostDepth) (omega (arith, opens-more true o, closes-more false c, b.is-depth)))
+            let full = ltb-false depth most_depth (rw o at s) in
+            rw (lt-leb (occurrences 40 (take (n + 1) xs)) (occurrences 41 (take (n + 1) xs) + most_depth) (omega (arith, opens_more true o, closes_more false c, b.is_depth)))
             (and-false (leb (occurrences 41 (take (n + 1) xs)) (occurrences 40 (take (n + 1) xs)))))
             (λ o c.
             let none = ltb-false 0 depth (rw o at s) in
-            rw (lt-leb (occurrences 41 (take (n + 1) xs)) (occurrences 40 (take (n + 1) xs)) (omega (arith, opens-more false o, closes-more true c, b.is-depth))))
+            rw (lt-leb (occurrences 41 (take (n + 1) xs)) (occurrences 40 (take (n + 1) xs)) (omega (arith, opens_more false o, closes_more true c, b.is_depth))))
 
 -- the text ends
-pub note-end : (xs : List ℕ) (n depth : ℕ) → Behind xs n depth → length xs ≤ n → eqb depth 0 ≡ noteFits xs
-unfolding noteFits
-note-end xs n depth b l =
+pub note_end : (xs : List ℕ) (n depth : ℕ) → Behind xs n depth → length xs ≤ n → eqb depth 0 ≡ note_fits xs
+unfolding note_fits
+note_end xs n depth b l =
     rw (subst (λ (m : ℕ). every m (printable xs) ≡ true) end b.bytes, subst (λ (m : ℕ). every m (nested xs) ≡ true) (add-one n ∙ ap suc end) b.depths)
-    (closes (rw (take_all n xs l) at b.is-depth))
+    (closes (rw (take_all n xs l) at b.is_depth))
   where
     end : n ≡ length xs
     end = omega (arith, b.within)
@@ -162,26 +162,26 @@ note-end xs n depth b l =
     closes : depth + occurrences 41 xs ≡ occurrences 40 xs → eqb depth 0 ≡ eqb (occurrences 40 xs) (occurrences 41 xs)
     closes e =
         same_test (eqb depth 0) (eqb (occurrences 40 xs) (occurrences 41 xs))
-        (λ t. let q = eqb→eq depth 0 t in eq-T (occurrences 40 xs) (occurrences 41 xs) (omega arith))
-        (λ t. let q = eqb→eq (occurrences 40 xs) (occurrences 41 xs) t in eq-T depth 0 (omega arith))
+        (λ t. let q = eqb→eq depth 0 t in eq_T (occurrences 40 xs) (occurrences 41 xs) (omega arith))
+        (λ t. let q = eqb→eq (occurrences 40 xs) (occurrences 41 xs) t in eq_T depth 0 (omega arith))
 
 -- ---- the note's own bracket
 
 module _ (xs : List ℕ) where
-  pub note-empty : length xs ≡ 0 → bad ≡ noteForm xs
-  unfolding noteForm
-  note-empty e = by xs e
+  pub note_empty : length xs ≡ 0 → bad ≡ note_form xs
+  unfolding note_form
+  note_empty e = by xs e
     where
-      by : (ys : List ℕ) → length ys ≡ 0 → bad ≡ cond (eqb (get_or ys (length ys - 1) 0) 41 && noteFits (take (length ys - 1) ys)) note bad
+      by : (ys : List ℕ) → length ys ≡ 0 → bad ≡ cond (eqb (get_or ys (length ys - 1) 0) 41 && note_fits (take (length ys - 1) ys)) note bad
       by [] e = refl
       by (y ∷ ys) e = absurd (omega arith)
 
   -- the last byte is none
-  pub note-unclosed : (get_or xs (length xs - 1) 0 ≡ 41 → ⊥) → bad ≡ noteForm xs
-  unfolding noteForm
-  note-unclosed h = rw (ne_eqb (get_or xs (length xs - 1) 0) 41 h)
+  pub note_unclosed : (get_or xs (length xs - 1) 0 ≡ 41 → ⊥) → bad ≡ note_form xs
+  unfolding note_form
+  note_unclosed h = rw (ne_eqb (get_or xs (length xs - 1) 0) 41 h)
 
   -- it is, and the text before it fits or not
-  pub note-closed : (b : Bool) → get_or xs (length xs - 1) 0 ≡ 41 → b ≡ noteFits (take (length xs - 1) xs) → cond b note bad ≡ noteForm xs
-  unfolding noteForm
-  note-closed b h e = rw (eq-eqb (get_or xs (length xs - 1) 0) 41 h, e)
+  pub note_closed : (b : Bool) → get_or xs (length xs - 1) 0 ≡ 41 → b ≡ note_fits (take (length xs - 1) xs) → cond b note bad ≡ note_form xs
+  unfolding note_form
+  note_closed b h e = rw (eq-eqb (get_or xs (length xs - 1) 0) 41 h, e)

@@ -1,9 +1,9 @@
 // The test of a note: what follows its word and the space, up to the note's own closing bracket. The text is passed in one loop with a depth count.
 ghost use Rattle.std.specs.Prelude.{◌+◌, ◌≤◌, true, cond, ◌||◌, ◌≡◌, eqb};
-ghost use Rattle.definitions.specs.Bounds.{mostDepth};
-ghost use Rattle.definitions.specs.Forms.{note, bad, noteFits, noteForm};
+ghost use Rattle.definitions.specs.Bounds.{most_depth};
+ghost use Rattle.definitions.specs.Forms.{note, bad, note_fits, note_form};
 ghost use Rattle.definitions.specs.Threads.{between};
-ghost use Rattle.notes.specs.Brackets.{mayStand};
+ghost use Rattle.notes.specs.Brackets.{may_stand};
 
 use definitions::MOST_DEPTH;
 
@@ -23,7 +23,7 @@ fn is_bracket(c: u8) -> bool
 
 // A bracket that a text may have at a depth.
 fn may_stand(depth: u8, c: u8) -> bool
-    ensures { result ≡ mayStand depth c }
+    ensures { result ≡ may_stand depth c }
 {
     if c == b'(' {
         return depth < MOST_DEPTH;
@@ -33,7 +33,7 @@ fn may_stand(depth: u8, c: u8) -> bool
 
 // The depth behind a bracket.
 fn depth_after(depth: u8, c: u8) -> u8
-    requires { (depth ≤ mostDepth) × (mayStand depth c ≡ true) }
+    requires { (depth ≤ most_depth) × (may_stand depth c ≡ true) }
     ensures { result + cond (eqb c 40) 0 1 ≡ depth + cond (eqb c 40) 1 0 }
 {
     if c == b'(' {
@@ -44,7 +44,7 @@ fn depth_after(depth: u8, c: u8) -> u8
 
 // The text of a note, without the note's own brackets. The depth is tested where it changes.
 fn note_fits(text: &[u8]) -> bool
-    ensures { result ≡ noteFits text.now }
+    ensures { result ≡ note_fits text.now }
 {
     let mut depth: u8 = 0;
     let mut i: usize = 0;
@@ -66,7 +66,7 @@ fn note_fits(text: &[u8]) -> bool
 
 // What follows `(note `: a text that fits, and the note's own bracket as the last byte.
 pub fn ends_note(part: &[u8]) -> bool
-    ensures { cond result note bad ≡ noteForm part.now }
+    ensures { cond result note bad ≡ note_form part.now }
 {
     let size = part.len();
     if size == 0 {

@@ -1,6 +1,6 @@
 // The first line of a script, for the run and for reading alike.
 ghost use Rattle.std.specs.Prelude.{◌≤◌, length};
-ghost use Rattle.definitions.specs.Bounds.{mostScript};
+ghost use Rattle.definitions.specs.Bounds.{most_script};
 ghost use Rattle.opening.specs.FirstLine.{FirstAt};
 
 use act_forms::Form;
@@ -17,7 +17,7 @@ pub enum First {
 }
 
 pub fn first_line(script: &[u8]) -> First
-    requires { length script.now ≤ mostScript }
+    requires { length script.now ≤ most_script }
     ensures { FirstAt script.now result }
 {
     let next = next_line(script, 0);

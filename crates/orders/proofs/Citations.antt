@@ -3,8 +3,8 @@ use mathlib.Core.Path.{sym}
 use Rattle.orders.specs.EveryOrder.{EveryOrder}
 use Rattle.orders.proofs.EveryOrder as orders
 
-pub every-order : EveryOrder
-every-order =
+pub every_order : EveryOrder
+every_order =
     record {
       safe = orders.safe;
       exact = orders.exact;

@@ -1,9 +1,9 @@
 // Which moves a phase has, which targets they may name and when they must wait, by value and apart from any storage.
 ghost use Rattle.std.specs.Prelude.{◌≤◌, ◌≡◌, T};
-ghost use Rattle.definitions.specs.Bounds.{lastPhase, last_move};
-ghost use Rattle.definitions.specs.Moves.{namesThread, targetFits, mustWait};
-ghost use Rattle.definitions.specs.Phases.{hasMove};
-ghost use Rattle.phase_moves.specs.MoveBits.{moveBits, hasBit, targetsOf};
+ghost use Rattle.definitions.specs.Bounds.{last_phase, last_move};
+ghost use Rattle.definitions.specs.Moves.{names_thread, target_fits, must_wait};
+ghost use Rattle.definitions.specs.Phases.{has_move};
+ghost use Rattle.phase_moves.specs.MoveBits.{move_bits, has_bit, targets_of};
 
 use definitions::{CLEAR, HOLD, PHASE_COUNT, SET};
 
@@ -16,8 +16,8 @@ pub const MOVES: [u8; PHASE_COUNT] = [
 
 // The moves that a phase has, a bit each.
 pub fn moves_in(phase: u8) -> u8
-    requires { phase ≤ lastPhase }
-    ensures { result ≡ moveBits phase }
+    requires { phase ≤ last_phase }
+    ensures { result ≡ move_bits phase }
 {
     let at = phase as usize;
     MOVES[at]
@@ -26,21 +26,21 @@ pub fn moves_in(phase: u8) -> u8
 // Whether a move's bit is 1.
 pub fn has_bit(moves: u8, mv: u8) -> bool
     requires { mv ≤ last_move }
-    ensures { result ≡ hasBit moves mv }
+    ensures { result ≡ has_bit moves mv }
 {
     (moves >> mv) & 1 == 1
 }
 
 // Set and clear name a thread.
 pub fn names_thread(mv: u8) -> bool
-    ensures { result ≡ namesThread mv }
+    ensures { result ≡ names_thread mv }
 {
     (mv == SET) | (mv == CLEAR)
 }
 
 // How many targets, from 0 on, a move may name: set and clear every thread, another move 0 alone.
 pub fn targets_of(threads: usize, mv: u8) -> usize
-    ensures { result ≡ targetsOf threads mv }
+    ensures { result ≡ targets_of threads mv }
 {
     if names_thread(mv) {
         return threads;
@@ -50,15 +50,15 @@ pub fn targets_of(threads: usize, mv: u8) -> usize
 
 // Refusal 5: "The target of set or clear isn't below N, or that of another move isn't 0."
 pub fn target_fits(threads: usize, mv: u8, target: usize) -> bool
-    ensures { result ≡ targetFits threads mv target }
+    ensures { result ≡ target_fits threads mv target }
 {
     target < targets_of(threads, mv)
 }
 
 // Refusal 6: "The thread's phase has no such move."
 pub fn has_move(phase: u8, mv: u8) -> bool
-    requires { (phase ≤ lastPhase) × (mv ≤ last_move) }
-    ensures { result ≡ hasMove mv phase }
+    requires { (phase ≤ last_phase) × (mv ≤ last_move) }
+    ensures { result ≡ has_move mv phase }
 {
     let moves = moves_in(phase);
     has_bit(moves, mv)
@@ -67,8 +67,8 @@ pub fn has_move(phase: u8, mv: u8) -> bool
 // Refusal 7, of a move that the phase has: "Go in phase 9 while the mutex is 1."; "7 is also given to hold while the mutex
 // is 1" (02 §1). Go is all that phase 9 has, and phase 4 alone has hold.
 pub fn must_wait(phase: u8, mutex: u8, mv: u8) -> bool
-    requires { (phase ≤ lastPhase) × (mv ≤ last_move) }
-    ensures { T (hasMove mv phase) → result ≡ mustWait phase mutex mv }
+    requires { (phase ≤ last_phase) × (mv ≤ last_move) }
+    ensures { T (has_move mv phase) → result ≡ must_wait phase mutex mv }
 {
     ((phase == 9) | (mv == HOLD)) & (mutex == 1)
 }

@@ -2,8 +2,8 @@
 // alone, and answers what they are after it.
 ghost use Rattle.std.specs.Prelude.{◌≡◌, ℕ, if◌then◌else◌};
 ghost use Rattle.definitions.specs.Answers.{number_of, answered};
-ghost use Rattle.plain_lock.specs.Counts.{Counted, countTests, standingAfter, verdictReply};
-ghost use Rattle.plain_lock.specs.Rows.{eventRow, movedBy};
+ghost use Rattle.plain_lock.specs.Counts.{Counted, count_tests, standing_after, verdict_reply};
+ghost use Rattle.plain_lock.specs.Rows.{event_row, moved_by};
 
 use definitions::{Event, Refusal};
 
@@ -29,7 +29,7 @@ pub enum Verdict {
 // no event: its row follows place 4, at which no thread ever is. The rows are constants, and are compiled to a table, where
 // comparisons are compiled to branches that are often mispredicted.
 fn event_row(code: usize) -> u64
-    ensures { result ≡ eventRow code }
+    ensures { result ≡ event_row code }
 {
     match code {
         0 => 0x0000_0000_ffff_00_04,
@@ -47,7 +47,7 @@ fn event_row(code: usize) -> u64
 
 // What an event does to where its thread stands.
 fn moved(before: Standing, row: u64) -> Standing
-    ensures { result ≡ movedBy before row }
+    ensures { result ≡ moved_by before row }
 {
     let place = (row / 256 % 256) as u8;
     let change = (row / 4_294_967_296) as u32;
@@ -72,7 +72,7 @@ fn reason(known: bool, next: bool) -> Refusal
 // above the last event's is turned down before its row is looked up, so that the compiled look-up has no test of its own.
 pub fn judge(threads: u16, thread: u16, code: u16, before: Standing) -> Verdict
     requires { Counted threads thread before }
-    ensures { (k : ℕ) → verdictReply k result ≡ answered (countTests threads before k (record { thread = thread; event = code })) (standingAfter before code) }
+    ensures { (k : ℕ) → verdict_reply k result ≡ answered (count_tests threads before k (record { thread = thread; event = code })) (standing_after before code) }
 {
     let last = Event::LAST as u16;
     if last < code {

@@ -1,8 +1,8 @@
 // The plan for a history: checked, then its moves counted, then the triples written event by event.
 ghost use Rattle.std.specs.Prelude.{◌≡◌};
-ghost use Rattle.definitions.specs.Answers.{answerReply, filled};
-ghost use Rattle.definitions.specs.PlainLock.{pairsOf};
-ghost use Rattle.definitions.specs.Plan.{plan, bytes_of, planEntry};
+ghost use Rattle.definitions.specs.Answers.{answer_reply, filled};
+ghost use Rattle.definitions.specs.PlainLock.{pairs_of};
+ghost use Rattle.definitions.specs.Plan.{plan, bytes_of, plan_entry};
 ghost use Rattle.basics.specs.Outputs.{RoomAt, Delivered};
 
 use definitions::{Answer, Refusal};
@@ -10,8 +10,8 @@ use shares::count_moves;
 
 // The triples of all pairs, from the front of the output.
 fn write_pairs(out: &mut [u8], threads: u8, history: &[u8])
-    requires { RoomAt out.old 0 (bytes_of (plan threads (pairsOf history.now))) }
-    ensures { out.new ≡ filled out.old (bytes_of (plan threads (pairsOf history.now))) }
+    requires { RoomAt out.old 0 (bytes_of (plan threads (pairs_of history.now))) }
+    ensures { out.new ≡ filled out.old (bytes_of (plan threads (pairs_of history.now))) }
 {
     let events = history.len() / 2;
     let mut next: usize = 0;
@@ -28,7 +28,7 @@ fn write_pairs(out: &mut [u8], threads: u8, history: &[u8])
 // The check's refusal, number and place; then 12, before anything is written. An accepted plan answers its number of moves,
 // three bytes each.
 pub fn plan(threads: u16, history: &[u8], out: &mut [u8]) -> Answer
-    ensures { Delivered (planEntry threads history.now) out.old out.new (answerReply result) }
+    ensures { Delivered (plan_entry threads history.now) out.old out.new (answer_reply result) }
 {
     let checked = history::check(threads, history);
     let Answer::Done(events) = checked else {

@@ -1,8 +1,8 @@
 // The output of a run, from the history that it showed and the way it ended. It is measured before a byte of it is written.
 ghost use Rattle.std.specs.Prelude.{[]};
-ghost use Rattle.definitions.specs.Answers.{answerReply, counted};
+ghost use Rattle.definitions.specs.Answers.{answer_reply, counted};
 ghost use Rattle.basics.specs.Outputs.{Delivered};
-ghost use Rattle.printing.specs.Output.{outputOf, Measurable};
+ghost use Rattle.printing.specs.Output.{output_of, Measurable};
 
 use definitions::{Answer, Refusal};
 use endings::{Ending, ending_length, put_ending};
@@ -11,7 +11,7 @@ use event_lines::{events_length, put_events};
 // A whole output, if it has room.
 pub fn print(history: &[u8], ending: Ending, out: &mut [u8]) -> Answer
     requires { Measurable history.now ending }
-    ensures { Delivered (counted [] (outputOf history.now ending)) out.old out.new (answerReply result) }
+    ensures { Delivered (counted [] (output_of history.now ending)) out.old out.new (answer_reply result) }
 {
     let lines = events_length(history);
     let last = ending_length(ending);

@@ -2,9 +2,9 @@
 use Rattle.printout.specs.ProgramRooms.{ProgramRooms}
 use Rattle.printout.proofs.Output as output
 
-pub program-rooms : ProgramRooms
-program-rooms =
+pub program_rooms : ProgramRooms
+program_rooms =
     record {
-      program-room = output.output-fits;
-      program-reads = output.read-enough;
+      program_room = output.output-fits;
+      program_reads = output.read_enough;
     }

@@ -1,8 +1,8 @@
 // What the program prints for an input: the run's output, or the line for a script too long.
 ghost use Rattle.std.specs.Prelude.{◌≤◌, [], length};
-ghost use Rattle.definitions.specs.Answers.{answerReply, counted};
-ghost use Rattle.definitions.specs.Bounds.{enoughOutput};
-ghost use Rattle.definitions.specs.Run.{programOutput};
+ghost use Rattle.definitions.specs.Answers.{answer_reply, counted};
+ghost use Rattle.definitions.specs.Bounds.{enough_output};
+ghost use Rattle.definitions.specs.Run.{program_output};
 ghost use Rattle.basics.specs.Outputs.{Delivered};
 ghost use Rattle.printout.specs.Buffer.{Printed};
 
@@ -11,7 +11,7 @@ use text::deliver;
 
 // The program's output, if it has room.
 fn write_output(input: &[u8], out: &mut [u8]) -> Answer
-    ensures { Delivered (counted [] (programOutput input.now)) out.old out.new (answerReply result) }
+    ensures { Delivered (counted [] (program_output input.now)) out.old out.new (answer_reply result) }
 {
     if MOST_SCRIPT < input.len() {
         return deliver(b"(refused 8 0)\n", out);
@@ -25,7 +25,7 @@ fn write_output(input: &[u8], out: &mut [u8]) -> Answer
 
 // The program's output, written to the front of a buffer that always suffices. Its length is answered.
 pub fn print_input(input: &[u8], out: &mut [u8]) -> usize
-    requires { enoughOutput ≤ length out.old }
+    requires { enough_output ≤ length out.old }
     ensures { Printed input.now out.old out.new result }
 {
     let answer = write_output(input, out);

@@ -1,7 +1,7 @@
 // Runs the script on standard input and prints its output: what the crate printout writes for what was read.
 ghost use Rattle.std.specs.Prelude.{◌<◌, ◌≡◌, length};
-ghost use Rattle.definitions.specs.Bounds.{mostScript};
-ghost use Rattle.definitions.specs.Run.{programOutput};
+ghost use Rattle.definitions.specs.Bounds.{most_script};
+ghost use Rattle.definitions.specs.Run.{program_output};
 ghost use Rattle.program.specs.Input.{WithinRoom};
 
 use definitions::{ENOUGH_OUTPUT, MOST_SCRIPT};
@@ -20,7 +20,7 @@ enum Input {
 
 // Reads until the buffer, which holds more than the longest script, is full or the input ends. A read may bring fewer bytes than there is room for.
 fn read_input(buffer: &mut [u8]) -> Input
-    requires { mostScript < length buffer.old }
+    requires { most_script < length buffer.old }
     ensures { WithinRoom result (length buffer.new) }
 {
     let mut done: usize = 0;
@@ -40,8 +40,8 @@ fn read_input(buffer: &mut [u8]) -> Input
 
 // Hands the program's output for an input to the kit's write: those bytes and no others. Whether all were taken is answered.
 fn hand_on(input: &[u8], output: &[u8]) -> bool
-    requires { output.now ≡ programOutput input.now }
-    ensures { output.now ≡ programOutput input.now }
+    requires { output.now ≡ program_output input.now }
+    ensures { output.now ≡ program_output input.now }
 {
     io::write_all(STDOUT_FILENO, output)
 }

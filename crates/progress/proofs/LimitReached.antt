@@ -6,55 +6,55 @@ use native.Mathlib.Omega.{arith}
 use mathlib.Core.List.{List, [], ◌∷◌}
 use mathlib.Core.Path.{◌≡◌, refl, sym, subst, ap, ◌∙◌}
 use lib.Dec.{T}
-use Rattle.definitions.specs.Bounds.{mostThreads}
-use Rattle.definitions.specs.Chains.{afterIn, acceptsAllIn, tableAfter, acceptsAll}
-use Rattle.definitions.specs.Moves.{moveTable}
+use Rattle.definitions.specs.Bounds.{most_threads}
+use Rattle.definitions.specs.Chains.{after_in, accepts_all_in, table_after, accepts_all}
+use Rattle.definitions.specs.Moves.{move_table}
 use Rattle.definitions.specs.Sound.{sound}
-use Rattle.definitions.specs.Table.{Table, freshTable, table_of, sized, itself, byteTable, fresh}
+use Rattle.definitions.specs.Table.{Table, fresh_table, table_of, sized, itself, byte_table, fresh}
 use Rattle.definitions.specs.Threads.{gather}
 use Rattle.definitions.specs.declared.Request.{Request}
 use Rattle.completeness.proofs.Completeness.{complete}
-use Rattle.theory.proofs.Bytes.{byte-keeps, same_bytes, fresh-table, fresh-sized}
-use Rattle.theory.proofs.Chains.{Leads, all-16}
+use Rattle.theory.proofs.Bytes.{byte_keeps, same_bytes, fresh-table, fresh-sized}
+use Rattle.theory.proofs.Chains.{Leads, all_16}
 use Rattle.theory.proofs.Storages.{fits-step, after_same, accepts-all-same}
-use Rattle.progress.specs.Progress.{allCalled, LimitReached}
-use Rattle.progress.proofs.CalledTable.{calledTable, called-table, called-sized, called-sound, called-measure}
-use Rattle.progress.proofs.Counting.{all-advance}
-use Rattle.progress.proofs.InTurn.{roundOf, in_turn, turn-length, all-go-round}
-use Rattle.progress.proofs.Measure.{measure, fresh-measure}
+use Rattle.progress.specs.Progress.{all_called, LimitReached}
+use Rattle.progress.proofs.CalledTable.{called_table, called_table_lem, called_sized, called_sound, called_measure}
+use Rattle.progress.proofs.Counting.{all_advance}
+use Rattle.progress.proofs.InTurn.{round_of, in_turn, turn-length, all_go_round}
+use Rattle.progress.proofs.Measure.{measure, fresh_measure}
 
 -- requests keep the size
-after-sized : (bytes : List ℕ) (rs : List Request) → T (sized bytes) → T (sized (tableAfter bytes rs))
-unfolding afterIn
-after-sized bytes [] fits = fits
-after-sized bytes (r ∷ rs) fits = after-sized (moveTable bytes r) rs (fits-step byteTable byte-keeps bytes r fits)
+after_sized : (bytes : List ℕ) (rs : List Request) → T (sized bytes) → T (sized (table_after bytes rs))
+unfolding after_in
+after_sized bytes [] fits = fits
+after_sized bytes (r ∷ rs) fits = after_sized (move_table bytes r) rs (fits-step byte_table byte_keeps bytes r fits)
 
-pub limit-reached : (n : ℕ) → 1 ≤ n → n ≤ mostThreads → LimitReached n
-unfolding allCalled
+pub limit-reached : (n : ℕ) → 1 ≤ n → n ≤ most_threads → LimitReached n
+unfolding all_called
 limit-reached n least most =
     record {
-      passes = record { is-sized = fits; is-sound = is-sound };
-      reached = (complete n least most (allCalled n)).0 (fits, refl, is-sound);
+      passes = record { is_sized = fits; is_sound = is_sound };
+      reached = (complete n least most (all_called n)).0 (fits, refl, is_sound);
       requests = in_turn n n;
-      numbers = all-16 (calledTable n) (in_turn n n) most rounds.all-accepted;
-      progress = all-advance byteTable byte-keeps (allCalled n) (in_turn n n) accepted
-          (omega (arith, ap measure left, fresh-measure n, ap measure (called-table n), called-measure n, turn-length n));
+      numbers = all_16 (called_table n) (in_turn n n) most rounds.all-accepted;
+      progress = all_advance byte_table byte_keeps (all_called n) (in_turn n n) accepted
+          (omega (arith, ap measure left, fresh_measure n, ap measure (called_table_lem n), called_measure n, turn-length n));
       many = turn-length n;
-      leaves = same_bytes (tableAfter (allCalled n) (in_turn n n)) (fresh n) (after-sized (allCalled n) (in_turn n n) fits) (fresh-sized n least most) (left ∙ sym (fresh-table n));
+      leaves = same_bytes (table_after (all_called n) (in_turn n n)) (fresh n) (after_sized (all_called n) (in_turn n n) fits) (fresh-sized n least most) (left ∙ sym (fresh-table n));
     }
   where
-    fits : T (sized (allCalled n))
-    fits = called-sized n least most
+    fits : T (sized (all_called n))
+    fits = called_sized n least most
 
-    is-sound : T (sound (table_of (allCalled n)))
-    is-sound = subst (λ (s : Table). T (sound s)) (sym (called-table n)) (called-sound n least)
+    is_sound : T (sound (table_of (all_called n)))
+    is_sound = subst (λ (s : Table). T (sound s)) (sym (called_table_lem n)) (called_sound n least)
 
-    rounds : Leads (calledTable n) (in_turn n n) (gather n roundOf) (freshTable n)
-    rounds = all-go-round n least
+    rounds : Leads (called_table n) (in_turn n n) (gather n round_of) (fresh_table n)
+    rounds = all_go_round n least
 
-    accepted : T (acceptsAll (allCalled n) (in_turn n n))
+    accepted : T (accepts_all (all_called n) (in_turn n n))
     accepted =
-        subst T (sym (accepts-all-same byteTable byte-keeps (allCalled n) (in_turn n n) fits ∙ ap (λ (s : Table). acceptsAllIn itself s (in_turn n n)) (called-table n))) rounds.all-accepted
+        subst T (sym (accepts-all-same byte_table byte_keeps (all_called n) (in_turn n n) fits ∙ ap (λ (s : Table). accepts_all_in itself s (in_turn n n)) (called_table_lem n))) rounds.all-accepted
 
-    left : table_of (tableAfter (allCalled n) (in_turn n n)) ≡ freshTable n
-    left = after_same byteTable byte-keeps (allCalled n) (in_turn n n) fits ∙ (ap (λ (s : Table). afterIn itself s (in_turn n n)) (called-table n) ∙ rounds.ends)
+    left : table_of (table_after (all_called n) (in_turn n n)) ≡ fresh_table n
+    left = after_same byte_table byte_keeps (all_called n) (in_turn n n) fits ∙ (ap (λ (s : Table). after_in itself s (in_turn n n)) (called_table_lem n) ∙ rounds.ends)

@@ -1,4 +1,4 @@
--- Tables whose bytes are written thread by thread (`threadBytes`): the record that is read off them (`bytes-table`), and that they have the right size (`bytes-sized`). For every N.
+-- Tables whose bytes are written thread by thread (`thread_bytes`): the record that is read off them (`bytes-table`), and that they have the right size (`bytes-sized`). For every N.
 use Prim.Native.Nat.{ℕ, zero, suc, ◌+◌, ◌*◌, ◌≤◌, ◌<◌}
 use native.Mathlib.Omega.{arith}
 use mathlib.Core.Bool.{Bool, cond}
@@ -8,13 +8,13 @@ use mathlib.Core.Path.{◌≡◌, refl, sym, ap, ◌∙◌, fun_ext}
 use lib.Dec.{T, ltb, leb-suc-zero, lt→ltb}
 use lib.ListN.{length, get_or, length-append, get_or-append, get_or-eq_default}
 use lib.Seq.{get_or-append-add}
-use Rattle.definitions.specs.Bounds.{mostThreads}
+use Rattle.definitions.specs.Bounds.{most_threads}
 use Rattle.definitions.specs.Table.{Table, table_of, sized}
 use Rattle.definitions.specs.Threads.{gather}
 use Rattle.basics.proofs.Gathering.{gather-length}
 use Rattle.basics.proofs.Tests.{cond_yes, same?, below?}
 use Rattle.orders.proofs.Flags.{below_other}
-use Rattle.theory.proofs.Bytes.{sized-i}
+use Rattle.theory.proofs.Bytes.{sized_i}
 use Rattle.theory.proofs.Writes.{same-table}
 
 -- byte m of thread j's three
@@ -41,28 +41,28 @@ threes f three (suc n) j m l = ⊎_elim last (λ h. earlier h ∙ (threes f thre
         (λ k. get_or-eq_default (front ++ f n) 0 (omega (arith, long, length-append front (f n), three n)) ∙ sym (get_or-eq_default front 0 (omega (arith, long)))) (below? n j)
 
 -- a column of n threads, with nothing beyond them
-abbrev pub ofThreads : ℕ → (ℕ → ℕ) → ℕ → ℕ
-ofThreads n f = λ j. cond (ltb j n) (f j) 0
+abbrev pub of_threads : ℕ → (ℕ → ℕ) → ℕ → ℕ
+of_threads n f = λ j. cond (ltb j n) (f j) 0
 
-pub of-thread : (n : ℕ) (f : ℕ → ℕ) (j : ℕ) → j < n → ofThreads n f j ≡ f j
-of-thread n f j l = cond_yes (ltb j n) (f j) 0 (lt→ltb j n l)
+pub of_thread : (n : ℕ) (f : ℕ → ℕ) (j : ℕ) → j < n → of_threads n f j ≡ f j
+of_thread n f j l = cond_yes (ltb j n) (f j) 0 (lt→ltb j n l)
 
 module _ (n mutex target : ℕ) (phase busy forbidden : ℕ → ℕ) where
-  abbrev pub threadBytes : List ℕ
-  threadBytes = n ∷ mutex ∷ target ∷ gather n (λ i. phase i ∷ busy i ∷ forbidden i ∷ [])
+  abbrev pub thread_bytes : List ℕ
+  thread_bytes = n ∷ mutex ∷ target ∷ gather n (λ i. phase i ∷ busy i ∷ forbidden i ∷ [])
 
-  abbrev pub threadTable : Table
-  threadTable = record { threads = n; mutex = mutex; target = target; phase = ofThreads n phase; busy = ofThreads n busy; forbidden = ofThreads n forbidden }
+  abbrev pub thread_table : Table
+  thread_table = record { threads = n; mutex = mutex; target = target; phase = of_threads n phase; busy = of_threads n busy; forbidden = of_threads n forbidden }
 
-  pub bytes-table : table_of threadBytes ≡ threadTable
+  pub bytes-table : table_of thread_bytes ≡ thread_table
   bytes-table =
-      same-table (table_of threadBytes) threadTable refl refl refl (fun_ext (λ j. column j 0 (omega arith))) (fun_ext (λ j. column j 1 (omega arith))) (fun_ext (λ j. column j 2 (omega arith)))
+      same-table (table_of thread_bytes) thread_table refl refl refl (fun_ext (λ j. column j 0 (omega arith))) (fun_ext (λ j. column j 1 (omega arith))) (fun_ext (λ j. column j 2 (omega arith)))
     where
-      column : (j m : ℕ) → m < 3 → get_or threadBytes (3 + m + 3 * j) 0 ≡ cond (ltb j n) (get_or (phase j ∷ busy j ∷ forbidden j ∷ []) m 0) 0
+      column : (j m : ℕ) → m < 3 → get_or thread_bytes (3 + m + 3 * j) 0 ≡ cond (ltb j n) (get_or (phase j ∷ busy j ∷ forbidden j ∷ []) m 0) 0
       column j m l =
           let at : 3 + m + 3 * j ≡ suc (suc (suc (m + 3 * j))) = omega arith in
-          ap (λ (k : ℕ). get_or threadBytes k 0) at ∙ threes (λ i. phase i ∷ busy i ∷ forbidden i ∷ []) (λ i. refl) n j m l
+          ap (λ (k : ℕ). get_or thread_bytes k 0) at ∙ threes (λ i. phase i ∷ busy i ∷ forbidden i ∷ []) (λ i. refl) n j m l
 
-  pub bytes-sized : 1 ≤ n → n ≤ mostThreads → T (sized threadBytes)
+  pub bytes-sized : 1 ≤ n → n ≤ most_threads → T (sized thread_bytes)
   bytes-sized least most =
-      sized-i threadBytes record { least = least; most = most; long = omega (arith, gather-length {A = ℕ} (λ i. phase i ∷ busy i ∷ forbidden i ∷ []) 3 n (λ i. refl)) }
+      sized_i thread_bytes record { least = least; most = most; long = omega (arith, gather-length {A = ℕ} (λ i. phase i ∷ busy i ∷ forbidden i ∷ []) 3 n (λ i. refl)) }

@@ -1,20 +1,20 @@
 -- The page of promises: of the contracts each line by citing the function's proof, of the other records each by citing the crate that proves it.
-use Rattle.answer_numbers.proofs.Citations.{numbers-told}
-use Rattle.arrows.proofs.Citations.{arrows-taken}
+use Rattle.answer_numbers.proofs.Citations.{numbers_told}
+use Rattle.arrows.proofs.Citations.{arrows_taken}
 use Rattle.completeness.proofs.Citations.{sound-reached}
-use Rattle.dispatched_orders.proofs.Citations.{host-and-turns}
-use Rattle.dispatching.proofs.Citations.{turns-and-waiting}
-use Rattle.forms.proofs.Citations.{read-as-spelled}
-use Rattle.orders.proofs.Citations.{every-order}
-use Rattle.plan_lengths.proofs.Citations.{rounds-and-bounds}
-use Rattle.printout.proofs.Citations.{program-rooms}
-use Rattle.progress.proofs.Citations.{retries-and-progress}
-use Rattle.round_trips.proofs.Citations.{script-rooms, written-and-read}
-use Rattle.runs.proofs.Citations.{run-rooms, printed-run}
-use Rattle.soundness.proofs.Citations.{pass-decides}
+use Rattle.dispatched_orders.proofs.Citations.{host_and_turns}
+use Rattle.dispatching.proofs.Citations.{turns_and_waiting}
+use Rattle.forms.proofs.Citations.{read_as_spelled}
+use Rattle.orders.proofs.Citations.{every_order}
+use Rattle.plan_lengths.proofs.Citations.{rounds_and_bounds}
+use Rattle.printout.proofs.Citations.{program_rooms}
+use Rattle.progress.proofs.Citations.{retries_and_progress}
+use Rattle.round_trips.proofs.Citations.{script_rooms, written_and_read}
+use Rattle.runs.proofs.Citations.{run_rooms, printed-run}
+use Rattle.soundness.proofs.Citations.{pass_decides}
 use Rattle.succession.proofs.Citations.{all_short}
 use Rattle.theory.proofs.Citations.{table-entries, each-move, plan-counted}
-use Rattle.turn_limit.proofs.Citations.{waiting-comes}
+use Rattle.turn_limit.proofs.Citations.{waiting_comes}
 use Rattle.watching.proofs.Citations.{every-event}
 use Rattle.printout.proofs.print_input.Met as printing
 use Rattle.wospinzo.proofs.wospinzo_check.Met as check
@@ -40,49 +40,49 @@ use Rattle.promises.specs.Promises.{Promises}
 entries : {M : Type 1} → Entries M
 entries =
     record {
-      wospinzo-version = version.met;
-      wospinzo-fresh = fresh.met;
-      wospinzo-move = move.met;
-      wospinzo-dispatch = dispatch.met;
-      wospinzo-nodes = nodes.met;
-      wospinzo-open-moves = open-moves.met;
-      wospinzo-check = check.met;
-      wospinzo-first-history = first-history.met;
-      wospinzo-next-history = next-history.met;
-      wospinzo-plan-length = plan-length.met;
-      wospinzo-plan = plan.met;
-      wospinzo-run = run.met;
-      wospinzo-write-script = write-script.met;
-      wospinzo-read-script = read-script.met;
-      wospinzo-watch-start = watch-start.met;
-      wospinzo-watch-event = watch-event.met;
-      wospinzo-watch-inside = watch-inside.met;
-      print-input = printing.met;
+      wospinzo_version = version.met;
+      wospinzo_fresh = fresh.met;
+      wospinzo_move = move.met;
+      wospinzo_dispatch = dispatch.met;
+      wospinzo_nodes = nodes.met;
+      wospinzo_open_moves = open_moves_lem.met;
+      wospinzo_check = check.met;
+      wospinzo_first_history = first-history.met;
+      wospinzo_next_history = next-history.met;
+      wospinzo_plan_length = plan-length.met;
+      wospinzo_plan = plan.met;
+      wospinzo_run = run.met;
+      wospinzo_write_script = write_script.met;
+      wospinzo_read_script = read-script.met;
+      wospinzo_watch_start = watch_start.met;
+      wospinzo_watch_event = watch_event.met;
+      wospinzo_watch_inside = watch-inside.met;
+      print_input = printing.met;
     }
 
 pub proved : {M : Type 1} → Promises M
 proved =
     record {
       entries = entries;
-      numbers-told = numbers-told;
+      numbers_told = numbers_told;
       table-entries = table-entries;
-      run-rooms = run-rooms;
-      script-rooms = script-rooms;
-      program-rooms = program-rooms;
-      read-as-spelled = read-as-spelled;
+      run_rooms = run_rooms;
+      script_rooms = script_rooms;
+      program_rooms = program_rooms;
+      read_as_spelled = read_as_spelled;
       each-move = each-move;
       sound-reached = sound-reached;
-      pass-decides = pass-decides;
-      every-order = every-order;
+      pass_decides = pass_decides;
+      every_order = every_order;
       printed-run = printed-run;
       every-event = every-event;
-      written-and-read = written-and-read;
+      written_and_read = written_and_read;
       plan-counted = plan-counted;
-      rounds-and-bounds = rounds-and-bounds;
-      retries-and-progress = retries-and-progress;
-      arrows-taken = arrows-taken;
-      turns-and-waiting = turns-and-waiting;
-      waiting-comes = waiting-comes;
-      host-and-turns = host-and-turns;
+      rounds_and_bounds = rounds_and_bounds;
+      retries_and_progress = retries_and_progress;
+      arrows_taken = arrows_taken;
+      turns_and_waiting = turns_and_waiting;
+      waiting_comes = waiting_comes;
+      host_and_turns = host_and_turns;
       all_short = all_short;
     }

@@ -20,33 +20,33 @@ use Rattle.wospinzo.proofs.wospinzo_write_script.Statement as write-script
 
 pub record Entries (M : Type 1) : Type 2 where
   -- The entries (crates/wospinzo/src/lib.rt). Each may be called with any numbers and any lent bytes, and says what it answers and what it leaves in every lent byte, refused or not.
-  -- The version answers `version`. The move, asked r, answers `moveNumber (moveReply table r)` and leaves `moveTable table r`.
-  -- The dispatcher answers `turnNumber (dispatchReply table)` and leaves `dispatchTable table`.
-  -- The check answers `countNumber (checkReply n history)`, and of the length of a plan `countNumber (planLengthReply n history)` is answered.
-  -- The others write: they answer `countNumber (deliveryReply d out)` and leave `deliveryOutput d out`, where d is
-  -- `freshEntry n`, `nodesEntry table`, `openEntry table thread`, `firstEntry n events` or `planEntry n history`. Lent bytes that are only read stay.
-  -- The next history answers `nextNumber (deliveryReply (nextEntry n history) out)`, the number of bytes or that the given one was the last.
-  -- The run answers `runNumber (deliveryReply (runEntry script) out)`, the number of bytes and that of the retries among its moves.
-  -- Writing answers `countNumber (held (deliveryReply (writeEntry n triples) out))`, `held` since the index of a triple may be any number;
-  -- reading answers `readNumber (deliveryReply (read_entry script) out)`.
-  -- Of a watcher's record w the start answers `watchNumber (startReply n)` and leaves `startRecord n w`; an event x answers `watchNumber (eventReply w x)` and leaves `eventRecord w x`;
-  -- the question answers `insideNumber (questionReply w)`.
-  pub wospinzo-version : version.statement M
-  pub wospinzo-fresh : fresh-table.statement M
-  pub wospinzo-move : move.statement M
-  pub wospinzo-dispatch : dispatch.statement M
-  pub wospinzo-nodes : nodes.statement M
-  pub wospinzo-open-moves : open-moves.statement M
-  pub wospinzo-check : check.statement M
-  pub wospinzo-first-history : first-history.statement M
-  pub wospinzo-next-history : next-history.statement M
-  pub wospinzo-plan-length : plan-length.statement M
-  pub wospinzo-plan : plan-bytes.statement M
-  pub wospinzo-run : run.statement M
-  pub wospinzo-write-script : write-script.statement M
-  pub wospinzo-read-script : read-script.statement M
-  pub wospinzo-watch-start : watch-start.statement M
-  pub wospinzo-watch-event : watch-event.statement M
-  pub wospinzo-watch-inside : watch-inside.statement M
+  -- The version answers `version`. The move, asked r, answers `move_number (move_reply table r)` and leaves `move_table table r`.
+  -- The dispatcher answers `turn_number (dispatch_reply table)` and leaves `dispatch_table table`.
+  -- The check answers `count_number (check_reply n history)`, and of the length of a plan `count_number (plan_length_reply n history)` is answered.
+  -- The others write: they answer `count_number (delivery_reply d out)` and leave `delivery_output d out`, where d is
+  -- `fresh_entry n`, `nodes_entry table`, `open_entry table thread`, `first_entry n events` or `plan_entry n history`. Lent bytes that are only read stay.
+  -- The next history answers `next_number (delivery_reply (next_entry n history) out)`, the number of bytes or that the given one was the last.
+  -- The run answers `run_number (delivery_reply (run_entry script) out)`, the number of bytes and that of the retries among its moves.
+  -- Writing answers `count_number (held (delivery_reply (write_entry n triples) out))`, `held` since the index of a triple may be any number;
+  -- reading answers `read_number (delivery_reply (read_entry script) out)`.
+  -- Of a watcher's record w the start answers `watch_number (start_reply n)` and leaves `start_record n w`; an event x answers `watch_number (event_reply w x)` and leaves `event_record w x`;
+  -- the question answers `inside_number (question_reply w)`.
+  pub wospinzo_version : version.statement M
+  pub wospinzo_fresh : fresh-table.statement M
+  pub wospinzo_move : move.statement M
+  pub wospinzo_dispatch : dispatch.statement M
+  pub wospinzo_nodes : nodes.statement M
+  pub wospinzo_open_moves : open_moves_lem.statement M
+  pub wospinzo_check : check.statement M
+  pub wospinzo_first_history : first-history.statement M
+  pub wospinzo_next_history : next-history.statement M
+  pub wospinzo_plan_length : plan-length.statement M
+  pub wospinzo_plan : plan-bytes.statement M
+  pub wospinzo_run : run.statement M
+  pub wospinzo_write_script : write_script.statement M
+  pub wospinzo_read_script : read-script.statement M
+  pub wospinzo_watch_start : watch_start.statement M
+  pub wospinzo_watch_event : watch_event.statement M
+  pub wospinzo_watch_inside : watch-inside.statement M
   -- The program's printing (crates/printout). What it prints and what it reads: printout/specs/ProgramRooms.
-  pub print-input : printing.statement M
+  pub print_input : printing.statement M

@@ -33,17 +33,17 @@ pub record Promises (M : Type 1) : Type 2 where
   -- The same for the program's printing.
   pub entries : Entries M
   -- The number that an entry answers tells its reply, and where it accepts its value has 32 bits (answer_numbers/specs/NumbersTold).
-  pub numbers-told : NumbersTold
+  pub numbers_told : NumbersTold
   -- A refused move leaves every byte of the table. Which outputs have room for a fresh table, the nodes and the open moves (theory/specs/TableEntries).
   pub table-entries : TableEntries
   -- 65,536 bytes have room for what any run prints (runs/specs/RunRooms).
-  pub run-rooms : RunRooms
+  pub run_rooms : RunRooms
   -- Which outputs have room for every script that is read and for every one that is written (round_trips/specs/ScriptRooms).
-  pub script-rooms : ScriptRooms
+  pub script_rooms : ScriptRooms
   -- What the program prints fits its buffer, and what it reads decides it (printout/specs/ProgramRooms).
-  pub program-rooms : ProgramRooms
+  pub program_rooms : ProgramRooms
   -- Reading a line is the inverse of spelling it (forms/specs/ReadAsSpelled).
-  pub read-as-spelled : ReadAsSpelled
+  pub read_as_spelled : ReadAsSpelled
   -- ---- 2. Each move is the protocol's
 
   -- A move is one step on the record of the table, whatever stores it. It keeps a sound table sound, follows Figure 1 and writes only what it may; the open moves are those that are accepted
@@ -52,12 +52,12 @@ pub record Promises (M : Type 1) : Type 2 where
   -- The sound tables are exactly those that accepted requests leave from a fresh one, and so an entry refuses a table by 2 exactly if none leave it (completeness/specs/SoundReached).
   pub sound-reached : SoundReached
   -- The soundness test, one pass over the threads, decides what `sound` says (soundness/specs/PassDecides).
-  pub pass-decides : PassDecides
+  pub pass_decides : PassDecides
   -- ---- 3. Every order
 
   -- What requests show is permitted by the plain lock, in any order and from any sound table; what is permitted is shown by requests, and the plan is such a list. So the check and the plan
   -- entry answer, and the events that a run prints are permitted (orders/specs/EveryOrder).
-  pub every-order : EveryOrder
+  pub every_order : EveryOrder
   -- A run prints the events of the moves that it made, then one last line, and answers how many of them were retries (runs/specs/PrintedRun).
   pub printed-run : PrintedRun
   -- ---- 4. The watcher
@@ -69,28 +69,28 @@ pub record Promises (M : Type 1) : Type 2 where
 
   -- Writing and reading are inverse to each other, reading refuses the lines that a run would for form and numbers, and a plan that is written and run prints its history
   -- (round_trips/specs/WrittenAndRead).
-  pub written-and-read : WrittenAndRead
+  pub written_and_read : WrittenAndRead
   -- ---- 6. How long the plan will be
 
   -- The length that is answered is the number of moves that the plan entry answers, and what the check refuses is refused alike (theory/specs/PlanCounted).
   pub plan-counted : PlanCounted
   -- A full round takes 7 moves or 3N + 6, and no plan has more than 4,575,100 moves, which one has (plan_lengths/specs/RoundsAndBounds).
-  pub rounds-and-bounds : RoundsAndBounds
+  pub rounds_and_bounds : RoundsAndBounds
   -- ---- 7. Retries, progress and every arrow
 
   -- An accepted move says whether it was a retry. Accepted moves without calls and retries are at most N × (3N + 5), which is reached; no table stands still (progress/specs/RetriesAndProgress).
-  pub retries-and-progress : RetriesAndProgress
+  pub retries_and_progress : RetriesAndProgress
   -- A thread can take an arrow of Figure 1, after moves that keep every thread in its node, exactly if the arrow's condition holds for it (arrows/specs/ArrowsTaken).
-  pub arrows-taken : ArrowsTaken
+  pub arrows_taken : ArrowsTaken
   -- ---- 8. The dispatcher
 
   -- A turn makes an accepted move of the lowest thread that has one, or by any other choice of one that has. It says waiting exactly if none has, and what is then known of the table
   -- (dispatching/specs/TurnsAndWaiting).
-  pub turns-and-waiting : TurnsAndWaiting
+  pub turns_and_waiting : TurnsAndWaiting
   -- Waiting comes after at most 6N - 2 turns, which are reached, in any order of such moves and for any rule of choice (turn_limit/specs/WaitingComes).
-  pub waiting-comes : WaitingComes
+  pub waiting_comes : WaitingComes
   -- Requests of the host and turns, in any order and by any choice, show what is permitted (dispatched_orders/specs/HostAndTurns).
-  pub host-and-turns : HostAndTurns
+  pub host_and_turns : HostAndTurns
   -- ---- 9. All short histories
 
   -- Going on from the first history of a length meets each permitted one, once, in the order of their bytes; which one is next; 12 bytes have room for each; and the plain lock never stands

@@ -1,7 +1,7 @@
 // Which pair of a history can be raised: replaced by a later one that fits after the pairs before it. The pass over the pairs
 // judges each of them, as the check does, and keeps the last one of which that is so.
 ghost use Rattle.std.specs.Prelude.{◌≤◌};
-ghost use Rattle.definitions.specs.Bounds.{mostThreads};
+ghost use Rattle.definitions.specs.Bounds.{most_threads};
 ghost use Rattle.raising.specs.Raises.{RaiseOf};
 
 use definitions::Refusal;
@@ -19,7 +19,7 @@ pub enum Raise {
 
 // One pass over the pairs. Any byte is an index of the 256 places, so a thread's place is looked up before the thread is judged.
 pub fn last_raise(threads: u16, history: &[u8]) -> Raise
-    requires { threads ≤ mostThreads }
+    requires { threads ≤ most_threads }
     ensures { RaiseOf threads history.now result }
 {
     let mut places = [0u8; 256];

@@ -8,21 +8,21 @@ use mathlib.Core.Path.{◌≡◌, sym, ap, ◌∙◌}
 use borrow.Author.Tests.{lt-leb}
 use lib.Dec.{T, leb, le→leb}
 use lib.ListN.{length, take, drop, length-drop}
-use Rattle.definitions.specs.Answers.{accepted, refused, Test, test, testAt, answered, passesAll}
-use Rattle.definitions.specs.Bounds.{mostScript}
+use Rattle.definitions.specs.Answers.{accepted, refused, Test, test, test_at, answered, passes_all}
+use Rattle.definitions.specs.Bounds.{most_script}
 use Rattle.definitions.specs.Plan.{bytes_of}
-use Rattle.definitions.specs.Scripts.{linesTests, requestsIn, scriptTests, statedBy, Listed, read_entry}
-use Rattle.definitions.specs.Table.{countFits}
+use Rattle.definitions.specs.Scripts.{lines_tests, requests_in, script_tests, stated_by, Listed, read_entry}
+use Rattle.definitions.specs.Table.{count_fits}
 use Rattle.definitions.specs.Texts.{Line, lines_of}
 use Rattle.basics.specs.Outputs.{RoomAt, PutAt, Delivered}
 use Rattle.opening.specs.FirstLine.{ThreadsAt, NoThreads}
 use Rattle.line_moves.specs.Moves.{AllTaken, TurnedDown}
-use Rattle.basics.proofs.Outputs.{put_front, turned_down, no_room, whole, delivered-as, filled-up}
+use Rattle.basics.proofs.Outputs.{put_front, turned_down, no_room, whole, delivered_as, filled_up}
 use Rattle.basics.proofs.Replies.{passed, failed, pass}
-use Rattle.basics.proofs.TestLists.{other-answer}
+use Rattle.basics.proofs.TestLists.{other_answer}
 use Rattle.basics.proofs.Tests.{true-T, false-T}
 use Rattle.opening.proofs.FirstLines.{read-tests, read_count, read-bad}
-use Rattle.runs.proofs.Lines.{lines-size, stated-few}
+use Rattle.runs.proofs.Lines.{lines-size, stated_few}
 use Rattle.theory.proofs.Lengths.{bytes-length}
 
 module _ (script out : List ℕ) where
@@ -31,77 +31,77 @@ module _ (script out : List ℕ) where
 
   -- the first test
   abbrev fitting : Test
-  fitting = test 8 (leb (length script) mostScript)
+  fitting = test 8 (leb (length script) most_script)
 
   -- 8, for its length
-  pub too_long : mostScript < length script → Delivered (read_entry script) out out (refused 8 0)
-  too_long l = turned_down (read_entry script) out none 8 0 (failed fitting _ none (false-T (leb (length script) mostScript) (lt-leb (length script) mostScript l)))
+  pub too_long : most_script < length script → Delivered (read_entry script) out out (refused 8 0)
+  too_long l = turned_down (read_entry script) out none 8 0 (failed fitting _ none (false-T (leb (length script) most_script) (lt-leb (length script) most_script l)))
 
-  module _ (short : length script ≤ mostScript) where
-    fits : T (leb (length script) mostScript)
-    fits = le→leb (length script) mostScript short
+  module _ (short : length script ≤ most_script) where
+    fits : T (leb (length script) most_script)
+    fits = le→leb (length script) most_script short
 
     -- the lines' refusal is the entry's
-    by_lines : (number place : ℕ) → answered (scriptTests (lines_of script)) none ≡ refused number place → Delivered (read_entry script) out out (refused number place)
+    by_lines : (number place : ℕ) → answered (script_tests (lines_of script)) none ≡ refused number place → Delivered (read_entry script) out out (refused number place)
     by_lines number place e = turned_down (read_entry script) out none number place (passed fitting _ none fits ∙ e)
 
     -- 8, for the first line
-    pub bad-first : NoThreads script → Delivered (read_entry script) out out (refused 8 1)
-    bad-first t = by_lines 8 1 (read-bad none t)
+    pub bad_first : NoThreads script → Delivered (read_entry script) out out (refused 8 1)
+    bad_first t = by_lines 8 1 (read-bad none t)
 
     module _ (n start : ℕ) (t : ThreadsAt script n start) where
-      tests : scriptTests (lines_of script) ≡ testAt 1 1 (countFits n) ∷ linesTests 2 n (lines_of (drop start script))
+      tests : script_tests (lines_of script) ≡ test_at 1 1 (count_fits n) ∷ lines_tests 2 n (lines_of (drop start script))
       tests = read-tests n start t
 
       -- 1
-      pub bad-count : countFits n ≡ false → Delivered (read_entry script) out out (refused 1 1)
-      bad-count e = by_lines 1 1 (ap (λ (ts : List Test). answered ts none) tests ∙ failed _ _ none (false-T (countFits n) e))
+      pub bad-count : count_fits n ≡ false → Delivered (read_entry script) out out (refused 1 1)
+      bad-count e = by_lines 1 1 (ap (λ (ts : List Test). answered ts none) tests ∙ failed _ _ none (false-T (count_fits n) e))
 
-      module _ (count : countFits n ≡ true) where
+      module _ (count : count_fits n ≡ true) where
         -- a line behind the first
-        pub bad-line : (number place : ℕ) → TurnedDown (linesTests 2 n (lines_of (drop start script))) number place → Delivered (read_entry script) out out (refused number place)
-        bad-line number place d =
+        pub bad_line : (number place : ℕ) → TurnedDown (lines_tests 2 n (lines_of (drop start script))) number place → Delivered (read_entry script) out out (refused number place)
+        bad_line number place d =
             by_lines number place
-            (ap (λ (ts : List Test). answered ts none) tests ∙ (passed _ _ none (true-T (countFits n) count) ∙ other-answer none _ tt number place d.refusal))
+            (ap (λ (ts : List Test). answered ts none) tests ∙ (passed _ _ none (true-T (count_fits n) count) ∙ other_answer none _ tt number place d.refusal))
 
-        module _ {moves₀ moves : List ℕ} {size : ℕ} (a : AllTaken (linesTests 2 n (lines_of (drop start script))) (requestsIn (lines_of (drop start script))) moves₀ 0 moves size) where
-          tested : T (passesAll (read_entry script).tests)
-          tested = pass _ _ fits (rw tests (pass _ _ (true-T (countFits n) count) a.passed))
+        module _ {moves₀ moves : List ℕ} {size : ℕ} (a : AllTaken (lines_tests 2 n (lines_of (drop start script))) (requests_in (lines_of (drop start script))) moves₀ 0 moves size) where
+          tested : T (passes_all (read_entry script).tests)
+          tested = pass _ _ fits (rw tests (pass _ _ (true-T (count_fits n) count) a.passed))
 
-          stated : bytes_of (statedBy script) ≡ bytes_of (requestsIn (lines_of (drop start script)))
-          stated = ap (λ (ls : List Line). bytes_of (requestsIn ls)) t.behind
+          stated : bytes_of (stated_by script) ≡ bytes_of (requests_in (lines_of (drop start script)))
+          stated = ap (λ (ls : List Line). bytes_of (requests_in ls)) t.behind
 
-          size_is : size ≡ length (bytes_of (statedBy script))
+          size_is : size ≡ length (bytes_of (stated_by script))
           size_is = omega (arith, a.put.next, ap length stated)
 
           -- 12
-          pub no-room-left : length out < size → Delivered (read_entry script) out out (refused 12 0)
-          no-room-left l = no_room (read_entry script) out tested (omega (arith, size_is))
+          pub no_room_left : length out < size → Delivered (read_entry script) out out (refused 12 0)
+          no_room_left l = no_room (read_entry script) out tested (omega (arith, size_is))
 
           few : 3 * size ≤ length script
           few =
               let ls = lines_of (drop start script) in
-              omega (arith, a.put.next, bytes-length (requestsIn ls), stated-few ls, lines-size (drop start script), length-drop start script)
+              omega (arith, a.put.next, bytes-length (requests_in ls), stated_few ls, lines-size (drop start script), length-drop start script)
 
           module _ (long : length script ≤ 3 * length moves₀) (kept : length moves ≡ length moves₀) where
             pub within : size ≤ length moves
             within = omega (arith, few)
 
             -- the triples stand at the front of the moves
-            triples : take size moves ≡ bytes_of (statedBy script)
+            triples : take size moves ≡ bytes_of (stated_by script)
             triples =
-                let text = bytes_of (requestsIn (lines_of (drop start script))) in
+                let text = bytes_of (requests_in (lines_of (drop start script))) in
                 rw (a.put.next, a.put.output, zero-add (length text)) (rw (zero-add (length text)) at (put_front moves₀ 0 text (omega (arith, few, a.put.next)))) ∙ sym stated
 
             module _ (room : size ≤ length out) where
-              pub triples-room : RoomAt out 0 (take size moves)
-              triples-room = rw triples (record { ends = omega (arith, size_is) })
+              pub triples_room : RoomAt out 0 (take size moves)
+              triples_room = rw triples (record { ends = omega (arith, size_is) })
 
-              pub triples-whole : length (take size moves) % 3 ≡ 0
-              triples-whole = ap (λ (xs : List ℕ). length xs % 3) triples ∙ (ap (λ (k : ℕ). k % 3) (bytes-length (statedBy script)) ∙ mul-mod_right 3 (length (statedBy script)))
+              pub triples_whole : length (take size moves) % 3 ≡ 0
+              triples_whole = ap (λ (xs : List ℕ). length xs % 3) triples ∙ (ap (λ (k : ℕ). k % 3) (bytes-length (stated_by script)) ∙ mul-mod_right 3 (length (stated_by script)))
 
               -- read
               pub all_read : (left : List ℕ) (next : ℕ) → PutAt out 0 (take size moves) left next → Delivered (read_entry script) out left (accepted (record { threads = n; bytes = size }))
               all_read left next p =
-                  delivered-as (whole (read_entry script) out tested (omega (arith, size_is))) (filled-up (rw triples at p))
+                  delivered_as (whole (read_entry script) out tested (omega (arith, size_is))) (filled_up (rw triples at p))
                   (ap accepted (λ k. record { threads = sym (read_count n start t) k; bytes = size_is k }))

@@ -1,5 +1,5 @@
 // Scripts read: the moves that a script states, as byte triples, and its N. The lines are read by the functions that the run uses.
-ghost use Rattle.definitions.specs.Scripts.{readingReply, read_entry};
+ghost use Rattle.definitions.specs.Scripts.{reading_reply, read_entry};
 ghost use Rattle.basics.specs.Outputs.{Delivered};
 
 use codes::count_fits;
@@ -13,7 +13,7 @@ const MOST_TRIPLES: usize = MOST_SCRIPT / 3;
 
 // The entry. Nothing is written before every line has passed.
 pub fn read(script: &[u8], out: &mut [u8]) -> Reading
-    ensures { Delivered (read_entry script.now) out.old out.new (readingReply result) }
+    ensures { Delivered (read_entry script.now) out.old out.new (reading_reply result) }
 {
     if MOST_SCRIPT < script.len() {
         return Reading::Refused(Refusal::BadForm, 0);

@@ -1,9 +1,9 @@
 // Which threads have a move of the dispatcher's, and which move that is, by value and apart from any storage.
 ghost use Rattle.std.specs.Prelude.{◌≤◌, ◌≡◌};
-ghost use Rattle.definitions.specs.Bounds.{lastPhase};
-ghost use Rattle.dispatching.specs.Ready.{moveBy};
-ghost use Rattle.phase_moves.specs.MoveBits.{hasBit};
-ghost use Rattle.ready.specs.ReadyBits.{readyBits};
+ghost use Rattle.definitions.specs.Bounds.{last_phase};
+ghost use Rattle.dispatching.specs.Ready.{move_by};
+ghost use Rattle.phase_moves.specs.MoveBits.{has_bit};
+ghost use Rattle.ready.specs.ReadyBits.{ready_bits};
 
 use definitions::{CLEAR, GO, SET};
 
@@ -18,7 +18,7 @@ const READY_11: u32 = 2_048;
 
 // The phases in which a thread is ready, a bit each, from the mutex and the busy of the table's target.
 pub fn ready_phases(mutex: u8, busy: u8) -> u32
-    ensures { result ≡ readyBits mutex busy }
+    ensures { result ≡ ready_bits mutex busy }
 {
     let free = mutex == 0;
     let calm = busy == 0;
@@ -27,15 +27,15 @@ pub fn ready_phases(mutex: u8, busy: u8) -> u32
 
 // Whether a phase's bit is 1.
 pub fn is_ready(phases: u32, phase: u8) -> bool
-    requires { phase ≤ lastPhase }
-    ensures { result ≡ hasBit phases phase }
+    requires { phase ≤ last_phase }
+    ensures { result ≡ has_bit phases phase }
 {
     (phases >> (phase as u32)) & 1 == 1
 }
 
 // The move of a ready thread.
 pub fn move_in(phase: u8) -> u8
-    ensures { result ≡ moveBy phase }
+    ensures { result ≡ move_by phase }
 {
     match phase {
         10 => SET,

@@ -1,15 +1,15 @@
 // The triples that the plan repeats: go a number of times, set t and go for each t, clear each t.
 ghost use Rattle.definitions.specs.Plan.{bytes_of};
 ghost use Rattle.basics.specs.Outputs.{RoomAt, PutAt};
-ghost use Rattle.repeats.specs.Requests.{goTimes, setEach, clearEach};
+ghost use Rattle.repeats.specs.Requests.{go_times, set_each, clear_each};
 
 use definitions::{CLEAR, GO, SET};
 use triples::put_triple;
 
 // Go, `count` times.
 pub fn go_times(out: &mut [u8], at: usize, thread: u8, count: u8) -> usize
-    requires { RoomAt out.old at (bytes_of (goTimes thread count)) }
-    ensures { PutAt out.old at (bytes_of (goTimes thread count)) out.new result }
+    requires { RoomAt out.old at (bytes_of (go_times thread count)) }
+    ensures { PutAt out.old at (bytes_of (go_times thread count)) out.new result }
 {
     let mut next = at;
     let mut t: u8 = 0;
@@ -22,8 +22,8 @@ pub fn go_times(out: &mut [u8], at: usize, thread: u8, count: u8) -> usize
 
 // Set t and go, for each t.
 pub fn set_each(out: &mut [u8], at: usize, thread: u8, threads: u8) -> usize
-    requires { RoomAt out.old at (bytes_of (setEach thread threads)) }
-    ensures { PutAt out.old at (bytes_of (setEach thread threads)) out.new result }
+    requires { RoomAt out.old at (bytes_of (set_each thread threads)) }
+    ensures { PutAt out.old at (bytes_of (set_each thread threads)) out.new result }
 {
     let mut next = at;
     let mut t: u8 = 0;
@@ -37,8 +37,8 @@ pub fn set_each(out: &mut [u8], at: usize, thread: u8, threads: u8) -> usize
 
 // Clear t, for each t.
 pub fn clear_each(out: &mut [u8], at: usize, thread: u8, threads: u8) -> usize
-    requires { RoomAt out.old at (bytes_of (clearEach thread threads)) }
-    ensures { PutAt out.old at (bytes_of (clearEach thread threads)) out.new result }
+    requires { RoomAt out.old at (bytes_of (clear_each thread threads)) }
+    ensures { PutAt out.old at (bytes_of (clear_each thread threads)) out.new result }
 {
     let mut next = at;
     let mut t: u8 = 0;

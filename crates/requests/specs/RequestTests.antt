@@ -2,8 +2,8 @@
 use Rattle.std.specs.Prelude.{ℕ, not, List, [], ◌∷◌, leb}
 use Rattle.definitions.specs.Answers.{Reply, accepted, refused, number_of, Test, test}
 use Rattle.definitions.specs.Bounds.{last_move}
-use Rattle.definitions.specs.Moves.{targetFits, mustWait}
-use Rattle.definitions.specs.Phases.{hasMove}
+use Rattle.definitions.specs.Moves.{target_fits, must_wait}
+use Rattle.definitions.specs.Phases.{has_move}
 use Rattle.definitions.specs.declared.Head.{Head}
 use Rattle.definitions.specs.declared.Request.{Request}
 use Rattle.definitions.specs.declared.Task.{Task}
@@ -11,19 +11,19 @@ use Rattle.requests.specs.declared.Tested.{Tested}
 use Rattle.requests.specs.declared.Tested.TheVariants.{Passed, Refused}
 
 -- the reply that each answer of a test stands for at a place: nothing more is known of a request that passes
-abbrev pub testedAt : ℕ → Tested → Reply (Unit {0})
-testedAt place Passed = accepted tt
-testedAt place (Refused x) = refused (number_of x) place
+abbrev pub tested_at : ℕ → Tested → Reply (Unit {0})
+tested_at place Passed = accepted tt
+tested_at place (Refused x) = refused (number_of x) place
 
 -- a move's own request has place 0
-abbrev pub testedReply : Tested → Reply (Unit {0})
-testedReply = testedAt 0
+abbrev pub tested_reply : Tested → Reply (Unit {0})
+tested_reply = tested_at 0
 
--- what `requestTests` asks behind the thread's number, of the head and the mover
-abbrev pub laterTests : Head → Task → Request → List Test
-laterTests head mover r =
+-- what `request_tests` asks behind the thread's number, of the head and the mover
+abbrev pub later_tests : Head → Task → Request → List Test
+later_tests head mover r =
     test 4 (leb r.mv last_move)
-    ∷ test 5 (targetFits head.threads r.mv r.target)
-    ∷ test 6 (hasMove r.mv mover.phase)
-    ∷ test 7 (not (mustWait mover.phase head.mutex r.mv))
+    ∷ test 5 (target_fits head.threads r.mv r.target)
+    ∷ test 6 (has_move r.mv mover.phase)
+    ∷ test 7 (not (must_wait mover.phase head.mutex r.mv))
     ∷ []

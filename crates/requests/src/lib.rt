@@ -1,9 +1,9 @@
 // The tests 3 to 5 of a request's numbers, and the tests 4 to 7 of a request by a thread, by value and apart from any storage.
 ghost use Rattle.std.specs.Prelude.{ℕ, ◌≤◌, ◌≡◌};
 ghost use Rattle.definitions.specs.Answers.{answered};
-ghost use Rattle.definitions.specs.Bounds.{lastPhase};
-ghost use Rattle.definitions.specs.Moves.{numberTests};
-ghost use Rattle.requests.specs.RequestTests.{testedReply, testedAt, laterTests};
+ghost use Rattle.definitions.specs.Bounds.{last_phase};
+ghost use Rattle.definitions.specs.Moves.{number_tests};
+ghost use Rattle.requests.specs.RequestTests.{tested_reply, tested_at, later_tests};
 
 use definitions::{Head, LAST_MOVE, Refusal, Request, Task};
 use phase_moves::{has_move, must_wait, target_fits};
@@ -17,7 +17,7 @@ pub enum Tested {
 
 // The tests 3 to 5 of a request to N threads, in their order; what is refused may stand at any place.
 pub fn test_numbers(threads: usize, request: Request) -> Tested
-    ensures { (place : ℕ) → testedAt place result ≡ answered (numberTests place threads request) tt }
+    ensures { (place : ℕ) → tested_at place result ≡ answered (number_tests place threads request) tt }
 {
     if threads <= request.thread as usize {
         return Tested::Refused(Refusal::NoThread);
@@ -34,8 +34,8 @@ pub fn test_numbers(threads: usize, request: Request) -> Tested
 
 // The tests 4 to 7 of a request by a thread, in their order.
 pub fn test_move(head: Head, mover: Task, request: Request) -> Tested
-    requires { mover.phase ≤ lastPhase }
-    ensures { testedReply result ≡ answered (laterTests head mover request) tt }
+    requires { mover.phase ≤ last_phase }
+    ensures { tested_reply result ≡ answered (later_tests head mover request) tt }
 {
     if (LAST_MOVE as u16) < request.mv {
         return Tested::Refused(Refusal::NoMove);

@@ -3,10 +3,10 @@
 // forbidden from the lowest byte on, with any byte above them.
 // Why it is right: a thread whose bytes have few bits, phase below 32 and flags below 2, has one of 128 states, and the row of
 // each says what the thread adds to each count, or that no sound table has it. Whether all bytes have few bits is told by all
-// bits that were seen. proofs/Packed shows that the total and these bits tell what one pass finds (`foundOf`), proofs/Collected
+// bits that were seen. proofs/Packed shows that the total and these bits tell what one pass finds (`found_of`), proofs/Collected
 // that a pass in any order has them.
 ghost use Rattle.std.specs.Prelude.{◌≡◌};
-ghost use Rattle.rows.specs.Rows.{foundBy};
+ghost use Rattle.rows.specs.Rows.{found_by};
 
 use soundness::Found;
 use tallies::Tally;
@@ -27,7 +27,7 @@ const HIGH: u64 = 0x00_fe_fe_e0;
 
 // What the total of all threads' rows and all bits of their words tell.
 pub fn found_of(total: u64, seen: u64) -> Found
-    ensures { result ≡ foundBy total seen }
+    ensures { result ≡ found_by total seen }
 {
     let good = (seen & HIGH == 0) & (total < BAD);
     if !good {

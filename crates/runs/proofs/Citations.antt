@@ -2,14 +2,14 @@
 use Rattle.runs.specs.RunRooms.{RunRooms}
 use Rattle.runs.specs.PrintedRun.{PrintedRun}
 use Rattle.runs.proofs.RetriesCounted.{retries-counted, retries-few}
-use Rattle.runs.proofs.StepsAndEvents.{all-accepted, events-printed, steps-counted}
+use Rattle.runs.proofs.StepsAndEvents.{all-accepted, events-printed, steps_counted}
 use Rattle.runs.proofs.Suffices as suffices
 
-pub run-rooms : RunRooms
-run-rooms =
+pub run_rooms : RunRooms
+run_rooms =
     record {
-      run_room = suffices.never-refused;
-      run_length = suffices.run-bound;
+      run_room = suffices.never_refused;
+      run_length = suffices.run_bound;
     }
 
 pub printed-run : PrintedRun
@@ -17,7 +17,7 @@ printed-run =
     record {
       run-accepted = all-accepted;
       run-prints = events-printed;
-      run-steps = steps-counted;
+      run_steps = steps_counted;
       run-retries = retries-counted;
       retries-few = retries-few;
     }

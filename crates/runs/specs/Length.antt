@@ -2,8 +2,8 @@
 use Rattle.std.specs.Prelude.{ℕ, ◌+◌, ◌*◌, [], ◌∷◌, get_or}
 
 -- for a script of so many bytes: twice as many, and the last line
-abbrev pub longestOutput : ℕ → ℕ
-longestOutput script = 2 * script + 18
+abbrev pub longest_output : ℕ → ℕ
+longest_output script = 2 * script + 18
 
 -- the credit of a thread in each phase: what the lines of its next moves can print beyond twice their own bytes
 unfoldable pub credit : ℕ → ℕ

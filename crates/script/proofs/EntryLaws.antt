@@ -6,29 +6,29 @@ use mathlib.Core.Path.{◌≡◌, sym, subst}
 use borrow.Author.Tests.{le-leb, lt-leb}
 use lib.Dec.{T, leb}
 use lib.ListN.{length, take}
-use Rattle.definitions.specs.Answers.{Reply, accepted, refused, number_of, answerReply, test, counted}
-use Rattle.definitions.specs.Bounds.{mostScript}
-use Rattle.definitions.specs.Run.{runOutputOf, runRetries, RunCounts, runEntry}
+use Rattle.definitions.specs.Answers.{Reply, accepted, refused, number_of, answer_reply, test, counted}
+use Rattle.definitions.specs.Bounds.{most_script}
+use Rattle.definitions.specs.Run.{run_output_of, run_retries, RunCounts, run_entry}
 use Rattle.definitions.specs.Texts as texts
 use Rattle.definitions.specs.declared.Answer.{Answer}
 use Rattle.definitions.specs.declared.Answer.TheVariants as answer
 use Rattle.definitions.specs.declared.Refusal.{Refusal}
 use Rattle.basics.specs.Outputs.{answering, Delivered}
-use Rattle.printing.specs.Output.{outputOf, Measurable}
+use Rattle.printing.specs.Output.{output_of, Measurable}
 use Rattle.running.specs.Records.{Recorded}
 use Rattle.running.specs.declared.Ran.{Ran}
-use Rattle.basics.proofs.Outputs.{turned_down, with-answer}
+use Rattle.basics.proofs.Outputs.{turned_down, with_answer}
 use Rattle.basics.proofs.Replies.{failed, pass, no_test}
 use Rattle.basics.proofs.Tests.{true-T}
 use Rattle.runs.proofs.Suffices.{suffices}
 
 module _ (script out : List ℕ) where
-  pub too_long : mostScript < length script → Delivered (runEntry script) out out (refused 8 0)
+  pub too_long : most_script < length script → Delivered (run_entry script) out out (refused 8 0)
   too_long h =
-      turned_down (runEntry script) out (runEntry script).answer 8 0
-      (failed (test 8 (leb (length script) mostScript)) [] (runEntry script).answer (subst (λ (b : Bool). T (not b)) (sym (lt-leb (length script) mostScript h)) tt))
+      turned_down (run_entry script) out (run_entry script).answer 8 0
+      (failed (test 8 (leb (length script) most_script)) [] (run_entry script).answer (subst (λ (b : Bool). T (not b)) (sym (lt-leb (length script) most_script h)) tt))
 
-  module _ (short : length script ≤ mostScript) {history : List ℕ} {ran : Ran} (r : Recorded (runOutputOf script) (runRetries (texts.lines_of script)) history ran) where
+  module _ (short : length script ≤ most_script) {history : List ℕ} {ran : Ran} (r : Recorded (run_output_of script) (run_retries (texts.lines_of script)) history ran) where
     pub measurable : Measurable (take ran.shown history) ran.ending
     measurable = record { short = rw (← r.prints) (suffices script short) }
 
@@ -37,17 +37,17 @@ module _ (script out : List ℕ) where
     counts bytes = record { bytes = bytes; retries = ran.retries }
 
     -- the output printed is the one promised, and so is the answer
-    run-answered : {out' : List ℕ} {a : Reply ℕ} → Delivered (counted [] (outputOf (take ran.shown history) ran.ending)) out out' a → Delivered (runEntry script) out out' (answering counts a)
+    run-answered : {out' : List ℕ} {a : Reply ℕ} → Delivered (counted [] (output_of (take ran.shown history) ran.ending)) out out' a → Delivered (run_entry script) out out' (answering counts a)
     run-answered {out'} {a} p =
-        let text = outputOf (take ran.shown history) ran.ending in
-        with-answer counts (counted [] text) (runEntry script) no_test (pass _ [] (true-T _ (le-leb (length script) mostScript short)) no_test) r.prints
+        let text = output_of (take ran.shown history) ran.ending in
+        with_answer counts (counted [] text) (run_entry script) no_test (pass _ [] (true-T _ (le-leb (length script) most_script short)) no_test) r.prints
         (λ i. record { bytes = length (r.prints i); retries = r.counts i }) p
 
     -- in either case of what the printing answers
-    pub run-printed : {out' : List ℕ} {a : Answer} (n : ℕ) → a ≡ answer.Done n → Delivered (counted [] (outputOf (take ran.shown history) ran.ending)) out out' (answerReply a)
-        → Delivered (runEntry script) out out' (accepted (counts n))
-    run-printed {out'} n e p = subst (λ (x : Answer). Delivered (runEntry script) out out' (answering counts (answerReply x))) e (run-answered p)
+    pub run-printed : {out' : List ℕ} {a : Answer} (n : ℕ) → a ≡ answer.Done n → Delivered (counted [] (output_of (take ran.shown history) ran.ending)) out out' (answer_reply a)
+        → Delivered (run_entry script) out out' (accepted (counts n))
+    run-printed {out'} n e p = subst (λ (x : Answer). Delivered (run_entry script) out out' (answering counts (answer_reply x))) e (run-answered p)
 
     pub run-refused : {out' : List ℕ} {a : Answer} (x : Refusal) (place : ℕ) → a ≡ answer.Refused x place
-        → Delivered (counted [] (outputOf (take ran.shown history) ran.ending)) out out' (answerReply a) → Delivered (runEntry script) out out' (refused (number_of x) place)
-    run-refused {out'} x place e p = subst (λ (y : Answer). Delivered (runEntry script) out out' (answering counts (answerReply y))) e (run-answered p)
+        → Delivered (counted [] (output_of (take ran.shown history) ran.ending)) out out' (answer_reply a) → Delivered (run_entry script) out out' (refused (number_of x) place)
+    run-refused {out'} x place e p = subst (λ (y : Answer). Delivered (run_entry script) out out' (answering counts (answer_reply y))) e (run-answered p)

@@ -1,5 +1,5 @@
 // The run of a script: it keeps the history that its moves show, and the output is printed from that.
-ghost use Rattle.definitions.specs.Run.{runningReply, runEntry};
+ghost use Rattle.definitions.specs.Run.{running_reply, run_entry};
 ghost use Rattle.basics.specs.Outputs.{Delivered};
 
 use definitions::{Answer, MOST_MOVES, MOST_SCRIPT, Refusal, Running};
@@ -11,7 +11,7 @@ const MOST_SHOWN: usize = 2 * MOST_MOVES;
 
 // The entry. The moves are made once, and nothing is written before the output is known to have room.
 pub fn run(script: &[u8], out: &mut [u8]) -> Running
-    ensures { Delivered (runEntry script.now) out.old out.new (runningReply result) }
+    ensures { Delivered (run_entry script.now) out.old out.new (running_reply result) }
 {
     if MOST_SCRIPT < script.len() {
         return Running::Refused(Refusal::BadForm, 0);

@@ -5,40 +5,40 @@ use mathlib.Core.List.{List, [], ◌∷◌, ◌++◌}
 use mathlib.Core.Path.{◌≡◌, refl, ap}
 use lib.Dec.{T}
 use lib.ListN.{length, length-append}
-use Rattle.definitions.specs.Answers.{passesAll}
-use Rattle.definitions.specs.Chains.{requestsOf}
-use Rattle.definitions.specs.Forms.{threadsLine, spelled}
-use Rattle.definitions.specs.Moves.{numberTests}
-use Rattle.definitions.specs.Scripts.{ended, movesText, scriptOf, triplesTests}
+use Rattle.definitions.specs.Answers.{passes_all}
+use Rattle.definitions.specs.Chains.{requests_of}
+use Rattle.definitions.specs.Forms.{threads_line, spelled}
+use Rattle.definitions.specs.Moves.{number_tests}
+use Rattle.definitions.specs.Scripts.{ended, moves_text, script_of, triples_tests}
 use Rattle.definitions.specs.declared.Request.{Request}
-use Rattle.basics.specs.ShortestLines.{shortestMove}
+use Rattle.basics.specs.ShortestLines.{shortest_move}
 use Rattle.basics.proofs.Parts.{Parts}
 use Rattle.basics.proofs.TestLists.{passes-split}
 use Rattle.spelling.proofs.LineTexts.{move-least}
-use Rattle.theory.proofs.RequestNumbers.{numbers-e}
-use Rattle.theory.proofs.Triples.{tripleAt, triplesFrom, triples-next, triples-end}
+use Rattle.theory.proofs.RequestNumbers.{numbers_e}
+use Rattle.theory.proofs.Triples.{triple_at, triples_from, triples_next, triples_end}
 
 module _ (triples : List ℕ) where
   -- the line of triple k
   abbrev pub line_at : ℕ → List ℕ
-  line_at k = ended (spelled (tripleAt triples k))
+  line_at k = ended (spelled (triple_at triples k))
 
   -- the lines of the triples from index k on
   abbrev pub lines_from : ℕ → List ℕ
-  lines_from k = movesText (triplesFrom triples k)
+  lines_from k = moves_text (triples_from triples k)
 
   pub lines_next : (k : ℕ) → k < length triples / 3 → lines_from k ≡ line_at k ++ lines_from (k + 1)
-  unfolding movesText
-  lines_next k l = ap movesText (triples-next triples k l)
+  unfolding moves_text
+  lines_next k l = ap moves_text (triples_next triples k l)
 
   pub lines_end : lines_from (length triples / 3) ≡ []
-  unfolding movesText
-  lines_end = ap movesText (triples-end triples (length triples / 3) (omega arith))
+  unfolding moves_text
+  lines_end = ap moves_text (triples_end triples (length triples / 3) (omega arith))
 
   abbrev pub move_parts : Parts
   move_parts =
       record {
-        text = movesText (requestsOf triples);
+        text = moves_text (requests_of triples);
         count = length triples / 3;
         part = line_at;
         from = lines_from;
@@ -48,20 +48,20 @@ module _ (triples : List ℕ) where
       }
 
 -- the script's length, by that of its first line
-pub script-size : (n : ℕ) (rs : List Request) → length (scriptOf n rs) ≡ length (ended (threadsLine n)) + length (movesText rs)
-unfolding scriptOf
-script-size n rs = length-append (ended (threadsLine n)) (movesText rs)
+pub script_size : (n : ℕ) (rs : List Request) → length (script_of n rs) ≡ length (ended (threads_line n)) + length (moves_text rs)
+unfolding script_of
+script_size n rs = length-append (ended (threads_line n)) (moves_text rs)
 
 -- ---- too many moves
 
 -- every move that can be spelled takes as many bytes as the shortest line of a move
-moves_long : (k n : ℕ) (rs : List Request) → T (passesAll (triplesTests k n rs)) → shortestMove * length rs ≤ length (movesText rs)
-unfolding triplesTests movesText
+moves_long : (k n : ℕ) (rs : List Request) → T (passes_all (triples_tests k n rs)) → shortest_move * length rs ≤ length (moves_text rs)
+unfolding triples_tests moves_text
 moves_long k n [] p = omega arith
 moves_long k n (r ∷ rs) p =
-    let q = passes-split (numberTests k n r) (triplesTests (suc k) n rs) p in
+    let q = passes-split (number_tests k n r) (triples_tests (suc k) n rs) p in
     let rest = moves_long (suc k) n rs q.1 in
-    omega (arith, move-least r.thread r.mv r.target (numbers-e k n r q.0).move-fits, length-append (ended (spelled r)) (movesText rs))
+    omega (arith, move-least r.thread r.mv r.target (numbers_e k n r q.0).move-fits, length-append (ended (spelled r)) (moves_text rs))
 
-pub script-long : (n : ℕ) (rs : List Request) → T (passesAll (triplesTests 0 n rs)) → shortestMove * length rs ≤ length (scriptOf n rs)
-script-long n rs p = omega (arith, moves_long 0 n rs p, script-size n rs)
+pub script_long : (n : ℕ) (rs : List Request) → T (passes_all (triples_tests 0 n rs)) → shortest_move * length rs ≤ length (script_of n rs)
+script_long n rs p = omega (arith, moves_long 0 n rs p, script_size n rs)

@@ -1,4 +1,4 @@
--- The plan of the pairs from an index on (`planFrom`), and what a loop that adds up the events' shares has counted of the pairs before it (`Counting`).
+-- The plan of the pairs from an index on (`plan_from`), and what a loop that adds up the events' shares has counted of the pairs before it (`Counting`).
 use Prim.Native.Nat.{ℕ, ◌+◌, ◌*◌, ◌/◌, ◌%◌, ◌≤◌, ◌<◌}
 use native.Mathlib.Nat.{add-mul, mul-le-mul_left}
 use native.Mathlib.Omega.{arith}
@@ -6,26 +6,26 @@ use mathlib.Core.List.{List, [], ◌++◌}
 use mathlib.Core.Path.{◌≡◌, ap}
 use lib.ListN.{length, get_or, drop, length-append}
 use Rattle.definitions.specs.Answers.{accepted}
-use Rattle.definitions.specs.Bounds.{mostThreads, mostHistory}
-use Rattle.definitions.specs.PlainLock.{pairsOf, checkTests, checkReply}
+use Rattle.definitions.specs.Bounds.{most_threads, most_history}
+use Rattle.definitions.specs.PlainLock.{pairs_of, check_tests, check_reply}
 use Rattle.definitions.specs.Plan.{plan_of, plan}
 use Rattle.definitions.specs.declared.Request.{Request}
-use Rattle.shares.specs.Shares.{each, movesByShares, ShareOf}
-use Rattle.basics.proofs.TestLists.{answered-e}
-use Rattle.history.proofs.CheckLaws.{tests-e}
+use Rattle.shares.specs.Shares.{each, moves_by_shares, ShareOf}
+use Rattle.basics.proofs.TestLists.{answered_e}
+use Rattle.history.proofs.CheckLaws.{tests_e}
 use Rattle.theory.proofs.Lengths.{pairs-length}
 use Rattle.theory.proofs.Pairs.{pair_at, pairs_next, pairs_end}
 
 -- ---- the plan of the pairs from index k on
 
-abbrev pub planFrom : ℕ → List ℕ → ℕ → List Request
-planFrom n bytes k = plan n (pairsOf (drop (2 * k) bytes))
+abbrev pub plan_from : ℕ → List ℕ → ℕ → List Request
+plan_from n bytes k = plan n (pairs_of (drop (2 * k) bytes))
 
-pub from_next : (n : ℕ) (bytes : List ℕ) (k : ℕ) → k < length bytes / 2 → planFrom n bytes k ≡ plan_of n (pair_at bytes k) ++ planFrom n bytes (k + 1)
+pub from_next : (n : ℕ) (bytes : List ℕ) (k : ℕ) → k < length bytes / 2 → plan_from n bytes k ≡ plan_of n (pair_at bytes k) ++ plan_from n bytes (k + 1)
 unfolding plan
 from_next n bytes k l = ap (plan n) (pairs_next bytes k l)
 
-pub from_end : (n : ℕ) (bytes : List ℕ) (k : ℕ) → length bytes / 2 ≤ k → planFrom n bytes k ≡ []
+pub from_end : (n : ℕ) (bytes : List ℕ) (k : ℕ) → length bytes / 2 ≤ k → plan_from n bytes k ≡ []
 unfolding plan
 from_end n bytes k l = ap (plan n) (pairs_end bytes k l)
 
@@ -33,26 +33,26 @@ from_end n bytes k l = ap (plan n) (pairs_end bytes k l)
 
 -- k events of a history that the check accepts are counted: their shares are added up
 pub record Counting (n : ℕ) (bytes : List ℕ) (events k shares : ℕ) : Type 0 where
-  pub few : n ≤ mostThreads
-  pub short : length bytes ≤ mostHistory
+  pub few : n ≤ most_threads
+  pub short : length bytes ≤ most_history
   pub all : events ≡ length bytes / 2
   pub within : k ≤ events
-  pub total : movesByShares n shares + length (planFrom n bytes k) ≡ length (plan n (pairsOf bytes))
-  pub once-most : shares % each ≤ 3 * k
+  pub total : moves_by_shares n shares + length (plan_from n bytes k) ≡ length (plan n (pairs_of bytes))
+  pub once_most : shares % each ≤ 3 * k
   pub each-most : shares / each ≤ 2 * k
 
-pub counting-none : (n : ℕ) (bytes : List ℕ) (events : ℕ) → checkReply n bytes ≡ accepted events → Counting n bytes events 0 0
-unfolding checkReply
-counting-none n bytes events e =
-    let (tested, same) = answered-e (checkTests n bytes) (length (pairsOf bytes)) events e in
-    let form = (tests-e n bytes tested).0 in
+pub counting_none : (n : ℕ) (bytes : List ℕ) (events : ℕ) → check_reply n bytes ≡ accepted events → Counting n bytes events 0 0
+unfolding check_reply
+counting_none n bytes events e =
+    let (tested, same) = answered_e (check_tests n bytes) (length (pairs_of bytes)) events e in
+    let form = (tests_e n bytes tested).0 in
     record {
       few = form.most;
       short = form.short;
       all = omega (arith, pairs-length bytes);
       within = omega arith;
       total = omega arith;
-      once-most = omega arith;
+      once_most = omega arith;
       each-most = omega arith;
     }
 
@@ -66,29 +66,29 @@ module _ (n : ℕ) (bytes : List ℕ) (events k shares : ℕ) (a : Counting n by
         all = a.all;
         within = omega arith;
         total =
-            rw (once-sum, each-sum)
+            rw (once_sum, each_sum)
             (omega (
               arith,
               a.total,
               f.whole n (get_or bytes (2 * k) 0),
               add-mul (shares / each) (share / each) n,
-              length-append (plan_of n (pair_at bytes k)) (planFrom n bytes (k + 1)),
+              length-append (plan_of n (pair_at bytes k)) (plan_from n bytes (k + 1)),
               ap length (from_next n bytes k (omega (arith, a.all))),
             ));
-        once-most = omega (arith, once-sum, a.once-most, f.once-most);
-        each-most = omega (arith, each-sum, a.each-most, f.each-most);
+        once_most = omega (arith, once_sum, a.once_most, f.once_most);
+        each-most = omega (arith, each_sum, a.each-most, f.each-most);
       }
     where
-      once-sum : (shares + share) % each ≡ shares % each + share % each
-      once-sum = omega (arith, a.short, a.all, a.within, a.once-most, f.once-most)
+      once_sum : (shares + share) % each ≡ shares % each + share % each
+      once_sum = omega (arith, a.short, a.all, a.within, a.once_most, f.once_most)
 
-      each-sum : (shares + share) / each ≡ shares / each + share / each
-      each-sum = omega (arith, a.short, a.all, a.within, a.once-most, f.once-most)
+      each_sum : (shares + share) / each ≡ shares / each + share / each
+      each_sum = omega (arith, a.short, a.all, a.within, a.once_most, f.once_most)
 
   -- what is made for each thread, at most 200
-  pub counting-each : shares / each * n ≤ 2 * mostThreads * k
-  counting-each = omega (arith, mul-le-mul_left (shares / each) a.few, a.each-most)
+  pub counting_each : shares / each * n ≤ 2 * most_threads * k
+  counting_each = omega (arith, mul-le-mul_left (shares / each) a.few, a.each-most)
 
   -- past the last event
-  pub counting-all : events ≤ k → movesByShares n shares ≡ length (plan n (pairsOf bytes))
-  counting-all l = omega (arith, a.total, ap length (from_end n bytes k (omega (arith, a.all))))
+  pub counting_all : events ≤ k → moves_by_shares n shares ≡ length (plan n (pairs_of bytes))
+  counting_all l = omega (arith, a.total, ap length (from_end n bytes k (omega (arith, a.all))))

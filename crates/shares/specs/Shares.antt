@@ -7,11 +7,11 @@ abbrev pub each : ℕ
 each = 2 ^ 32
 
 -- the moves of shares for n threads
-abbrev pub movesByShares : ℕ → ℕ → ℕ
-movesByShares n shares = shares % each + shares / each * n
+abbrev pub moves_by_shares : ℕ → ℕ → ℕ
+moves_by_shares n shares = shares % each + shares / each * n
 
 -- its plan's moves for any number of threads, few of either kind
 pub record ShareOf (event share : ℕ) : Type 0 where
-  pub whole : (n thread : ℕ) → movesByShares n share ≡ length (plan_of n (record { thread = thread; event = event }))
-  pub once-most : share % each ≤ 3
+  pub whole : (n thread : ℕ) → moves_by_shares n share ≡ length (plan_of n (record { thread = thread; event = event }))
+  pub once_most : share % each ≤ 3
   pub each-most : share / each ≤ 2

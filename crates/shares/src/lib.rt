@@ -1,8 +1,8 @@
 // How many moves the plan for a history makes, from the share of each event, without the plan.
 ghost use Rattle.std.specs.Prelude.{◌≡◌, length};
-ghost use Rattle.definitions.specs.Answers.{accepted, answerReply};
-ghost use Rattle.definitions.specs.PlainLock.{pairsOf, checkReply};
-ghost use Rattle.definitions.specs.Plan.{plan, planLengthReply};
+ghost use Rattle.definitions.specs.Answers.{accepted, answer_reply};
+ghost use Rattle.definitions.specs.PlainLock.{pairs_of, check_reply};
+ghost use Rattle.definitions.specs.Plan.{plan, plan_length_reply};
 ghost use Rattle.shares.specs.Shares.{ShareOf};
 
 use definitions::Answer;
@@ -32,8 +32,8 @@ fn share_of(code: usize) -> u64
 // How many moves the plan for a history makes that the check accepts. A pass over the events' codes adds up their shares; the
 // product with N comes after it: in the loop it would be compiled to branches.
 pub fn count_moves(threads: u16, history: &[u8], events: usize) -> usize
-    requires { checkReply threads history.now ≡ accepted events }
-    ensures { result ≡ length (plan threads (pairsOf history.now)) }
+    requires { check_reply threads history.now ≡ accepted events }
+    ensures { result ≡ length (plan threads (pairs_of history.now)) }
 {
     let mut shares: u64 = 0;
     let mut k: usize = 0;
@@ -49,7 +49,7 @@ pub fn count_moves(threads: u16, history: &[u8], events: usize) -> usize
 
 // How many moves the plan for a history makes, without the plan. Refusals and places are the check's.
 pub fn plan_length(threads: u16, history: &[u8]) -> Answer
-    ensures { answerReply result ≡ planLengthReply threads history.now }
+    ensures { answer_reply result ≡ plan_length_reply threads history.now }
 {
     let answer = history::check(threads, history);
     let Answer::Done(events) = answer else {

@@ -1,9 +1,9 @@
 // All short histories, one after the other (02 §9): the first one of a length, and the next one after a given one. The next one
 // keeps the pairs before the last one that can be raised, raises that, and goes on with the least pair that fits each time.
 ghost use Rattle.std.specs.Prelude.{◌≡◌, length};
-ghost use Rattle.definitions.specs.Answers.{answerReply, answered};
-ghost use Rattle.definitions.specs.PlainLock.{pairsOf, formTests};
-ghost use Rattle.definitions.specs.ShortHistories.{isListed, firstEntry, nextEntry, nextReply};
+ghost use Rattle.definitions.specs.Answers.{answer_reply, answered};
+ghost use Rattle.definitions.specs.PlainLock.{pairs_of, form_tests};
+ghost use Rattle.definitions.specs.ShortHistories.{is_listed, first_entry, next_entry, next_reply};
 ghost use Rattle.basics.specs.Outputs.{Delivered};
 ghost use Rattle.short_histories.specs.Given.{Shaped};
 
@@ -15,14 +15,14 @@ use raising::{Raise, last_raise};
 
 // Whether the histories of so many events for so many threads are listed.
 fn is_listed(threads: u16, events: usize) -> bool
-    ensures { result ≡ isListed threads events }
+    ensures { result ≡ is_listed threads events }
 {
     ((1 <= events) & (events <= MOST_LISTED_EVENTS as usize)) & (threads <= MOST_LISTED_THREADS)
 }
 
 // Refusals 1, 14 and 12; then the first history of so many events. It answers the number of bytes written.
 pub fn first_history(threads: u16, events: u16, out: &mut [u8]) -> Answer
-    ensures { Delivered (firstEntry threads events) out.old out.new (answerReply result) }
+    ensures { Delivered (first_entry threads events) out.old out.new (answer_reply result) }
 {
     let count = threads as usize;
     if !count_fits(count) {
@@ -46,7 +46,7 @@ pub fn first_history(threads: u16, events: u16, out: &mut [u8]) -> Answer
 // last one, or 12, or the next one.
 fn next_shaped(threads: u16, history: &[u8], events: usize, out: &mut [u8]) -> NextHistory
     requires { Shaped threads history.now events }
-    ensures { Delivered (nextEntry threads history.now) out.old out.new (nextReply result) }
+    ensures { Delivered (next_entry threads history.now) out.old out.new (next_reply result) }
 {
     if !is_listed(threads, events) {
         return NextHistory::Refused(Refusal::NotListed, 0);
@@ -70,7 +70,7 @@ fn next_shaped(threads: u16, history: &[u8], events: usize, out: &mut [u8]) -> N
 // The next history after a given one; its refusals are 1, 8, 14, 9 to 11 with the pair's index, and 12. It answers the number of
 // bytes written, or that the given one was the last.
 pub fn next_history(threads: u16, history: &[u8], out: &mut [u8]) -> NextHistory
-    ensures { Delivered (nextEntry threads history.now) out.old out.new (nextReply result) }
+    ensures { Delivered (next_entry threads history.now) out.old out.new (next_reply result) }
 {
     let formed = check_form(threads, history);
     match formed {

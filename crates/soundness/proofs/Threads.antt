@@ -8,30 +8,30 @@ use mathlib.Core.Logic.{⊎_elim}
 use mathlib.Core.Path.{◌≡◌, refl, sym, subst, ap, ◌∙◌}
 use borrow.Author.Tests.{eq-eqb, ne_eqb}
 use lib.Dec.{eqb, eqb-suc-suc}
-use Rattle.definitions.specs.Threads.{every, some, howMany}
-use Rattle.basics.proofs.Quantifiers.{every-same, howMany-at, howMany-most, some-howMany}
+use Rattle.definitions.specs.Threads.{every, some, how_many}
+use Rattle.basics.proofs.Quantifiers.{every-same, how_many_at_lem, how_many-most, some-how_many}
 
 -- the words as counts
-pub every-count : (n : ℕ) (f : ℕ → Bool) → every n f ≡ eqb (howMany n f) n
-unfolding every howMany
+pub every-count : (n : ℕ) (f : ℕ → Bool) → every n f ≡ eqb (how_many n f) n
+unfolding every how_many
 every-count zero f = refl
 every-count (suc n) f = more (f n) (every-count n f)
   where
-    more : (b : Bool) → every n f ≡ eqb (howMany n f) n → (every n f && b) ≡ eqb (howMany n f + cond b 1 0) (suc n)
+    more : (b : Bool) → every n f ≡ eqb (how_many n f) n → (every n f && b) ≡ eqb (how_many n f + cond b 1 0) (suc n)
     more true h = simp (and-true, add-one, eqb-suc-suc) h
-    more false h = simp (and-false, add-zero, ne_eqb (howMany n f) (suc n) (λ e. omega (arith, howMany-most f n)))
+    more false h = simp (and-false, add-zero, ne_eqb (how_many n f) (suc n) (λ e. omega (arith, how_many-most f n)))
 
-pub none-count : (n : ℕ) (f : ℕ → Bool) → every n (λ i. not (f i)) ≡ eqb (howMany n f) 0
-unfolding every howMany
-none-count zero f = refl
-none-count (suc n) f = more (f n) (none-count n f)
+pub none_count : (n : ℕ) (f : ℕ → Bool) → every n (λ i. not (f i)) ≡ eqb (how_many n f) 0
+unfolding every how_many
+none_count zero f = refl
+none_count (suc n) f = more (f n) (none_count n f)
   where
-    more : (b : Bool) → every n (λ i. not (f i)) ≡ eqb (howMany n f) 0 → (every n (λ i. not (f i)) && not b) ≡ eqb (howMany n f + cond b 1 0) 0
-    more true h = simp (and-false, ne_eqb (howMany n f + 1) 0 (λ e. omega arith))
+    more : (b : Bool) → every n (λ i. not (f i)) ≡ eqb (how_many n f) 0 → (every n (λ i. not (f i)) && not b) ≡ eqb (how_many n f + cond b 1 0) 0
+    more true h = simp (and-false, ne_eqb (how_many n f + 1) 0 (λ e. omega arith))
     more false h = simp (and-true, add-zero) h
 
-pub some-not-none : (n : ℕ) (f : ℕ → Bool) → some n f ≡ not (every n (λ i. not (f i)))
-some-not-none n f = some-howMany f n ∙ ap not (sym (none-count n f))
+pub some_not_none : (n : ℕ) (f : ℕ → Bool) → some n f ≡ not (every n (λ i. not (f i)))
+some_not_none n f = some-how_many f n ∙ ap not (sym (none_count n f))
 
 -- a count that grows past k, or by as much as k
 past : (a k : ℕ) (b : Bool) → k ≤ a → (eqb a k && not b) ≡ eqb (a + cond b 1 0) k
@@ -43,20 +43,20 @@ along a true = simp (add-one, eqb-suc-suc a 0)
 along a false = simp add-zero
 
 -- f holds of nobody but t, if of t at all
-pub except-count : (n : ℕ) (f : ℕ → Bool) (t : ℕ) → t < n
-    → every n (λ i. eqb i t || not (f i)) ≡ eqb (howMany n f) (cond (f t) 1 0)
-unfolding every howMany
-except-count zero f t l = absurd (not-suc-le-zero l)
-except-count (suc n) f t l = ⊎_elim (λ e. subst Claim (sym e) last) (λ b. earlier b (except-count n f t b)) (eq-or-lt_of_le (le_of_suc-le-suc l))
+pub except_count : (n : ℕ) (f : ℕ → Bool) (t : ℕ) → t < n
+    → every n (λ i. eqb i t || not (f i)) ≡ eqb (how_many n f) (cond (f t) 1 0)
+unfolding every how_many
+except_count zero f t l = absurd (not-suc-le-zero l)
+except_count (suc n) f t l = ⊎_elim (λ e. subst Claim (sym e) last) (λ b. earlier b (except_count n f t b)) (eq-or-lt_of_le (le_of_suc-le-suc l))
   where
     Claim : ℕ → Type 0
-    Claim k = (every n (λ i. eqb i k || not (f i)) && (eqb n k || not (f n))) ≡ eqb (howMany n f + cond (f n) 1 0) (cond (f k) 1 0)
+    Claim k = (every n (λ i. eqb i k || not (f i)) && (eqb n k || not (f n))) ≡ eqb (how_many n f + cond (f n) 1 0) (cond (f k) 1 0)
 
     last : Claim n
     last =
-        let before : every n (λ i. eqb i n || not (f i)) ≡ eqb (howMany n f) 0 =
-        every-same n _ _ (λ i b. ap (λ (x : Bool). x || not (f i)) (ne_eqb i n (λ e. omega arith))) ∙ none-count n f in
-        simp (eq-eqb n n refl, and-true, before) (along (howMany n f) (f n))
+        let before : every n (λ i. eqb i n || not (f i)) ≡ eqb (how_many n f) 0 =
+        every-same n _ _ (λ i b. ap (λ (x : Bool). x || not (f i)) (ne_eqb i n (λ e. omega arith))) ∙ none_count n f in
+        simp (eq-eqb n n refl, and-true, before) (along (how_many n f) (f n))
 
-    earlier : t < n → every n (λ i. eqb i t || not (f i)) ≡ eqb (howMany n f) (cond (f t) 1 0) → Claim t
-    earlier b h = simp (h, ne_eqb n t (λ e. omega arith)) (past (howMany n f) (cond (f t) 1 0) (f n) (howMany-at f n t b))
+    earlier : t < n → every n (λ i. eqb i t || not (f i)) ≡ eqb (how_many n f) (cond (f t) 1 0) → Claim t
+    earlier b h = simp (h, ne_eqb n t (λ e. omega arith)) (past (how_many n f) (cond (f t) 1 0) (f n) (how_many_at_lem f n t b))

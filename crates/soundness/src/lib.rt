@@ -2,7 +2,7 @@
 // rows, and the rules on it in the crate tallies.
 // It knows of no storage. proofs/OnePass.antt shows that it decides the rules of the definitions.
 ghost use Rattle.std.specs.Prelude.{◌≡◌};
-ghost use Rattle.soundness.specs.Pass.{soundBy, aimedAt};
+ghost use Rattle.soundness.specs.Pass.{sound_by, aimed_at};
 
 use definitions::{Head, NO_TARGET, Task};
 use tallies::{Tally, aim_fits, mutex_agrees, rest_fits, some_elsewhere};
@@ -16,7 +16,7 @@ pub enum Found {
 
 // The thread that the target names, and thread 0 where it names none, whose task is there too.
 pub fn aimed_at(head: Head) -> usize
-    ensures { result ≡ aimedAt head }
+    ensures { result ≡ aimed_at head }
 {
     let target = head.target as usize;
     if target < head.threads as usize {
@@ -27,7 +27,7 @@ pub fn aimed_at(head: Head) -> usize
 
 // The decision from a tally of all threads, the head, and the task that the target names.
 pub fn is_sound(t: Tally, head: Head, aim: Task) -> bool
-    ensures { result ≡ soundBy t head aim }
+    ensures { result ≡ sound_by t head aim }
 {
     let threads = head.threads as usize;
     if !(mutex_agrees(t, head.mutex) & some_elsewhere(t, threads)) {

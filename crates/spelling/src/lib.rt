@@ -1,6 +1,6 @@
 // The lines of a script as they are written, each with its line feed: how long they are, and the same put into an output.
 ghost use Rattle.std.specs.Prelude.{◌≡◌, length};
-ghost use Rattle.definitions.specs.Forms.{threadsLine, spelled};
+ghost use Rattle.definitions.specs.Forms.{threads_line, spelled};
 ghost use Rattle.definitions.specs.Moves.{ask};
 ghost use Rattle.definitions.specs.Scripts.{ended};
 ghost use Rattle.basics.specs.Outputs.{RoomAt, PutAt};
@@ -17,15 +17,15 @@ const AROUND_MOVE: u16 = 2;
 
 // `(threads N)`
 pub fn threads_length(threads: u16) -> u16
-    ensures { result ≡ length (ended (threadsLine threads)) }
+    ensures { result ≡ length (ended (threads_line threads)) }
 {
     let digits = decimal_length(threads as usize);
     AROUND_THREADS + digits as u16
 }
 
 pub fn put_threads(out: &mut [u8], at: usize, threads: u16) -> usize
-    requires { RoomAt out.old at (ended (threadsLine threads)) }
-    ensures { PutAt out.old at (ended (threadsLine threads)) out.new result }
+    requires { RoomAt out.old at (ended (threads_line threads)) }
+    ensures { PutAt out.old at (ended (threads_line threads)) out.new result }
 {
     put_around(out, at, b"(threads ", threads, b")\n")
 }

@@ -1,13 +1,13 @@
 // The steps that moves are made of, by value: what each writes and shows.
 ghost use Rattle.std.specs.Prelude.{◌≡◌};
 ghost use Rattle.definitions.specs.declared.Outcome.TheVariants.{Quiet, Shown};
-ghost use Rattle.steps.specs.Steps.{inPhase, unseenBy, passed, withMutex, aimedBy};
+ghost use Rattle.steps.specs.Steps.{in_phase, unseen_by, passed, with_mutex, aimed_by};
 
 use definitions::{Event, Head, Outcome, Task};
 use views::{Decided, View};
 
 fn in_phase(task: Task, phase: u8) -> Task
-    ensures { result ≡ inPhase task phase }
+    ensures { result ≡ in_phase task phase }
 {
     Task {
         phase,
@@ -18,7 +18,7 @@ fn in_phase(task: Task, phase: u8) -> Task
 
 // What a move that shows no event answers.
 fn unseen(retry: bool) -> Outcome
-    ensures { result ≡ unseenBy retry }
+    ensures { result ≡ unseen_by retry }
 {
     if retry {
         return Outcome::Retry;
@@ -28,7 +28,7 @@ fn unseen(retry: bool) -> Outcome
 
 // The mover goes to a phase without an event, in a move that is a retry or isn't.
 pub fn pass(v: View, phase: u8, retry: bool) -> Decided
-    ensures { result ≡ passed v phase (unseenBy retry) }
+    ensures { result ≡ passed v phase (unseen_by retry) }
 {
     let head = v.head;
     let was = v.mover;
@@ -81,7 +81,7 @@ pub fn set_busy(v: View, phase: u8, busy: u8) -> Decided
 
 // To a phase, with a value for the mutex.
 pub fn set_mutex(v: View, phase: u8, mutex: u8, retry: bool) -> Decided
-    ensures { result ≡ withMutex v phase mutex (unseenBy retry) }
+    ensures { result ≡ with_mutex v phase mutex (unseen_by retry) }
 {
     let was = v.head;
     let task = v.mover;
@@ -103,7 +103,7 @@ pub fn set_mutex(v: View, phase: u8, mutex: u8, retry: bool) -> Decided
 
 // To a phase, with values for the target and the subject's forbidden.
 pub fn aim(v: View, phase: u8, target: u8, forbidden: u8, retry: bool) -> Decided
-    ensures { result ≡ aimedBy v phase target forbidden (unseenBy retry) }
+    ensures { result ≡ aimed_by v phase target forbidden (unseen_by retry) }
 {
     let was = v.head;
     let task = v.mover;

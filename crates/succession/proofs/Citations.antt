@@ -7,11 +7,11 @@ pub all_short : AllShort
 all_short =
     record {
       all_listed = listing.all_listed;
-      first-room = listing.first-room;
+      first_room = listing.first_room;
       next-room = listing.next-room;
       next-least = listing.next-least;
-      last-exactly = listing.last-exactly;
+      last_exactly = listing.last_exactly;
       never_stuck = lock.never_stuck;
-      begins-longer = lock.begins-longer;
+      begins_longer = lock.begins_longer;
       beginning = lock.beginning;
     }

@@ -1,7 +1,7 @@
 // A fresh table: "A fresh table has mutex 0, target 255, all else 0."
 ghost use Rattle.std.specs.Prelude.{◌≤◌, ◌≡◌, length};
-ghost use Rattle.definitions.specs.Answers.{answerReply, filled};
-ghost use Rattle.definitions.specs.Table.{size, fresh, freshEntry};
+ghost use Rattle.definitions.specs.Answers.{answer_reply, filled};
+ghost use Rattle.definitions.specs.Table.{size, fresh, fresh_entry};
 ghost use Rattle.basics.specs.Outputs.{Delivered};
 
 use codes::count_fits;
@@ -22,7 +22,7 @@ fn write_fresh(threads: u8, bytes: usize, out: &mut [u8])
 
 // A fresh table for N threads. Its size is answered.
 pub fn fresh(threads: u16, out: &mut [u8]) -> Answer
-    ensures { Delivered (freshEntry threads) out.old out.new (answerReply result) }
+    ensures { Delivered (fresh_entry threads) out.old out.new (answer_reply result) }
 {
     let count = threads as usize;
     if !count_fits(count) {

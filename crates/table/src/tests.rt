@@ -4,7 +4,7 @@ ghost use Rattle.definitions.specs.Table.{table_of, sized};
 ghost use Rattle.soundness.specs.Pass.{passes};
 ghost use Rattle.soundness.specs.declared.Found.TheVariants.{Good};
 ghost use Rattle.theory.specs.Tables.{Sized};
-ghost use Rattle.table.specs.TableTests.{examinedOf};
+ghost use Rattle.table.specs.TableTests.{examined_of};
 
 use codes::count_fits;
 use definitions::Refusal;
@@ -42,7 +42,7 @@ fn decided(table: &[u8], t: Tally) -> bool
 }
 
 pub fn examine(table: &[u8]) -> Examined
-    ensures { result ≡ examinedOf table.now }
+    ensures { result ≡ examined_of table.now }
 {
     if !size_fits(table) {
         return Examined::Refused(Refusal::BadSize);

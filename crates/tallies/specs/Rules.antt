@@ -6,20 +6,20 @@ use Rattle.definitions.specs.declared.Task.{Task}
 use Rattle.tallies.specs.declared.Tally.{Tally}
 
 -- "the mutex is 1 exactly if there is one"
-abbrev pub mutexAgrees : Tally → ℕ → Bool
-mutexAgrees t mutex = eqb mutex 1 && not (eqb t.holder 0) || eqb mutex 0 && not (not (eqb t.holder 0))
+abbrev pub mutex_agrees : Tally → ℕ → Bool
+mutex_agrees t mutex = eqb mutex 1 && not (eqb t.holder 0) || eqb mutex 0 && not (not (eqb t.holder 0))
 
 -- "not every thread is in phases 3, 4 and 18" (02 §6)
-abbrev pub someElsewhere : Tally → ℕ → Bool
-someElsewhere t n = ltb t.backed_off n
+abbrev pub some_elsewhere : Tally → ℕ → Bool
+some_elsewhere t n = ltb t.backed_off n
 
 -- a holder in 11 or 12: the target's forbidden is 1, and "no thread with forbidden 1, the target excepted, is in 5 to 7."
-unfoldable pub aimFits : Tally → Task → Bool
-aimFits t aim = eqb aim.forbidden 1 && eqb t.readers (cond (reading aim.phase) 1 0)
+unfoldable pub aim_fits : Tally → Task → Bool
+aim_fits t aim = eqb aim.forbidden 1 && eqb t.readers (cond (reading aim.phase) 1 0)
 
 -- the rules for no holder, or one in another phase
-unfoldable pub restFits : Tally → ℕ → Bool
-restFits t n =
+unfoldable pub rest_fits : Tally → ℕ → Bool
+rest_fits t n =
     -- "none, or 16: every forbidden is 0.", and in 18
     cond (eqb t.holder 0 || opened t.holder)
     (eqb t.forbidden 0)

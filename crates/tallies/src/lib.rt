@@ -1,6 +1,6 @@
 // What one pass finds of the threads, and the rules of soundness that speak of it, each by itself.
 ghost use Rattle.std.specs.Prelude.{◌≡◌};
-ghost use Rattle.tallies.specs.Rules.{mutexAgrees, someElsewhere, aimFits, restFits};
+ghost use Rattle.tallies.specs.Rules.{mutex_agrees, some_elsewhere, aim_fits, rest_fits};
 
 use definitions::Task;
 
@@ -20,7 +20,7 @@ pub struct Tally {
 
 // "the mutex is 1 exactly if there is one"
 pub fn mutex_agrees(t: Tally, mutex: u8) -> bool
-    ensures { result ≡ mutexAgrees t mutex }
+    ensures { result ≡ mutex_agrees t mutex }
 {
     let taken = t.holder != 0;
     ((mutex == 1) & taken) | ((mutex == 0) & !taken)
@@ -28,14 +28,14 @@ pub fn mutex_agrees(t: Tally, mutex: u8) -> bool
 
 // "not every thread is in phases 3, 4 and 18" (02 §6)
 pub fn some_elsewhere(t: Tally, threads: usize) -> bool
-    ensures { result ≡ someElsewhere t threads }
+    ensures { result ≡ some_elsewhere t threads }
 {
     t.backed_off < threads
 }
 
 // The rules for a holder in 11 or 12, from the target's task.
 pub fn aim_fits(t: Tally, aim: Task) -> bool
-    ensures { result ≡ aimFits t aim }
+    ensures { result ≡ aim_fits t aim }
 {
     let reading = (5 <= aim.phase) & (aim.phase <= 7);
     (aim.forbidden == 1) & (t.readers == reading as usize)
@@ -43,7 +43,7 @@ pub fn aim_fits(t: Tally, aim: Task) -> bool
 
 // The rules for no holder, or one in another phase.
 pub fn rest_fits(t: Tally, threads: usize) -> bool
-    ensures { result ≡ restFits t threads }
+    ensures { result ≡ rest_fits t threads }
 {
     let h = t.holder;
     let clear = t.forbidden == 0;

@@ -1,7 +1,7 @@
 // Text put into a lent output: each function that writes puts its text at a position and answers the position behind it.
 // `deliver` writes a whole text, or nothing where it has no room.
 ghost use Rattle.std.specs.Prelude.{[], ◌∷◌};
-ghost use Rattle.definitions.specs.Answers.{answerReply, counted};
+ghost use Rattle.definitions.specs.Answers.{answer_reply, counted};
 ghost use Rattle.basics.specs.Outputs.{RoomAt, PutAt, Delivered};
 
 use definitions::{Answer, Refusal};
@@ -31,7 +31,7 @@ pub fn put_text(out: &mut [u8], at: usize, text: &[u8]) -> usize
 
 // A text written whole or not at all.
 pub fn deliver(text: &[u8], out: &mut [u8]) -> Answer
-    ensures { Delivered (counted [] text.now) out.old out.new (answerReply result) }
+    ensures { Delivered (counted [] text.now) out.old out.new (answer_reply result) }
 {
     if out.len() < text.len() {
         return Answer::Refused(Refusal::NoRoom, 0);

@@ -1,4 +1,4 @@
--- The byte table is a storage that keeps what is written (`byte-keeps`); its size as numbers; its bytes, which the table determines (`same_bytes`); and the fresh table's bytes.
+-- The byte table is a storage that keeps what is written (`byte_keeps`); its size as numbers; its bytes, which the table determines (`same_bytes`); and the fresh table's bytes.
 use Prim.Native.Nat.{ℕ, zero, suc, ◌+◌, ◌*◌, ◌≤◌, ◌<◌}
 use native.Mathlib.Omega.{arith}
 use mathlib.Core.List.{List, [], ◌∷◌}
@@ -7,12 +7,12 @@ use mathlib.Core.Path.{◌≡◌, refl, sym, subst, ap, ◌∙◌, fun_ext}
 use lib.Dec.{T, leb, eqb, leb→le, le→leb, eqb→eq}
 use lib.ListN.{length, get_or, set, length-set, length-replicate, get_or-eq_default}
 use lib.Seq.{get_or-set_same, get_or-set_other, ext_get_or}
-use Rattle.definitions.specs.Bounds.{mostThreads}
-use Rattle.definitions.specs.Table.{Table, countFits, freshTable, Write, mutex≔, target≔, phase≔, busy≔, forbidden≔, update, appliedOne}
-use Rattle.definitions.specs.Table.{applied, size, phaseAt, busyAt, forbiddenAt, table_of, sized, storedOne, stored, byteTable, fresh}
+use Rattle.definitions.specs.Bounds.{most_threads}
+use Rattle.definitions.specs.Table.{Table, count_fits, fresh_table, Write, mutex≔, target≔, phase≔, busy≔, forbidden≔, update, applied_one}
+use Rattle.definitions.specs.Table.{applied, size, phase_at, busy_at, forbidden_at, table_of, sized, stored_one, stored, byte_table, fresh}
 use Rattle.theory.specs.Tables.{Sized, WriteFits, WritesFit, Keeps}
 use Rattle.basics.proofs.Lists.{zeros}
-use Rattle.basics.proofs.Tests.{and_l, and_r, and_i, eq-T, same?}
+use Rattle.basics.proofs.Tests.{and_l, and_r, and_i, eq_T, same?}
 use Rattle.basics.proofs.Columns.{update_same, update_other}
 use Rattle.theory.proofs.Writes.{same-table, applied-threads, applied-keeps}
 
@@ -36,54 +36,54 @@ written bytes at i v apart fits = fun_ext (λ j. go j (same? j i))
 unwritten : (bytes : List ℕ) (at : ℕ → ℕ) (p v : ℕ) → ((j : ℕ) → at j ≡ p → ⊥) → column (set bytes p v) at ≡ column bytes at
 unwritten bytes at p v apart = fun_ext (λ j. get_or-set_other bytes p (at j) v 0 (apart j))
 
-pub write_same : (bytes : List ℕ) (w : Write) → length bytes ≡ size (get_or bytes 0 0) → WriteFits (get_or bytes 0 0) w → table_of (storedOne bytes w) ≡ appliedOne (table_of bytes) w
+pub write_same : (bytes : List ℕ) (w : Write) → length bytes ≡ size (get_or bytes 0 0) → WriteFits (get_or bytes 0 0) w → table_of (stored_one bytes w) ≡ applied_one (table_of bytes) w
 write_same bytes (mutex≔ v) len fit =
     same-table _ _
     (get_or-set_other bytes 1 0 v 0 (λ e. omega arith))
     (get_or-set_same bytes 1 v 0 (omega arith))
     (get_or-set_other bytes 1 2 v 0 (λ e. omega arith))
-    (unwritten bytes phaseAt 1 v (λ j e. omega arith))
-    (unwritten bytes busyAt 1 v (λ j e. omega arith))
-    (unwritten bytes forbiddenAt 1 v (λ j e. omega arith))
+    (unwritten bytes phase_at 1 v (λ j e. omega arith))
+    (unwritten bytes busy_at 1 v (λ j e. omega arith))
+    (unwritten bytes forbidden_at 1 v (λ j e. omega arith))
 write_same bytes (target≔ v) len fit =
     same-table _ _
     (get_or-set_other bytes 2 0 v 0 (λ e. omega arith))
     (get_or-set_other bytes 2 1 v 0 (λ e. omega arith))
     (get_or-set_same bytes 2 v 0 (omega arith))
-    (unwritten bytes phaseAt 2 v (λ j e. omega arith))
-    (unwritten bytes busyAt 2 v (λ j e. omega arith))
-    (unwritten bytes forbiddenAt 2 v (λ j e. omega arith))
+    (unwritten bytes phase_at 2 v (λ j e. omega arith))
+    (unwritten bytes busy_at 2 v (λ j e. omega arith))
+    (unwritten bytes forbidden_at 2 v (λ j e. omega arith))
 write_same bytes (phase≔ i v) len fit =
     same-table _ _
-    (get_or-set_other bytes (phaseAt i) 0 v 0 (λ e. omega arith))
-    (get_or-set_other bytes (phaseAt i) 1 v 0 (λ e. omega arith))
-    (get_or-set_other bytes (phaseAt i) 2 v 0 (λ e. omega arith))
-    (written bytes phaseAt i v (λ j h e. h (omega arith)) (omega arith))
-    (unwritten bytes busyAt (phaseAt i) v (λ j e. omega arith))
-    (unwritten bytes forbiddenAt (phaseAt i) v (λ j e. omega arith))
+    (get_or-set_other bytes (phase_at i) 0 v 0 (λ e. omega arith))
+    (get_or-set_other bytes (phase_at i) 1 v 0 (λ e. omega arith))
+    (get_or-set_other bytes (phase_at i) 2 v 0 (λ e. omega arith))
+    (written bytes phase_at i v (λ j h e. h (omega arith)) (omega arith))
+    (unwritten bytes busy_at (phase_at i) v (λ j e. omega arith))
+    (unwritten bytes forbidden_at (phase_at i) v (λ j e. omega arith))
 write_same bytes (busy≔ i v) len fit =
     same-table _ _
-    (get_or-set_other bytes (busyAt i) 0 v 0 (λ e. omega arith))
-    (get_or-set_other bytes (busyAt i) 1 v 0 (λ e. omega arith))
-    (get_or-set_other bytes (busyAt i) 2 v 0 (λ e. omega arith))
-    (unwritten bytes phaseAt (busyAt i) v (λ j e. omega arith))
-    (written bytes busyAt i v (λ j h e. h (omega arith)) (omega arith))
-    (unwritten bytes forbiddenAt (busyAt i) v (λ j e. omega arith))
+    (get_or-set_other bytes (busy_at i) 0 v 0 (λ e. omega arith))
+    (get_or-set_other bytes (busy_at i) 1 v 0 (λ e. omega arith))
+    (get_or-set_other bytes (busy_at i) 2 v 0 (λ e. omega arith))
+    (unwritten bytes phase_at (busy_at i) v (λ j e. omega arith))
+    (written bytes busy_at i v (λ j h e. h (omega arith)) (omega arith))
+    (unwritten bytes forbidden_at (busy_at i) v (λ j e. omega arith))
 write_same bytes (forbidden≔ i v) len fit =
     same-table _ _
-    (get_or-set_other bytes (forbiddenAt i) 0 v 0 (λ e. omega arith))
-    (get_or-set_other bytes (forbiddenAt i) 1 v 0 (λ e. omega arith))
-    (get_or-set_other bytes (forbiddenAt i) 2 v 0 (λ e. omega arith))
-    (unwritten bytes phaseAt (forbiddenAt i) v (λ j e. omega arith))
-    (unwritten bytes busyAt (forbiddenAt i) v (λ j e. omega arith))
-    (written bytes forbiddenAt i v (λ j h e. h (omega arith)) (omega arith))
+    (get_or-set_other bytes (forbidden_at i) 0 v 0 (λ e. omega arith))
+    (get_or-set_other bytes (forbidden_at i) 1 v 0 (λ e. omega arith))
+    (get_or-set_other bytes (forbidden_at i) 2 v 0 (λ e. omega arith))
+    (unwritten bytes phase_at (forbidden_at i) v (λ j e. omega arith))
+    (unwritten bytes busy_at (forbidden_at i) v (λ j e. omega arith))
+    (written bytes forbidden_at i v (λ j h e. h (omega arith)) (omega arith))
 
-write-length : (bytes : List ℕ) (w : Write) → length (storedOne bytes w) ≡ length bytes
+write-length : (bytes : List ℕ) (w : Write) → length (stored_one bytes w) ≡ length bytes
 write-length bytes (mutex≔ v) = length-set bytes 1 v
 write-length bytes (target≔ v) = length-set bytes 2 v
-write-length bytes (phase≔ i v) = length-set bytes (phaseAt i) v
-write-length bytes (busy≔ i v) = length-set bytes (busyAt i) v
-write-length bytes (forbidden≔ i v) = length-set bytes (forbiddenAt i) v
+write-length bytes (phase≔ i v) = length-set bytes (phase_at i) v
+write-length bytes (busy≔ i v) = length-set bytes (busy_at i) v
+write-length bytes (forbidden≔ i v) = length-set bytes (forbidden_at i) v
 
 -- ---- a list of writes
 
@@ -93,48 +93,48 @@ unfolding stored
 stored_same bytes [] len fit = refl
 stored_same bytes (w ∷ ws) len fit =
     let here = write_same bytes w len fit.0 in
-    let n : get_or (storedOne bytes w) 0 0 ≡ get_or bytes 0 0 = ap (λ (t : Table). t.threads) here ∙ applied-threads (table_of bytes) w in
-    stored_same (storedOne bytes w) ws (write-length bytes w ∙ (len ∙ ap size (sym n))) (subst (λ (k : ℕ). WritesFit k ws) (sym n) fit.1)
+    let n : get_or (stored_one bytes w) 0 0 ≡ get_or bytes 0 0 = ap (λ (t : Table). t.threads) here ∙ applied-threads (table_of bytes) w in
+    stored_same (stored_one bytes w) ws (write-length bytes w ∙ (len ∙ ap size (sym n))) (subst (λ (k : ℕ). WritesFit k ws) (sym n) fit.1)
     ∙ ap (λ (t : Table). applied t ws) here
 
 pub stored-length : (bytes : List ℕ) (ws : List Write) → length (stored bytes ws) ≡ length bytes
 unfolding stored
 stored-length bytes [] = refl
-stored-length bytes (w ∷ ws) = stored-length (storedOne bytes w) ws ∙ write-length bytes w
+stored-length bytes (w ∷ ws) = stored-length (stored_one bytes w) ws ∙ write-length bytes w
 
 -- ---- the size
 
-pub sized-e : (bytes : List ℕ) → T (sized bytes) → Sized bytes
+pub sized_e : (bytes : List ℕ) → T (sized bytes) → Sized bytes
 unfolding sized
-sized-e bytes t =
+sized_e bytes t =
     let n = get_or bytes 0 0 in
-    let a = and_l (countFits n) (eqb (length bytes) (size n)) t in
+    let a = and_l (count_fits n) (eqb (length bytes) (size n)) t in
     record {
-      least = leb→le 1 n (and_l (leb 1 n) (leb n mostThreads) a);
-      most = leb→le n mostThreads (and_r (leb 1 n) (leb n mostThreads) a);
-      long = eqb→eq (length bytes) (size n) (and_r (countFits n) (eqb (length bytes) (size n)) t);
+      least = leb→le 1 n (and_l (leb 1 n) (leb n most_threads) a);
+      most = leb→le n most_threads (and_r (leb 1 n) (leb n most_threads) a);
+      long = eqb→eq (length bytes) (size n) (and_r (count_fits n) (eqb (length bytes) (size n)) t);
     }
 
-pub sized-i : (bytes : List ℕ) → Sized bytes → T (sized bytes)
+pub sized_i : (bytes : List ℕ) → Sized bytes → T (sized bytes)
 unfolding sized
-sized-i bytes z =
+sized_i bytes z =
     let n = get_or bytes 0 0 in
-    and_i (countFits n) (eqb (length bytes) (size n)) (and_i (leb 1 n) (leb n mostThreads) (le→leb 1 n z.least) (le→leb n mostThreads z.most))
-    (eq-T (length bytes) (size n) z.long)
+    and_i (count_fits n) (eqb (length bytes) (size n)) (and_i (leb 1 n) (leb n most_threads) (le→leb 1 n z.least) (le→leb n most_threads z.most))
+    (eq_T (length bytes) (size n) z.long)
 
-pub byte-keeps : Keeps byteTable
-byte-keeps =
+pub byte_keeps : Keeps byte_table
+byte_keeps =
     record {
       fits = λ bytes ws z f.
-          let old = sized-e bytes z in
+          let old = sized_e bytes z in
           let n : get_or (stored bytes ws) 0 0 ≡ get_or bytes 0 0 = ap (λ (s : Table). s.threads) (stored_same bytes ws old.long f) ∙ applied-keeps (table_of bytes) ws in
-          sized-i (stored bytes ws)
+          sized_i (stored bytes ws)
           record {
             least = subst (λ (k : ℕ). 1 ≤ k) (sym n) old.least;
-            most = subst (λ (k : ℕ). k ≤ mostThreads) (sym n) old.most;
+            most = subst (λ (k : ℕ). k ≤ most_threads) (sym n) old.most;
             long = stored-length bytes ws ∙ (old.long ∙ ap size (sym n));
           };
-      writes = λ bytes ws z f. stored_same bytes ws (sized-e bytes z).long f;
+      writes = λ bytes ws z f. stored_same bytes ws (sized_e bytes z).long f;
     }
 
 -- ---- the bytes of a table
@@ -159,24 +159,24 @@ third_of (suc (suc (suc k))) = by (third_of k)
 -- bytes of the right size are determined by the table that is read off them
 pub same_bytes : (a b : List ℕ) → T (sized a) → T (sized b) → table_of a ≡ table_of b → a ≡ b
 same_bytes a b fits fits' e =
-    ext_get_or 0 a b ((sized-e a fits).long ∙ (ap (λ (t : Table). size t.threads) e ∙ sym (sized-e b fits').long)) (λ k l. by k (third_of k))
+    ext_get_or 0 a b ((sized_e a fits).long ∙ (ap (λ (t : Table). size t.threads) e ∙ sym (sized_e b fits').long)) (λ k l. by k (third_of k))
   where
     at : (k j : ℕ) → k ≡ j → get_or a j 0 ≡ get_or b j 0 → get_or a k 0 ≡ get_or b k 0
     at k j q same = ap (λ (x : ℕ). get_or a x 0) q ∙ (same ∙ sym (ap (λ (x : ℕ). get_or b x 0) q))
 
     by : (k : ℕ) → Third k → get_or a k 0 ≡ get_or b k 0
     by k (first zero q) = at k 0 q (ap (λ (t : Table). t.threads) e)
-    by k (first (suc i) q) = at k (phaseAt i) (omega arith) (ap (λ (t : Table). t.phase i) e)
+    by k (first (suc i) q) = at k (phase_at i) (omega arith) (ap (λ (t : Table). t.phase i) e)
     by k (second zero q) = at k 1 q (ap (λ (t : Table). t.mutex) e)
-    by k (second (suc i) q) = at k (busyAt i) (omega arith) (ap (λ (t : Table). t.busy i) e)
+    by k (second (suc i) q) = at k (busy_at i) (omega arith) (ap (λ (t : Table). t.busy i) e)
     by k (third zero q) = at k 2 q (ap (λ (t : Table). t.target) e)
-    by k (third (suc i) q) = at k (forbiddenAt i) (omega arith) (ap (λ (t : Table). t.forbidden i) e)
+    by k (third (suc i) q) = at k (forbidden_at i) (omega arith) (ap (λ (t : Table). t.forbidden i) e)
 
 -- and nothing stands beyond its threads
-pub blank-beyond : (bytes : List ℕ) → T (sized bytes) → (j : ℕ) → (table_of bytes).threads ≤ j
+pub blank_beyond : (bytes : List ℕ) → T (sized bytes) → (j : ℕ) → (table_of bytes).threads ≤ j
     → ((table_of bytes).phase j ≡ 0) × ((table_of bytes).busy j ≡ 0) × ((table_of bytes).forbidden j ≡ 0)
-blank-beyond bytes fits j l =
-    let long = (sized-e bytes fits).long in (
+blank_beyond bytes fits j l =
+    let long = (sized_e bytes fits).long in (
       get_or-eq_default bytes 0 (omega arith),
       get_or-eq_default bytes 0 (omega arith),
       get_or-eq_default bytes 0 (omega arith),
@@ -191,19 +191,19 @@ below n at m e = fun_ext (λ j. ap (λ (k : ℕ). get_or (fresh n) k 0) (e j ∙
     shift : (j : ℕ) → 3 + m + 3 * j ≡ suc (suc (suc (m + 3 * j)))
     shift j = omega arith
 
-pub fresh-table : (n : ℕ) → table_of (fresh n) ≡ freshTable n
+pub fresh-table : (n : ℕ) → table_of (fresh n) ≡ fresh_table n
 unfolding fresh
 fresh-table n =
     same-table _ _ refl refl refl
-    (below n phaseAt 0 (λ j. omega arith))
-    (below n busyAt 1 (λ j. omega arith))
-    (below n forbiddenAt 2 (λ j. omega arith))
+    (below n phase_at 0 (λ j. omega arith))
+    (below n busy_at 1 (λ j. omega arith))
+    (below n forbidden_at 2 (λ j. omega arith))
 
-pub fresh-sized : (n : ℕ) → 1 ≤ n → n ≤ mostThreads → T (sized (fresh n))
+pub fresh-sized : (n : ℕ) → 1 ≤ n → n ≤ most_threads → T (sized (fresh n))
 unfolding fresh sized
 fresh-sized n least most =
-    and_i (countFits n) _ (and_i (leb 1 n) (leb n mostThreads) (le→leb 1 n least) (le→leb n mostThreads most))
-    (eq-T _ _ (ap (λ (k : ℕ). suc (suc (suc k))) (length-replicate (3 * n) 0) ∙ long))
+    and_i (count_fits n) _ (and_i (leb 1 n) (leb n most_threads) (le→leb 1 n least) (le→leb n most_threads most))
+    (eq_T _ _ (ap (λ (k : ℕ). suc (suc (suc k))) (length-replicate (3 * n) 0) ∙ long))
   where
     long : suc (suc (suc (3 * n))) ≡ size n
     long = omega arith

@@ -3,7 +3,7 @@ use Rattle.definitions.specs.Table.{table_of}
 use Rattle.theory.specs.TableEntries.{TableEntries}
 use Rattle.theory.specs.EachMove.{EachMove}
 use Rattle.theory.specs.PlanCounted.{PlanCounted}
-use Rattle.theory.proofs.Bytes.{byte-keeps}
+use Rattle.theory.proofs.Bytes.{byte_keeps}
 use Rattle.theory.proofs.Discipline as discipline
 use Rattle.theory.proofs.Figure1 as figure
 use Rattle.theory.proofs.NodesSeen as seen
@@ -17,40 +17,40 @@ pub table-entries : TableEntries
 table-entries =
     record {
       refused-keeps = kept.refused-keeps;
-      fresh-room = rooms.fresh-exactly;
-      nodes-room = rooms.nodes-exactly;
-      open-room = λ table thread. exact.open-short (table_of table) thread;
+      fresh-room = rooms.fresh_exactly;
+      nodes-room = rooms.nodes_exactly;
+      open_room = λ table thread. exact.open_short (table_of table) thread;
     }
 
 pub each-move : EachMove
 each-move =
     record {
-      bytes-keep = byte-keeps;
-      storage-reply = λ S. storages.reply-same S;
-      storage-step = λ S. storages.table_step S;
-      storage-history = λ S. storages.history-same S;
+      bytes-keep = byte_keeps;
+      storage_reply = λ S. storages.reply-same S;
+      storage_step = λ S. storages.table_step S;
+      storage_history = λ S. storages.history-same S;
       fresh-sound = kept.fresh-table-sound;
-      fresh-free = seen.fresh-free;
+      fresh_free = seen.fresh_free;
       sound-kept = kept.sound-kept;
       accepted-sound = kept.accepted-sound;
-      exclusive-alone = seen.exclusive-alone;
-      figure-1 = figure.figure-1;
+      exclusive_alone = seen.exclusive_alone;
+      figure_1 = figure.figure_1;
       kept-quiet = seen.kept-quiet;
       discipline = discipline.discipline;
       disciplined = discipline.disciplined;
       mutex-turned = discipline.mutex-turned;
       reader-writes = discipline.reader-writes;
-      reader-local = discipline.reader-local;
-      reader-at-mutex = discipline.at-mutex-turned;
-      open-paired = λ table thread. exact.open-paired (table_of table) thread;
-      open-exact = λ table thread. exact.open-exact (table_of table) thread;
+      reader_local = discipline.reader_local;
+      reader_at_mutex = discipline.at_mutex_turned;
+      open_paired = λ table thread. exact.open_paired (table_of table) thread;
+      open_exact = λ table thread. exact.open_exact (table_of table) thread;
     }
 
 pub plan-counted : PlanCounted
 plan-counted =
     record {
       length-same = count.same_count;
-      length-enough = count.enough;
+      length_enough = count.enough;
       length-short = count.too_short;
-      length-refused = count.refused-alike;
+      length-refused = count.refused_alike;
     }

@@ -8,24 +8,24 @@ use mathlib.Core.List.{List, [], ◌∷◌, ◌++◌}
 use mathlib.Core.Logic.{◌⊎◌, inl, inr}
 use mathlib.Core.Path.{◌≡◌, refl, sym, subst, ap, ◌∙◌}
 use lib.Dec.{T}
-use Rattle.definitions.specs.Answers.{Reply, accepted, isAccepted, leaves, MoveAnswer, test, answered}
-use Rattle.definitions.specs.Chains.{pairFor, retryFor, historyIn, afterIn, retriesIn, acceptsAllIn}
-use Rattle.definitions.specs.Moves.{effect, moveTests, moveAnswer, stepReply, step, accepts, replyIn, stepIn, acceptsIn}
+use Rattle.definitions.specs.Answers.{Reply, accepted, is_accepted, leaves, MoveAnswer, test, answered}
+use Rattle.definitions.specs.Chains.{pair_for, retry_for, history_in, after_in, retries_in, accepts_all_in}
+use Rattle.definitions.specs.Moves.{effect, move_tests, move_answer, step_reply, step, accepts, reply_in, step_in, accepts_in}
 use Rattle.definitions.specs.PlainLock.{Pair}
 use Rattle.definitions.specs.Table.{Table, applied, Storage, itself}
 use Rattle.definitions.specs.declared.Request.{Request}
 use Rattle.theory.specs.Tables.{Keeps}
-use Rattle.basics.proofs.Replies.{passed, all-passed, accepted-is, peel, leaves-yes, leaves-no}
-use Rattle.theory.proofs.MoveWrites.{writes-fit}
+use Rattle.basics.proofs.Replies.{passed, all-passed, accepted_is, peel, leaves-yes, leaves_no}
+use Rattle.theory.proofs.MoveWrites.{writes_fit}
 use Rattle.basics.proofs.Tests.{decided}
 
 -- the record's own step, as that of a storage
-own-reply : (s : Table) (r : Request) → replyIn itself s r ≡ stepReply s r
-unfolding replyIn stepReply answered
+own-reply : (s : Table) (r : Request) → reply_in itself s r ≡ step_reply s r
+unfolding reply_in step_reply answered
 own-reply s r = refl
 
-own-step : (s : Table) (r : Request) → stepIn itself s r ≡ step s r
-unfolding stepIn step replyIn stepReply answered
+own-step : (s : Table) (r : Request) → step_in itself s r ≡ step s r
+unfolding step_in step reply_in step_reply answered
 own-step s r = refl
 
 -- the record keeps what is written
@@ -36,100 +36,100 @@ module _ {B : Type 0} (S : Storage B) where
   -- ---- replies
 
   -- of what fits
-  pub reply-same : (b : B) (r : Request) → T (S.fits b) → replyIn S b r ≡ stepReply (S.table b) r
-  unfolding replyIn stepReply
-  reply-same b r t = passed (test 1 (S.fits b)) (moveTests (S.table b) r) (moveAnswer (S.table b) r) t
+  pub reply-same : (b : B) (r : Request) → T (S.fits b) → reply_in S b r ≡ step_reply (S.table b) r
+  unfolding reply_in step_reply
+  reply-same b r t = passed (test 1 (S.fits b)) (move_tests (S.table b) r) (move_answer (S.table b) r) t
 
   -- an accepted request is to what fits, and the record accepts it
-  pub accepts-e : (b : B) (r : Request) → T (acceptsIn S b r) → T (S.fits b) × T (accepts (S.table b) r)
-  unfolding replyIn stepReply
-  accepts-e b r t =
-      let tests = moveTests (S.table b) r in
-      let x = moveAnswer (S.table b) r in
-      let p = peel (test 1 (S.fits b)) tests (subst T (accepted-is x (test 1 (S.fits b) ∷ tests)) t) in
-      (p.0, subst T (sym (accepted-is x tests)) p.1)
+  pub accepts_e : (b : B) (r : Request) → T (accepts_in S b r) → T (S.fits b) × T (accepts (S.table b) r)
+  unfolding reply_in step_reply
+  accepts_e b r t =
+      let tests = move_tests (S.table b) r in
+      let x = move_answer (S.table b) r in
+      let p = peel (test 1 (S.fits b)) tests (subst T (accepted_is x (test 1 (S.fits b) ∷ tests)) t) in
+      (p.0, subst T (sym (accepted_is x tests)) p.1)
 
-  pub accepts-i : (b : B) (r : Request) → T (S.fits b) → T (accepts (S.table b) r) → T (acceptsIn S b r)
-  accepts-i b r f t = subst (λ (x : Reply MoveAnswer). T (isAccepted x)) (sym (reply-same b r f)) t
+  pub accepts_i : (b : B) (r : Request) → T (S.fits b) → T (accepts (S.table b) r) → T (accepts_in S b r)
+  accepts_i b r f t = subst (λ (x : Reply MoveAnswer). T (is_accepted x)) (sym (reply-same b r f)) t
 
   -- its reply is what the move shows, and whether it was a retry
-  pub accepted-reply : (b : B) (r : Request) → T (acceptsIn S b r) → replyIn S b r ≡ accepted (moveAnswer (S.table b) r)
-  unfolding replyIn
-  accepted-reply b r t = let x = moveAnswer (S.table b) r in all-passed x _ (subst T (accepted-is x _) t)
+  pub accepted-reply : (b : B) (r : Request) → T (accepts_in S b r) → reply_in S b r ≡ accepted (move_answer (S.table b) r)
+  unfolding reply_in
+  accepted-reply b r t = let x = move_answer (S.table b) r in all-passed x _ (subst T (accepted_is x _) t)
 
   -- ---- what a request leaves
 
   -- "Every lent byte stays"
-  pub refused-stays : (b : B) (r : Request) → T (not (acceptsIn S b r)) → stepIn S b r ≡ b
-  unfolding stepIn
-  refused-stays b r t = leaves-no (S.store b (effect (S.table b) r).writes) b (replyIn S b r) t
+  pub refused-stays : (b : B) (r : Request) → T (not (accepts_in S b r)) → step_in S b r ≡ b
+  unfolding step_in
+  refused-stays b r t = leaves_no (S.store b (effect (S.table b) r).writes) b (reply_in S b r) t
 
-  pub accepted-stores : (b : B) (r : Request) → T (acceptsIn S b r) → stepIn S b r ≡ S.store b (effect (S.table b) r).writes
-  unfolding stepIn
-  accepted-stores b r t = leaves-yes (S.store b (effect (S.table b) r).writes) b (replyIn S b r) t
+  pub accepted_stores : (b : B) (r : Request) → T (accepts_in S b r) → step_in S b r ≡ S.store b (effect (S.table b) r).writes
+  unfolding step_in
+  accepted_stores b r t = leaves-yes (S.store b (effect (S.table b) r).writes) b (reply_in S b r) t
 
   module _ (keeps : Keeps S) where
     -- the record after an accepted request
-    pub accepted-table : (b : B) (r : Request) → T (acceptsIn S b r) → S.table (stepIn S b r) ≡ applied (S.table b) (effect (S.table b) r).writes
+    pub accepted-table : (b : B) (r : Request) → T (accepts_in S b r) → S.table (step_in S b r) ≡ applied (S.table b) (effect (S.table b) r).writes
     accepted-table b r t =
-        let a = accepts-e b r t in
-        ap S.table (accepted-stores b r t) ∙ keeps.writes b (effect (S.table b) r).writes a.0 (writes-fit (S.table b) r a.1)
+        let a = accepts_e b r t in
+        ap S.table (accepted_stores b r t) ∙ keeps.writes b (effect (S.table b) r).writes a.0 (writes_fit (S.table b) r a.1)
 
-    pub table_step : (b : B) (r : Request) → T (S.fits b) → S.table (stepIn S b r) ≡ step (S.table b) r
+    pub table_step : (b : B) (r : Request) → T (S.fits b) → S.table (step_in S b r) ≡ step (S.table b) r
     unfolding step
-    table_step b r f = by (decided (acceptsIn S b r))
+    table_step b r f = by (decided (accepts_in S b r))
       where
         after : Table
         after = applied (S.table b) (effect (S.table b) r).writes
 
-        by : T (acceptsIn S b r) ⊎ T (not (acceptsIn S b r)) → S.table (stepIn S b r) ≡ leaves (stepReply (S.table b) r) after (S.table b)
-        by (inl t) = accepted-table b r t ∙ sym (leaves-yes after (S.table b) (stepReply (S.table b) r) (accepts-e b r t).1)
+        by : T (accepts_in S b r) ⊎ T (not (accepts_in S b r)) → S.table (step_in S b r) ≡ leaves (step_reply (S.table b) r) after (S.table b)
+        by (inl t) = accepted-table b r t ∙ sym (leaves-yes after (S.table b) (step_reply (S.table b) r) (accepts_e b r t).1)
         by (inr t) =
             ap S.table (refused-stays b r t)
-            ∙ sym (leaves-no after (S.table b) (stepReply (S.table b) r) (subst (λ (x : Reply MoveAnswer). T (not (isAccepted x))) (reply-same b r f) t))
+            ∙ sym (leaves_no after (S.table b) (step_reply (S.table b) r) (subst (λ (x : Reply MoveAnswer). T (not (is_accepted x))) (reply-same b r f) t))
 
-    pub fits-step : (b : B) (r : Request) → T (S.fits b) → T (S.fits (stepIn S b r))
-    fits-step b r f = by (decided (acceptsIn S b r))
+    pub fits-step : (b : B) (r : Request) → T (S.fits b) → T (S.fits (step_in S b r))
+    fits-step b r f = by (decided (accepts_in S b r))
       where
-        by : T (acceptsIn S b r) ⊎ T (not (acceptsIn S b r)) → T (S.fits (stepIn S b r))
+        by : T (accepts_in S b r) ⊎ T (not (accepts_in S b r)) → T (S.fits (step_in S b r))
         by (inl t) =
-            subst (λ (x : B). T (S.fits x)) (sym (accepted-stores b r t))
-            (keeps.fits b (effect (S.table b) r).writes f (writes-fit (S.table b) r (accepts-e b r t).1))
+            subst (λ (x : B). T (S.fits x)) (sym (accepted_stores b r t))
+            (keeps.fits b (effect (S.table b) r).writes f (writes_fit (S.table b) r (accepts_e b r t).1))
         by (inr t) = subst (λ (x : B). T (S.fits x)) (sym (refused-stays b r t)) f
 
     -- ---- lists of requests
 
-    next : (b : B) (r : Request) → T (S.fits b) → S.table (stepIn S b r) ≡ stepIn itself (S.table b) r
+    next : (b : B) (r : Request) → T (S.fits b) → S.table (step_in S b r) ≡ step_in itself (S.table b) r
     next b r f = table_step b r f ∙ sym (own-step (S.table b) r)
 
-    same-reply : (b : B) (r : Request) → T (S.fits b) → replyIn S b r ≡ replyIn itself (S.table b) r
+    same-reply : (b : B) (r : Request) → T (S.fits b) → reply_in S b r ≡ reply_in itself (S.table b) r
     same-reply b r f = reply-same b r f ∙ sym (own-reply (S.table b) r)
 
-    pub history-same : (b : B) (rs : List Request) → T (S.fits b) → historyIn S b rs ≡ historyIn itself (S.table b) rs
-    unfolding historyIn
+    pub history-same : (b : B) (rs : List Request) → T (S.fits b) → history_in S b rs ≡ history_in itself (S.table b) rs
+    unfolding history_in
     history-same b [] f = refl
     history-same b (r ∷ rs) f =
-        ap (λ (x : Reply MoveAnswer). pairFor r.thread x ++ historyIn S (stepIn S b r) rs) (same-reply b r f)
-        ∙ ap (λ (h : List Pair). pairFor r.thread (replyIn itself (S.table b) r) ++ h)
-        (history-same (stepIn S b r) rs (fits-step b r f) ∙ ap (λ (s : Table). historyIn itself s rs) (next b r f))
+        ap (λ (x : Reply MoveAnswer). pair_for r.thread x ++ history_in S (step_in S b r) rs) (same-reply b r f)
+        ∙ ap (λ (h : List Pair). pair_for r.thread (reply_in itself (S.table b) r) ++ h)
+        (history-same (step_in S b r) rs (fits-step b r f) ∙ ap (λ (s : Table). history_in itself s rs) (next b r f))
 
-    pub after_same : (b : B) (rs : List Request) → T (S.fits b) → S.table (afterIn S b rs) ≡ afterIn itself (S.table b) rs
-    unfolding afterIn
+    pub after_same : (b : B) (rs : List Request) → T (S.fits b) → S.table (after_in S b rs) ≡ after_in itself (S.table b) rs
+    unfolding after_in
     after_same b [] f = refl
-    after_same b (r ∷ rs) f = after_same (stepIn S b r) rs (fits-step b r f) ∙ ap (λ (s : Table). afterIn itself s rs) (next b r f)
+    after_same b (r ∷ rs) f = after_same (step_in S b r) rs (fits-step b r f) ∙ ap (λ (s : Table). after_in itself s rs) (next b r f)
 
-    pub retries-same : (b : B) (rs : List Request) → T (S.fits b) → retriesIn S b rs ≡ retriesIn itself (S.table b) rs
-    unfolding retriesIn
+    pub retries-same : (b : B) (rs : List Request) → T (S.fits b) → retries_in S b rs ≡ retries_in itself (S.table b) rs
+    unfolding retries_in
     retries-same b [] f = refl
     retries-same b (r ∷ rs) f =
-        ap (λ (x : Reply MoveAnswer). retryFor x + retriesIn S (stepIn S b r) rs) (same-reply b r f)
-        ∙ ap (λ (k : ℕ). retryFor (replyIn itself (S.table b) r) + k)
-        (retries-same (stepIn S b r) rs (fits-step b r f) ∙ ap (λ (s : Table). retriesIn itself s rs) (next b r f))
+        ap (λ (x : Reply MoveAnswer). retry_for x + retries_in S (step_in S b r) rs) (same-reply b r f)
+        ∙ ap (λ (k : ℕ). retry_for (reply_in itself (S.table b) r) + k)
+        (retries-same (step_in S b r) rs (fits-step b r f) ∙ ap (λ (s : Table). retries_in itself s rs) (next b r f))
 
-    pub accepts-all-same : (b : B) (rs : List Request) → T (S.fits b) → acceptsAllIn S b rs ≡ acceptsAllIn itself (S.table b) rs
-    unfolding acceptsAllIn
+    pub accepts-all-same : (b : B) (rs : List Request) → T (S.fits b) → accepts_all_in S b rs ≡ accepts_all_in itself (S.table b) rs
+    unfolding accepts_all_in
     accepts-all-same b [] f = refl
     accepts-all-same b (r ∷ rs) f =
-        ap (λ (x : Reply MoveAnswer). isAccepted x && acceptsAllIn S (stepIn S b r) rs) (same-reply b r f)
-        ∙ ap (λ (t : Bool). acceptsIn itself (S.table b) r && t)
-        (accepts-all-same (stepIn S b r) rs (fits-step b r f) ∙ ap (λ (s : Table). acceptsAllIn itself s rs) (next b r f))
+        ap (λ (x : Reply MoveAnswer). is_accepted x && accepts_all_in S (step_in S b r) rs) (same-reply b r f)
+        ∙ ap (λ (t : Bool). accepts_in itself (S.table b) r && t)
+        (accepts-all-same (step_in S b r) rs (fits-step b r f) ∙ ap (λ (s : Table). accepts_all_in itself s rs) (next b r f))

@@ -1,30 +1,30 @@
 -- What is known of what stores a table, when it was tested, and of a storage that keeps what is written; a table's head and its tasks by value, and what writes them.
 use Rattle.std.specs.Prelude.{ℕ, ◌≤◌, ◌<◌, List, [], ◌∷◌, ◌≡◌, T, eqb, length, get_or}
-use Rattle.definitions.specs.Bounds.{mostThreads}
+use Rattle.definitions.specs.Bounds.{most_threads}
 use Rattle.definitions.specs.Sound.{sound}
-use Rattle.definitions.specs.Table.{Table, Write, mutex≔, target≔, phase≔, busy≔, forbidden≔, applied, Storage, byteTable, size}
-use Rattle.definitions.specs.Threads.{howMany}
+use Rattle.definitions.specs.Table.{Table, Write, mutex≔, target≔, phase≔, busy≔, forbidden≔, applied, Storage, byte_table, size}
+use Rattle.definitions.specs.Threads.{how_many}
 use Rattle.definitions.specs.declared.Head.{Head}
 use Rattle.definitions.specs.declared.Task.{Task}
 
 -- the bytes pass refusal 1, as numbers: N is from 1 to 200, and they are 3 + 3N
 pub record Sized (bytes : List ℕ) : Type 0 where
   pub least : 1 ≤ get_or bytes 0 0
-  pub most : get_or bytes 0 0 ≤ mostThreads
+  pub most : get_or bytes 0 0 ≤ most_threads
   pub long : length bytes ≡ size (get_or bytes 0 0)
 
 -- what stores a table passes the refusals 1 and 2
 pub record SoundIn {B : Type 0} (storage : Storage B) (b : B) : Type 0 where
-  pub is-sized : T (storage.fits b)
-  pub is-sound : T (sound (storage.table b))
+  pub is_sized : T (storage.fits b)
+  pub is_sound : T (sound (storage.table b))
 
 -- bytes do
 abbrev pub SoundBytes : List ℕ → Type 0
-SoundBytes = SoundIn byteTable
+SoundBytes = SoundIn byte_table
 
 -- how many threads have forbidden 1
-unfoldable pub forbiddenCount : Table → ℕ
-forbiddenCount s = howMany s.threads (λ i. eqb (s.forbidden i) 1)
+unfoldable pub forbidden_count : Table → ℕ
+forbidden_count s = how_many s.threads (λ i. eqb (s.forbidden i) 1)
 
 -- ---- by value
 
@@ -36,61 +36,61 @@ abbrev pub task_of : Table → ℕ → Task
 task_of s i = record { phase = s.phase i; busy = s.busy i; forbidden = s.forbidden i }
 
 -- what writes them; N is never written
-abbrev pub headWrites : Head → List Write
-headWrites h = mutex≔ h.mutex ∷ target≔ h.target ∷ []
+abbrev pub head_writes : Head → List Write
+head_writes h = mutex≔ h.mutex ∷ target≔ h.target ∷ []
 
-abbrev pub taskWrites : ℕ → Task → List Write
-taskWrites i t = phase≔ i t.phase ∷ busy≔ i t.busy ∷ forbidden≔ i t.forbidden ∷ []
+abbrev pub task_writes : ℕ → Task → List Write
+task_writes i t = phase≔ i t.phase ∷ busy≔ i t.busy ∷ forbidden≔ i t.forbidden ∷ []
 
 -- a task with another forbidden
 abbrev pub flagged : Task → ℕ → Task
 flagged t v = record { phase = t.phase; busy = t.busy; forbidden = v }
 
 -- what stores a table with a head and a task given these values
-abbrev pub putHead : {B : Type 0} → Storage B → B → Head → B
-putHead S b h = S.store b (headWrites h)
+abbrev pub put_head : {B : Type 0} → Storage B → B → Head → B
+put_head S b h = S.store b (head_writes h)
 
-abbrev pub putTask : {B : Type 0} → Storage B → B → ℕ → Task → B
-putTask S b i t = S.store b (taskWrites i t)
+abbrev pub put_task : {B : Type 0} → Storage B → B → ℕ → Task → B
+put_task S b i t = S.store b (task_writes i t)
 
 -- a mover, then a subject with its forbidden, which may be the same thread, then a head
 abbrev pub put_back : {B : Type 0} → Storage B → B → ℕ → ℕ → Head → Task → ℕ → B
-put_back S b i t h m f = putHead S (putTask S (putTask S b i m) t (flagged (task_of (S.table (putTask S b i m)) t) f)) h
+put_back S b i t h m f = put_head S (put_task S (put_task S b i m) t (flagged (task_of (S.table (put_task S b i m)) t) f)) h
 
 -- a write as it shows in the head, in its mover's phase and busy, and in its subject's forbidden
-abbrev pub headWith : Head → Write → Head
-headWith h (mutex≔ v) = record { threads = h.threads; mutex = v; target = h.target }
-headWith h (target≔ v) = record { threads = h.threads; mutex = h.mutex; target = v }
-headWith h (phase≔ i v) = h
-headWith h (busy≔ i v) = h
-headWith h (forbidden≔ i v) = h
+abbrev pub head_with : Head → Write → Head
+head_with h (mutex≔ v) = record { threads = h.threads; mutex = v; target = h.target }
+head_with h (target≔ v) = record { threads = h.threads; mutex = h.mutex; target = v }
+head_with h (phase≔ i v) = h
+head_with h (busy≔ i v) = h
+head_with h (forbidden≔ i v) = h
 
-abbrev pub moverWith : Task → Write → Task
-moverWith m (mutex≔ v) = m
-moverWith m (target≔ v) = m
-moverWith m (phase≔ i v) = record { phase = v; busy = m.busy; forbidden = m.forbidden }
-moverWith m (busy≔ i v) = record { phase = m.phase; busy = v; forbidden = m.forbidden }
-moverWith m (forbidden≔ i v) = m
+abbrev pub mover_with : Task → Write → Task
+mover_with m (mutex≔ v) = m
+mover_with m (target≔ v) = m
+mover_with m (phase≔ i v) = record { phase = v; busy = m.busy; forbidden = m.forbidden }
+mover_with m (busy≔ i v) = record { phase = m.phase; busy = v; forbidden = m.forbidden }
+mover_with m (forbidden≔ i v) = m
 
-abbrev pub flagWith : ℕ → Write → ℕ
-flagWith f (mutex≔ v) = f
-flagWith f (target≔ v) = f
-flagWith f (phase≔ i v) = f
-flagWith f (busy≔ i v) = f
-flagWith f (forbidden≔ i v) = v
+abbrev pub flag_with : ℕ → Write → ℕ
+flag_with f (mutex≔ v) = f
+flag_with f (target≔ v) = f
+flag_with f (phase≔ i v) = f
+flag_with f (busy≔ i v) = f
+flag_with f (forbidden≔ i v) = v
 
 -- a list of writes, one after the other
-abbrev pub headAfter : Head → List Write → Head
-headAfter h [] = h
-headAfter h (w ∷ ws) = headAfter (headWith h w) ws
+abbrev pub head_after : Head → List Write → Head
+head_after h [] = h
+head_after h (w ∷ ws) = head_after (head_with h w) ws
 
-abbrev pub moverAfter : Task → List Write → Task
-moverAfter m [] = m
-moverAfter m (w ∷ ws) = moverAfter (moverWith m w) ws
+abbrev pub mover_after : Task → List Write → Task
+mover_after m [] = m
+mover_after m (w ∷ ws) = mover_after (mover_with m w) ws
 
-abbrev pub flagAfter : ℕ → List Write → ℕ
-flagAfter f [] = f
-flagAfter f (w ∷ ws) = flagAfter (flagWith f w) ws
+abbrev pub flag_after : ℕ → List Write → ℕ
+flag_after f [] = f
+flag_after f (w ∷ ws) = flag_after (flag_with f w) ws
 
 -- ---- writes
 

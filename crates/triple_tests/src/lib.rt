@@ -1,9 +1,9 @@
 // The tests of a list of moves, byte triples of thread, move and target.
 ghost use Rattle.std.specs.Prelude.{◌/◌, ◌≡◌, length};
-ghost use Rattle.definitions.specs.Answers.{answerReply, answered};
-ghost use Rattle.definitions.specs.Chains.{requestsOf};
+ghost use Rattle.definitions.specs.Answers.{answer_reply, answered};
+ghost use Rattle.definitions.specs.Chains.{requests_of};
 ghost use Rattle.definitions.specs.Moves.{ask};
-ghost use Rattle.definitions.specs.Scripts.{triplesTests};
+ghost use Rattle.definitions.specs.Scripts.{triples_tests};
 
 use definitions::{Answer, Request};
 use requests::{Tested, test_numbers};
@@ -21,7 +21,7 @@ fn request_of(thread: u8, mv: u8, target: u8) -> Request
 
 // The tests 3, 4 and 5 triple by triple, each tried for all three before the next. Passed, they answer the number of triples.
 pub fn test_triples(threads: u16, triples: &[u8]) -> Answer
-    ensures { answerReply result ≡ answered (triplesTests 0 threads (requestsOf triples.now)) (length triples.now / 3) }
+    ensures { answer_reply result ≡ answered (triples_tests 0 threads (requests_of triples.now)) (length triples.now / 3) }
 {
     let moves = triples.len() / 3;
     let mut k: usize = 0;

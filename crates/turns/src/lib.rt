@@ -1,8 +1,8 @@
 // A line's turn in a run: its form is read, its move made, and the event that this shows is added to the history, byte pairs, thread then event.
 ghost use Rattle.std.specs.Prelude.{[], ◌∷◌};
 ghost use Rattle.definitions.specs.Forms.{form_of};
-ghost use Rattle.definitions.specs.Moves.{moveReply};
-ghost use Rattle.definitions.specs.Run.{turnFor, turn_of};
+ghost use Rattle.definitions.specs.Moves.{move_reply};
+ghost use Rattle.definitions.specs.Run.{turn_for, turn_of};
 ghost use Rattle.apply.specs.MoveMade.{TestedTable};
 ghost use Rattle.basics.specs.Outputs.{RoomAt, PutAt};
 ghost use Rattle.turns.specs.Steps.{added, Stepped};
@@ -40,8 +40,8 @@ fn add_pair(history: &mut [u8], at: usize, thread: u8, code: u8) -> usize
 
 // A line's request: the move is made, and its event added to the history.
 fn make(table: &mut [u8], forbidden: usize, request: Request, history: &mut [u8], at: usize) -> Step
-    requires { TestedTable table.old forbidden × RoomAt history.old at (added (turnFor request (moveReply table.old request))) }
-    ensures { Stepped (turnFor request (moveReply table.old request)) table.old history.old at table.new history.new result }
+    requires { TestedTable table.old forbidden × RoomAt history.old at (added (turn_for request (move_reply table.old request))) }
+    ensures { Stepped (turn_for request (move_reply table.old request)) table.old history.old at table.new history.new result }
 {
     let made = try_move(table, forbidden, request);
     let outcome = made.outcome;

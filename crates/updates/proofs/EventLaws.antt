@@ -8,42 +8,42 @@ use lib.Dec.{leb, leb→le, lit<}
 use lib.ListN.{length, set, length-set, get_or-eq_default}
 use lib.Seq.{set-get_or}
 use Rattle.definitions.specs.Answers.{accepted, refused, number_of, Reply, test, answered, leaves}
-use Rattle.definitions.specs.Bounds.{mostThreads}
-use Rattle.definitions.specs.PlainLock.{Pair, Places, placesIn, placeAfter, advanced, pairTests}
-use Rattle.definitions.specs.Table.{countFits}
-use Rattle.definitions.specs.Watch.{recordOf, consistent, recordTests, eventReply, eventRecord}
+use Rattle.definitions.specs.Bounds.{most_threads}
+use Rattle.definitions.specs.PlainLock.{Pair, Places, places_in, place_after, advanced, pair_tests}
+use Rattle.definitions.specs.Table.{count_fits}
+use Rattle.definitions.specs.Watch.{record_of, consistent, record_tests, event_reply, event_record}
 use Rattle.definitions.specs.declared.Refusal.{Refusal}
 use Rattle.definitions.specs.declared.Watcher.{Watcher}
-use Rattle.plain_lock.specs.Counts.{total, totalAt, standingOf, Counted}
+use Rattle.plain_lock.specs.Counts.{total, total_at, standing_of, Counted}
 use Rattle.plain_lock.specs.declared.Standing.{Standing}
 use Rattle.plain_lock.specs.declared.Verdict.{Verdict}
 use Rattle.plain_lock.specs.declared.Verdict.TheVariants as verdict
 use Rattle.basics.proofs.Replies.{peel, behind, all-passed}
-use Rattle.basics.proofs.TestLists.{other-answer}
+use Rattle.basics.proofs.TestLists.{other_answer}
 use Rattle.basics.proofs.Tests.{and_r, below?}
 use Rattle.basics.proofs.Columns.{update_other}
-use Rattle.plain_lock.proofs.PlainLaws.{placesIn-set}
-use Rattle.plain_lock.proofs.StandingLaws.{few-inside, is-counted, same-standing}
-use Rattle.plain_lock.proofs.VerdictLaws.{VerdictOf, Fit, bad-verdict, fit-verdict}
+use Rattle.plain_lock.proofs.PlainLaws.{places_in-set}
+use Rattle.plain_lock.proofs.StandingLaws.{few-inside, is_counted, same-standing}
+use Rattle.plain_lock.proofs.VerdictLaws.{VerdictOf, Fit, bad_verdict, fit_verdict}
 use Rattle.updates.specs.Updates.{Tested, changed, kept, Updates}
-use Rattle.consistency.proofs.RecordLaws.{round-e, Consistent, consistent-e, same-record, entries-are}
+use Rattle.consistency.proofs.RecordLaws.{round_e, Consistent, consistent_e, same_record, entries_are}
 
 -- past the entries a place is 0
-pub beyond : (entries : List ℕ) (t : ℕ) → length entries ≡ mostThreads → mostThreads ≤ t → placesIn entries t ≡ 0
+pub beyond : (entries : List ℕ) (t : ℕ) → length entries ≡ most_threads → most_threads ≤ t → places_in entries t ≡ 0
 beyond entries t long l = get_or-eq_default entries 0 (omega arith)
 
 -- one that is refused leaves the record
-pub refuses : (w : Watcher) (x : Pair) (r : Refusal) → refused (number_of r) 0 ≡ eventReply w x → Updates w x (kept w r)
-unfolding eventRecord
+pub refuses : (w : Watcher) (x : Pair) (r : Refusal) → refused (number_of r) 0 ≡ event_reply w x → Updates w x (kept w r)
+unfolding event_record
 refuses w x r e = record {
   entry = lit< tt;
   reply = e;
   left =
       ap (λ (entries : List ℕ). record { threads = w.threads; shared = w.shared; exclusive = w.exclusive; places = entries }) (set-get_or w.places 0 0)
-      ∙ ap (λ (a : Reply (Unit {0})). leaves a (recordOf w.threads (advanced (placesIn w.places) x)) w) e;
+      ∙ ap (λ (a : Reply (Unit {0})). leaves a (record_of w.threads (advanced (places_in w.places) x)) w) e;
 }
 
-module _ (w : Watcher) (thread event : ℕ) (tested : Tested w) (s : Standing) (stands : s ≡ record { place = placesIn w.places thread; inside = total w.shared w.exclusive }) where
+module _ (w : Watcher) (thread event : ℕ) (tested : Tested w) (s : Standing) (stands : s ≡ record { place = places_in w.places thread; inside = total w.shared w.exclusive }) where
   abbrev x : Pair
   x = record { thread = thread; event = event }
 
@@ -51,60 +51,60 @@ module _ (w : Watcher) (thread event : ℕ) (tested : Tested w) (s : Standing) (
   n = w.threads
 
   abbrev p : Places
-  p = placesIn w.places
+  p = places_in w.places
 
-  few : n ≤ mostThreads
-  few = leb→le n mostThreads (and_r (leb 1 n) (leb n mostThreads) (peel (test 1 (countFits n)) (test 13 (consistent w) ∷ []) tested.passed).0)
+  few : n ≤ most_threads
+  few = leb→le n most_threads (and_r (leb 1 n) (leb n most_threads) (peel (test 1 (count_fits n)) (test 13 (consistent w) ∷ []) tested.passed).0)
 
   sure : Consistent w
-  sure = consistent-e w (peel (test 13 (consistent w)) [] (peel (test 1 (countFits n)) (test 13 (consistent w) ∷ []) tested.passed).1).0
+  sure = consistent_e w (peel (test 13 (consistent w)) [] (peel (test 1 (count_fits n)) (test 13 (consistent w) ∷ []) tested.passed).1).0
 
-  standing-is : s ≡ standingOf n p thread
-  standing-is = stands ∙ same-standing refl (rw (sure.shared, sure.exclusive))
+  standing_is : s ≡ standing_of n p thread
+  standing_is = stands ∙ same-standing refl (rw (sure.shared, sure.exclusive))
 
   -- every place is one of a round
-  no-4 : p thread ≡ 4 → ⊥
-  no-4 e =
-      ⊎_elim (λ l. (round-e (p thread) (sure.rounds.round thread l)).1 e)
-      (λ l. let z : p thread ≡ 0 = ⊎_elim (λ m. sure.rest thread l m) (λ m. beyond w.places thread tested.long m) (below? mostThreads thread) in absurd (omega arith))
+  no_4 : p thread ≡ 4 → ⊥
+  no_4 e =
+      ⊎_elim (λ l. (round_e (p thread) (sure.rounds.round thread l)).1 e)
+      (λ l. let z : p thread ≡ 0 = ⊎_elim (λ m. sure.rest thread l m) (λ m. beyond w.places thread tested.long m) (below? most_threads thread) in absurd (omega arith))
       (below? n thread)
 
   pub counted : Counted n thread s
-  counted = subst (Counted n thread) (sym standing-is) (is-counted n p few thread no-4)
+  counted = subst (Counted n thread) (sym standing_is) (is_counted n p few thread no_4)
 
   -- what is answered is what the event's own tests answer
-  by-event : {r : Reply (Unit {0})} → answered (pairTests n p 0 x) tt ≡ r → eventReply w x ≡ r
-  unfolding eventReply
-  by-event e = behind tt (recordTests w) (pairTests n p 0 x) tested.passed ∙ e
+  by-event : {r : Reply (Unit {0})} → answered (pair_tests n p 0 x) tt ≡ r → event_reply w x ≡ r
+  unfolding event_reply
+  by-event e = behind tt (record_tests w) (pair_tests n p 0 x) tested.passed ∙ e
 
   module _ (v : Verdict) (judged : VerdictOf n x s v) where
     -- a bad event is refused
     pub bad : (r : Refusal) → v ≡ verdict.Bad r → Updates w x (kept w r)
-    bad r is = refuses w x r (sym (by-event (other-answer tt (pairTests n p 0 x) _ (number_of r) 0 (bad-verdict n p x few s standing-is v r is judged 0))))
+    bad r is = refuses w x r (sym (by-event (other_answer tt (pair_tests n p 0 x) _ (number_of r) 0 (bad_verdict n p x few s standing_is v r is judged 0))))
 
     -- one that fits is accepted and leaves the record of the places after it
     module _ (z : Standing) (is : v ≡ verdict.Fits z) where
-      fit : Fit n p x few s standing-is z 0
-      fit = fit-verdict n p x few s standing-is v z is judged 0
+      fit : Fit n p x few s standing_is z 0
+      fit = fit_verdict n p x few s standing_is v z is judged 0
 
-      reply : accepted tt ≡ eventReply w x
-      reply = sym (by-event (all-passed tt (pairTests n p 0 x) fit.passes))
+      reply : accepted tt ≡ event_reply w x
+      reply = sym (by-event (all-passed tt (pair_tests n p 0 x) fit.passes))
 
-      entries : set w.places thread z.place ≡ (recordOf n (advanced p x)).places
+      entries : set w.places thread z.place ≡ (record_of n (advanced p x)).places
       entries =
           let long = tested.long in
-          let at : placesIn (set w.places thread z.place) ≡ advanced p x = rw fit.placed (placesIn-set w.places x (omega (arith, few, fit.below))) in
-          entries-are n (advanced p x) (set w.places thread z.place) (length-set w.places thread z.place ∙ long)
+          let at : places_in (set w.places thread z.place) ≡ advanced p x = rw fit.placed (places_in-set w.places x (omega (arith, few, fit.below))) in
+          entries_are n (advanced p x) (set w.places thread z.place) (length-set w.places thread z.place ∙ long)
           (λ t l. ap (λ (q : Places). q t) at)
           (λ t least most. ap (λ (q : Places). q t) at
-          ∙ (update_other p thread (placeAfter event) t (λ e. omega (arith, fit.below)) ∙ sure.rest t least most))
+          ∙ (update_other p thread (place_after event) t (λ e. omega (arith, fit.below)) ∙ sure.rest t least most))
 
       -- the total is that of two bytes
-      inside : z.inside ≡ totalAt n (advanced p x)
+      inside : z.inside ≡ total_at n (advanced p x)
       inside = ap (λ (y : Standing). y.inside) fit.after
 
       pub fits : Updates w x (changed thread z)
-      unfolding eventRecord
+      unfolding event_record
       fits =
           let readers = few-inside n (advanced p x) 2 in
           let writers = few-inside n (advanced p x) 6 in
@@ -112,6 +112,6 @@ module _ (w : Watcher) (thread event : ℕ) (tested : Tested w) (s : Standing) (
             entry = omega (arith, few, fit.below);
             reply = reply;
             left =
-                same-record refl (omega (arith, few, inside)) (omega (arith, few, inside)) entries
-                ∙ ap (λ (a : Reply (Unit {0})). leaves a (recordOf n (advanced p x)) w) reply;
+                same_record refl (omega (arith, few, inside)) (omega (arith, few, inside)) entries
+                ∙ ap (λ (a : Reply (Unit {0})). leaves a (record_of n (advanced p x)) w) reply;
           }

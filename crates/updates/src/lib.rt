@@ -2,10 +2,10 @@
 // thread's place and the total of the record's two, as it does for the check, and `carried_out` takes the total after it apart
 // again.
 ghost use Rattle.std.specs.Prelude.{◌≡◌, length};
-ghost use Rattle.consistency.specs.Records.{watcherOf};
-ghost use Rattle.definitions.specs.Bounds.{mostThreads};
-ghost use Rattle.definitions.specs.PlainLock.{placesIn};
-ghost use Rattle.updates.specs.Updates.{standingAt, Tested, changed, kept, Updates};
+ghost use Rattle.consistency.specs.Records.{watcher_of};
+ghost use Rattle.definitions.specs.Bounds.{most_threads};
+ghost use Rattle.definitions.specs.PlainLock.{places_in};
+ghost use Rattle.updates.specs.Updates.{standing_at, Tested, changed, kept, Updates};
 
 use consistency::Totals;
 use definitions::{MOST_THREADS, Refusal, Watched};
@@ -23,8 +23,8 @@ pub struct Update {
 
 // A thread's place; 0 for one that no record has an entry for.
 fn place_of(places: &[u8], thread: u16) -> u8
-    requires { length places.now ≡ mostThreads }
-    ensures { result ≡ placesIn places.now thread }
+    requires { length places.now ≡ most_threads }
+    ensures { result ≡ places_in places.now thread }
 {
     let t = thread as usize;
     if t < MOST_THREADS as usize {
@@ -35,7 +35,7 @@ fn place_of(places: &[u8], thread: u16) -> u8
 
 // Where a thread stands: the two totals of a record make one of those inside.
 fn standing(totals: Totals, place: u8) -> Standing
-    ensures { result ≡ standingAt totals place }
+    ensures { result ≡ standing_at totals place }
 {
     let shared = totals.shared as u32;
     let exclusive = totals.exclusive as u32;
@@ -61,8 +61,8 @@ fn carried_out(at: usize, after: Standing) -> Update
 
 // A request that is turned down puts back what stands there, at the first entry.
 pub fn turned_down(totals: Totals, places: &[u8], refusal: Refusal) -> Update
-    requires { length places.now ≡ mostThreads }
-    ensures { result ≡ kept (watcherOf totals places.now) refusal }
+    requires { length places.now ≡ most_threads }
+    ensures { result ≡ kept (watcher_of totals places.now) refusal }
 {
     let first = places[0];
     let answer = Watched::Refused(refusal);
@@ -77,8 +77,8 @@ pub fn turned_down(totals: Totals, places: &[u8], refusal: Refusal) -> Update
 
 // Refusals 9, 10 and 11 of an event, put to a record that passed its tests.
 pub fn judged(totals: Totals, places: &[u8], thread: u16, event: u16) -> Update
-    requires { Tested (watcherOf totals places.now) }
-    ensures { Updates (watcherOf totals places.now) (record { thread = thread; event = event }) result }
+    requires { Tested (watcher_of totals places.now) }
+    ensures { Updates (watcher_of totals places.now) (record { thread = thread; event = event }) result }
 {
     let place = place_of(places, thread);
     let before = standing(totals, place);

@@ -1,15 +1,15 @@
 // What a move sees of a table, whatever stores it, and what it leaves, by value.
 ghost use Rattle.std.specs.Prelude.{◌≤◌, ◌≡◌};
-ghost use Rattle.definitions.specs.Bounds.{mostThreads, last_move};
-ghost use Rattle.theory.specs.Statements.{subjectBy};
-ghost use Rattle.views.specs.View.{othersBy};
+ghost use Rattle.definitions.specs.Bounds.{most_threads, last_move};
+ghost use Rattle.theory.specs.Statements.{subject_by};
+ghost use Rattle.views.specs.View.{others_by};
 
 use definitions::{Head, Outcome, Request, Task};
 
 // The thread whose busy a move may read and whose forbidden it may write, from the head and the mover.
 pub fn subject_of(head: Head, mover: Task, request: Request) -> usize
     requires { request.mv ≤ last_move }
-    ensures { result ≡ subjectBy request mover.phase head.target }
+    ensures { result ≡ subject_by request mover.phase head.target }
 {
     let mv = request.mv as u8;
     if phase_moves::names_thread(mv) {
@@ -30,8 +30,8 @@ pub struct Others {
 
 // The same from how many forbidden are 1, and the subject's.
 pub fn others_of(threads: usize, count: usize, forbidden: u8) -> Others
-    requires { (1 ≤ threads) × (threads ≤ mostThreads) }
-    ensures { result ≡ othersBy threads count forbidden }
+    requires { (1 ≤ threads) × (threads ≤ most_threads) }
+    ensures { result ≡ others_by threads count forbidden }
 {
     let one = forbidden as usize;
     let rest = threads - 1;

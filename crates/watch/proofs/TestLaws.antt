@@ -6,14 +6,14 @@ use mathlib.Core.Path.{◌≡◌, sym, ap, ◌∙◌}
 use lib.Dec.{eqb}
 use lib.ListN.{length}
 use Rattle.definitions.specs.Answers.{accepted, refused, number_of, Reply, test, answered, leaves}
-use Rattle.definitions.specs.Bounds.{mostThreads}
-use Rattle.definitions.specs.PlainLock.{Pair, placesIn, pairTests}
-use Rattle.definitions.specs.Table.{countFits}
-use Rattle.definitions.specs.Watch.{started, startReply, startRecord, recordTests, eventReply, questionReply}
+use Rattle.definitions.specs.Bounds.{most_threads}
+use Rattle.definitions.specs.PlainLock.{Pair, places_in, pair_tests}
+use Rattle.definitions.specs.Table.{count_fits}
+use Rattle.definitions.specs.Watch.{started, start_reply, start_record, record_tests, event_reply, question_reply}
 use Rattle.definitions.specs.declared.Refusal.{Refusal}
 use Rattle.definitions.specs.declared.Watcher.{Watcher}
-use Rattle.basics.proofs.Replies.{passed, failed, all-passed, in-front}
-use Rattle.basics.proofs.TestLists.{answered-e, other-answer}
+use Rattle.basics.proofs.Replies.{passed, failed, all-passed, in_front_lem}
+use Rattle.basics.proofs.TestLists.{answered_e, other_answer}
 use Rattle.basics.proofs.Tests.{true-T, false-T}
 use Rattle.updates.specs.Updates.{Tested, kept, Updates}
 use Rattle.updates.proofs.EventLaws.{refuses}
@@ -21,36 +21,36 @@ use Rattle.updates.proofs.EventLaws.{refuses}
 -- ---- a start
 
 module _ (n : ℕ) (w : Watcher) where
-  pub start-bad : countFits n ≡ false → (refused 1 0 ≡ startReply n) × (w ≡ startRecord n w)
-  unfolding startReply startRecord
+  pub start-bad : count_fits n ≡ false → (refused 1 0 ≡ start_reply n) × (w ≡ start_record n w)
+  unfolding start_reply start_record
   start-bad e =
-      let reply = sym (failed (test 1 (countFits n)) [] tt (false-T (countFits n) e)) in
+      let reply = sym (failed (test 1 (count_fits n)) [] tt (false-T (count_fits n) e)) in
       (reply, ap (λ (a : Reply (Unit {0})). leaves a (started n) w) reply)
 
-  pub start-good : countFits n ≡ true → (accepted tt ≡ startReply n) × (started n ≡ startRecord n w)
-  unfolding startReply startRecord answered
-  start-good e =
-      let reply : accepted tt ≡ answered (test 1 (countFits n) ∷ []) tt = sym (passed (test 1 (countFits n)) [] tt (true-T (countFits n) e)) in
+  pub start_good : count_fits n ≡ true → (accepted tt ≡ start_reply n) × (started n ≡ start_record n w)
+  unfolding start_reply start_record answered
+  start_good e =
+      let reply : accepted tt ≡ answered (test 1 (count_fits n) ∷ []) tt = sym (passed (test 1 (count_fits n)) [] tt (true-T (count_fits n) e)) in
       (reply, ap (λ (a : Reply (Unit {0})). leaves a (started n) w) reply)
 
 -- ---- a record
 
 module _ (w : Watcher) where
   -- an event goes on from there, or gets the record's refusal
-  pub event-tested : length w.places ≡ mostThreads → ◌≡◌ {A = Reply (Unit {0})} (accepted tt) (answered (recordTests w) tt) → Tested w
-  event-tested long e = record { long = long; passed = (answered-e (recordTests w) tt tt (sym e)).0 }
+  pub event-tested : length w.places ≡ most_threads → ◌≡◌ {A = Reply (Unit {0})} (accepted tt) (answered (record_tests w) tt) → Tested w
+  event-tested long e = record { long = long; passed = (answered_e (record_tests w) tt tt (sym e)).0 }
 
-  pub event-refused : (x : Pair) (r : Refusal) → ◌≡◌ {A = Reply (Unit {0})} (refused (number_of r) 0) (answered (recordTests w) tt) → Updates w x (kept w r)
-  unfolding eventReply
-  event-refused x r e = refuses w x r (sym (in-front tt tt (recordTests w) (pairTests w.threads (placesIn w.places) 0 x) (number_of r) 0 (sym e)))
+  pub event-refused : (x : Pair) (r : Refusal) → ◌≡◌ {A = Reply (Unit {0})} (refused (number_of r) 0) (answered (record_tests w) tt) → Updates w x (kept w r)
+  unfolding event_reply
+  event-refused x r e = refuses w x r (sym (in_front_lem tt tt (record_tests w) (pair_tests w.threads (places_in w.places) 0 x) (number_of r) 0 (sym e)))
 
   -- the question answers, or gets the record's refusal
-  pub question-answered : (b : Bool) → ◌≡◌ {A = Reply (Unit {0})} (accepted tt) (answered (recordTests w) tt)
-      → not (eqb w.shared 0) || not (eqb w.exclusive 0) ≡ b → accepted b ≡ questionReply w
-  unfolding questionReply
-  question-answered b e f =
-      ap accepted (sym f) ∙ sym (all-passed (not (eqb w.shared 0) || not (eqb w.exclusive 0)) (recordTests w) (answered-e (recordTests w) tt tt (sym e)).0)
+  pub question_answered : (b : Bool) → ◌≡◌ {A = Reply (Unit {0})} (accepted tt) (answered (record_tests w) tt)
+      → not (eqb w.shared 0) || not (eqb w.exclusive 0) ≡ b → accepted b ≡ question_reply w
+  unfolding question_reply
+  question_answered b e f =
+      ap accepted (sym f) ∙ sym (all-passed (not (eqb w.shared 0) || not (eqb w.exclusive 0)) (record_tests w) (answered_e (record_tests w) tt tt (sym e)).0)
 
-  pub question-refused : (number : ℕ) → ◌≡◌ {A = Reply (Unit {0})} (refused number 0) (answered (recordTests w) tt) → refused number 0 ≡ questionReply w
-  unfolding questionReply
-  question-refused number e = sym (other-answer _ (recordTests w) tt number 0 (sym e))
+  pub question_refused : (number : ℕ) → ◌≡◌ {A = Reply (Unit {0})} (refused number 0) (answered (record_tests w) tt) → refused number 0 ≡ question_reply w
+  unfolding question_reply
+  question_refused number e = sym (other_answer _ (record_tests w) tt number 0 (sym e))

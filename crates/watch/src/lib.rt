@@ -1,9 +1,9 @@
 // The watcher of 02 §2, by value: a record comes in as a value, and what an event changes of it goes out as one. A record is
 // tested (crate consistency), and then the event is judged (crate updates) or the question answered.
 ghost use Rattle.std.specs.Prelude.{◌≡◌, length};
-ghost use Rattle.consistency.specs.Records.{watcherOf};
-ghost use Rattle.definitions.specs.Bounds.{mostThreads};
-ghost use Rattle.definitions.specs.Watch.{watchedReply, insideReply, startReply, startRecord, questionReply};
+ghost use Rattle.consistency.specs.Records.{watcher_of};
+ghost use Rattle.definitions.specs.Bounds.{most_threads};
+ghost use Rattle.definitions.specs.Watch.{watched_reply, inside_reply, start_reply, start_record, question_reply};
 ghost use Rattle.updates.specs.Updates.{Updates};
 
 use codes::count_fits;
@@ -20,8 +20,8 @@ pub struct Begun {
 
 // Refusals 1 and 13 of the record, then 9, 10 and 11 of the event.
 fn update_of(totals: Totals, places: &[u8], thread: u16, event: u16) -> Update
-    requires { length places.now ≡ mostThreads }
-    ensures { Updates (watcherOf totals places.now) (record { thread = thread; event = event }) result }
+    requires { length places.now ≡ most_threads }
+    ensures { Updates (watcher_of totals places.now) (record { thread = thread; event = event }) result }
 {
     let tested = test_record(totals, places);
     match tested {
@@ -44,8 +44,8 @@ pub fn watch_event(watcher: Watcher, thread: u16, event: u16) -> Update
 
 // A watch starts: refusal 1.
 pub fn start(count: u16, watcher: Watcher) -> Begun
-    ensures answer_value { watchedReply result.answer ≡ startReply count }
-    ensures watcher_value { result.watcher ≡ startRecord count watcher }
+    ensures answer_value { watched_reply result.answer ≡ start_reply count }
+    ensures watcher_value { result.watcher ≡ start_record count watcher }
 {
     let wanted = count as usize;
     if !count_fits(wanted) {
@@ -68,8 +68,8 @@ pub fn start(count: u16, watcher: Watcher) -> Begun
 
 // Refusals 1 and 13 of the record, then whether anybody is inside, by the two totals.
 fn inside_of(totals: Totals, places: &[u8]) -> Inside
-    requires { length places.now ≡ mostThreads }
-    ensures { insideReply result ≡ questionReply (watcherOf totals places.now) }
+    requires { length places.now ≡ most_threads }
+    ensures { inside_reply result ≡ question_reply (watcher_of totals places.now) }
 {
     let tested = test_record(totals, places);
     match tested {
@@ -85,7 +85,7 @@ fn inside_of(totals: Totals, places: &[u8]) -> Inside
 
 // "Is anybody inside?", put to a record.
 pub fn anybody_inside(watcher: Watcher) -> Inside
-    ensures { insideReply result ≡ questionReply watcher }
+    ensures { inside_reply result ≡ question_reply watcher }
 {
     let totals = Totals {
         threads: watcher.threads,

@@ -5,13 +5,13 @@ use Rattle.watching.proofs.EveryEvent as watching
 pub every-event : EveryEvent
 every-event =
     record {
-      watch-verdict = watching.verdict;
-      watch-permitted = watching.kept-permitted;
-      watch-exactly = watching.accepted-exactly;
-      watch-throughout = watching.accepted-throughout;
-      watch-lock = watching.lock-watched;
-      watch-record = watching.lock-record;
-      watch-consistent = watching.consistent-exactly;
-      watch-counted = watching.inside-counted;
-      watch-question = watching.inside-watched;
+      watch_verdict = watching.verdict;
+      watch_permitted = watching.kept-permitted;
+      watch_exactly = watching.accepted_exactly;
+      watch_throughout = watching.accepted_throughout;
+      watch_lock = watching.lock_watched;
+      watch_record_lem = watching.lock_record;
+      watch_consistent = watching.consistent_exactly;
+      watch_counted = watching.inside-counted;
+      watch_question = watching.inside_watched;
     }

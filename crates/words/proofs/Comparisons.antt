@@ -7,11 +7,11 @@ use mathlib.Core.Path.{◌≡◌, sym, ap, ◌∙◌}
 use lib.ListN.{length, get_or, take, drop, take-append-drop}
 use lib.Seq.{ext_get_or}
 use Rattle.definitions.specs.Texts.{same, starts}
-use Rattle.basics.proofs.Tests.{T_true, T_false, not-i}
-use Rattle.basics.proofs.Texts.{same_refl, same-eq, starts-length}
+use Rattle.basics.proofs.Tests.{T_true, T_false, not_i}
+use Rattle.basics.proofs.Texts.{same_refl, same_eq, starts-length}
 
-pub same-ne : (xs ys : List ℕ) → (xs ≡ ys → ⊥) → same xs ys ≡ false
-same-ne xs ys h = T_false (same xs ys) (not-i (same xs ys) (λ t. h (same-eq xs ys (T_true (same xs ys) t))))
+pub same_ne : (xs ys : List ℕ) → (xs ≡ ys → ⊥) → same xs ys ≡ false
+same_ne xs ys h = T_false (same xs ys) (not_i (same xs ys) (λ t. h (same_eq xs ys (T_true (same xs ys) t))))
 
 -- of one length, and equal at each place
 pub same_at : (xs ys : List ℕ) → length xs ≡ length ys → ((k : ℕ) → k < length ys → get_or xs k 0 ≡ get_or ys k 0) → same xs ys ≡ true
@@ -19,9 +19,9 @@ same_at xs ys e h = rw (ext_get_or 0 xs ys e (λ k l. h k (omega arith))) (same_
 
 pub starts-short : (p xs : List ℕ) → length xs < length p → starts p xs ≡ false
 starts-short p xs h =
-    T_false (starts p xs) (not-i (starts p xs) (λ t. omega (arith, starts-length p xs (T_true (starts p xs) t))))
+    T_false (starts p xs) (not_i (starts p xs) (λ t. omega (arith, starts-length p xs (T_true (starts p xs) t))))
 
 -- what begins with p is p and what follows
 pub starts-split : (p xs : List ℕ) → starts p xs ≡ true → xs ≡ p ++ drop (length p) xs
 starts-split p xs e =
-    sym (take-append-drop (length p) xs) ∙ ap (λ (l : List ℕ). l ++ drop (length p) xs) (same-eq (take (length p) xs) p e)
+    sym (take-append-drop (length p) xs) ∙ ap (λ (l : List ℕ). l ++ drop (length p) xs) (same_eq (take (length p) xs) p e)

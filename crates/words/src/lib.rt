@@ -1,7 +1,7 @@
 // Words and numbers of a script's line: comparisons of texts, and the number at the front of a part.
 ghost use Rattle.std.specs.Prelude.{◌≡◌, get_or};
-ghost use Rattle.definitions.specs.Texts.{same, starts, isDigit};
-ghost use Rattle.words.specs.Numbers.{numberFor, closedFor};
+ghost use Rattle.definitions.specs.Texts.{same, starts, is_digit};
+ghost use Rattle.words.specs.Numbers.{number_for, closed_for};
 
 // A number and how many digits it has, or that there is none.
 #[derive(Drop)]
@@ -43,7 +43,7 @@ pub fn starts_with(part: &[u8], text: &[u8]) -> bool
 
 // There is a digit at a place of a part.
 pub fn digit_at(part: &[u8], at: usize) -> bool
-    ensures { result ≡ isDigit (get_or part.now at 0) }
+    ensures { result ≡ is_digit (get_or part.now at 0) }
 {
     if at < part.len() {
         return (b'0' <= part[at]) & (part[at] <= b'9');
@@ -53,7 +53,7 @@ pub fn digit_at(part: &[u8], at: usize) -> bool
 
 // The number at the front of a part. No more than MOST_DIGITS digits are taken, so it stays below 1000.
 pub fn read_number(part: &[u8]) -> MaybeNumber
-    ensures { result ≡ numberFor part.now }
+    ensures { result ≡ number_for part.now }
 {
     let mut value: u16 = 0;
     let mut digits: usize = 0;
@@ -75,7 +75,7 @@ pub fn read_number(part: &[u8]) -> MaybeNumber
 
 // A number that a text follows, and nothing else.
 pub fn read_closed(part: &[u8], closing: &[u8]) -> MaybeNumber
-    ensures { result ≡ closedFor part.now closing.now }
+    ensures { result ≡ closed_for part.now closing.now }
 {
     let number = read_number(part);
     match number {

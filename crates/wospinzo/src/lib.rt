@@ -1,19 +1,19 @@
 // The part's entries for C and Rust: thin functions on numbers and byte slices, each with its promise. An answer is one
 // number (crate answer_numbers).
 ghost use Rattle.std.specs.Prelude.{◌≡◌};
-ghost use Rattle.definitions.specs.Answers.{deliveryReply, deliveryOutput};
-ghost use Rattle.definitions.specs.Dispatch.{dispatchReply, dispatchTable};
-ghost use Rattle.definitions.specs.Moves.{ask, moveReply, moveTable};
-ghost use Rattle.definitions.specs.Nodes.{nodesEntry};
-ghost use Rattle.definitions.specs.OpenMoves.{openEntry};
-ghost use Rattle.definitions.specs.PlainLock.{checkReply};
-ghost use Rattle.definitions.specs.Plan.{planEntry, planLengthReply};
-ghost use Rattle.definitions.specs.Run.{runEntry};
-ghost use Rattle.definitions.specs.Scripts.{writeEntry, read_entry};
-ghost use Rattle.definitions.specs.ShortHistories.{firstEntry, nextEntry};
-ghost use Rattle.definitions.specs.Table.{freshEntry};
-ghost use Rattle.definitions.specs.Watch.{startReply, startRecord, eventReply, eventRecord, questionReply};
-ghost use Rattle.answer_numbers.specs.Encoding.{moveNumber, turnNumber, runNumber, countNumber, watchNumber, insideNumber, readNumber, nextNumber, held};
+ghost use Rattle.definitions.specs.Answers.{delivery_reply, delivery_output};
+ghost use Rattle.definitions.specs.Dispatch.{dispatch_reply, dispatch_table};
+ghost use Rattle.definitions.specs.Moves.{ask, move_reply, move_table};
+ghost use Rattle.definitions.specs.Nodes.{nodes_entry};
+ghost use Rattle.definitions.specs.OpenMoves.{open_entry};
+ghost use Rattle.definitions.specs.PlainLock.{check_reply};
+ghost use Rattle.definitions.specs.Plan.{plan_entry, plan_length_reply};
+ghost use Rattle.definitions.specs.Run.{run_entry};
+ghost use Rattle.definitions.specs.Scripts.{write_entry, read_entry};
+ghost use Rattle.definitions.specs.ShortHistories.{first_entry, next_entry};
+ghost use Rattle.definitions.specs.Table.{fresh_entry};
+ghost use Rattle.definitions.specs.Watch.{start_reply, start_record, event_reply, event_record, question_reply};
+ghost use Rattle.answer_numbers.specs.Encoding.{move_number, turn_number, run_number, count_number, watch_number, inside_number, read_number, next_number, held};
 ghost use Rattle.wospinzo.specs.Records.{Renews};
 ghost use Rattle.wospinzo.specs.Version.{version};
 
@@ -34,8 +34,8 @@ const PATCH: u32 = 0;
 // A fresh table for N threads.
 #[unsafe(no_mangle)]
 pub extern "C" fn wospinzo_fresh(threads: u16, out: &mut [u8]) -> u64
-    ensures value { result ≡ countNumber (deliveryReply (freshEntry threads) out.old) }
-    ensures out_after { out.new ≡ deliveryOutput (freshEntry threads) out.old }
+    ensures value { result ≡ count_number (delivery_reply (fresh_entry threads) out.old) }
+    ensures out_after { out.new ≡ delivery_output (fresh_entry threads) out.old }
 {
     let answer = table::fresh(threads, out);
     answer_number(answer)
@@ -44,8 +44,8 @@ pub extern "C" fn wospinzo_fresh(threads: u16, out: &mut [u8]) -> u64
 // One move of one thread, which also says whether it was a retry; the table stays in the lent bytes.
 #[unsafe(no_mangle)]
 pub extern "C" fn wospinzo_move(table: &mut [u8], thread: u16, mv: u16, target: u16) -> u64
-    ensures value { result ≡ moveNumber (moveReply table.old (ask thread mv target)) }
-    ensures table_after { table.new ≡ moveTable table.old (ask thread mv target) }
+    ensures value { result ≡ move_number (move_reply table.old (ask thread mv target)) }
+    ensures table_after { table.new ≡ move_table table.old (ask thread mv target) }
 {
     let outcome = lock::make_move(table, Request { thread, mv, target });
     outcome_number(outcome)
@@ -54,8 +54,8 @@ pub extern "C" fn wospinzo_move(table: &mut [u8], thread: u16, mv: u16, target: 
 // One turn of the dispatcher: a move that is no call, no retry and no leaving, for the lowest thread that has one.
 #[unsafe(no_mangle)]
 pub extern "C" fn wospinzo_dispatch(table: &mut [u8]) -> u64
-    ensures value { result ≡ turnNumber (dispatchReply table.old) }
-    ensures table_after { table.new ≡ dispatchTable table.old }
+    ensures value { result ≡ turn_number (dispatch_reply table.old) }
+    ensures table_after { table.new ≡ dispatch_table table.old }
 {
     let answer = dispatch::dispatch(table);
     dispatched_number(answer)
@@ -64,8 +64,8 @@ pub extern "C" fn wospinzo_dispatch(table: &mut [u8]) -> u64
 // The nodes of all threads.
 #[unsafe(no_mangle)]
 pub extern "C" fn wospinzo_nodes(table: &[u8], out: &mut [u8]) -> u64
-    ensures value { result ≡ countNumber (deliveryReply (nodesEntry table.now) out.old) }
-    ensures out_after { out.new ≡ deliveryOutput (nodesEntry table.now) out.old }
+    ensures value { result ≡ count_number (delivery_reply (nodes_entry table.now) out.old) }
+    ensures out_after { out.new ≡ delivery_output (nodes_entry table.now) out.old }
 {
     let answer = nodes::nodes(table, out);
     answer_number(answer)
@@ -74,8 +74,8 @@ pub extern "C" fn wospinzo_nodes(table: &[u8], out: &mut [u8]) -> u64
 // The moves that a thread's requests would have accepted.
 #[unsafe(no_mangle)]
 pub extern "C" fn wospinzo_open_moves(table: &[u8], thread: u16, out: &mut [u8]) -> u64
-    ensures value { result ≡ countNumber (deliveryReply (openEntry table.now thread) out.old) }
-    ensures out_after { out.new ≡ deliveryOutput (openEntry table.now thread) out.old }
+    ensures value { result ≡ count_number (delivery_reply (open_entry table.now thread) out.old) }
+    ensures out_after { out.new ≡ delivery_output (open_entry table.now thread) out.old }
 {
     let answer = listing::open_moves(table, thread, out);
     answer_number(answer)
@@ -84,7 +84,7 @@ pub extern "C" fn wospinzo_open_moves(table: &[u8], thread: u16, out: &mut [u8])
 // Whether the plain lock permits a history.
 #[unsafe(no_mangle)]
 pub extern "C" fn wospinzo_check(threads: u16, history: &[u8]) -> u64
-    ensures { result ≡ countNumber (checkReply threads history.now) }
+    ensures { result ≡ count_number (check_reply threads history.now) }
 {
     let answer = history::check(threads, history);
     answer_number(answer)
@@ -93,8 +93,8 @@ pub extern "C" fn wospinzo_check(threads: u16, history: &[u8]) -> u64
 // The first permitted history of so many events, in the order of their bytes.
 #[unsafe(no_mangle)]
 pub extern "C" fn wospinzo_first_history(threads: u16, events: u16, out: &mut [u8]) -> u64
-    ensures value { result ≡ countNumber (deliveryReply (firstEntry threads events) out.old) }
-    ensures out_after { out.new ≡ deliveryOutput (firstEntry threads events) out.old }
+    ensures value { result ≡ count_number (delivery_reply (first_entry threads events) out.old) }
+    ensures out_after { out.new ≡ delivery_output (first_entry threads events) out.old }
 {
     let answer = short_histories::first_history(threads, events, out);
     answer_number(answer)
@@ -103,8 +103,8 @@ pub extern "C" fn wospinzo_first_history(threads: u16, events: u16, out: &mut [u
 // The next permitted history of the same length after a given one, or that the given one was the last.
 #[unsafe(no_mangle)]
 pub extern "C" fn wospinzo_next_history(threads: u16, history: &[u8], out: &mut [u8]) -> u64
-    ensures value { result ≡ nextNumber (deliveryReply (nextEntry threads history.now) out.old) }
-    ensures out_after { out.new ≡ deliveryOutput (nextEntry threads history.now) out.old }
+    ensures value { result ≡ next_number (delivery_reply (next_entry threads history.now) out.old) }
+    ensures out_after { out.new ≡ delivery_output (next_entry threads history.now) out.old }
 {
     let answer = short_histories::next_history(threads, history, out);
     next_number(answer)
@@ -113,7 +113,7 @@ pub extern "C" fn wospinzo_next_history(threads: u16, history: &[u8], out: &mut 
 // How many requests make a permitted history happen: the plan's count, without the plan.
 #[unsafe(no_mangle)]
 pub extern "C" fn wospinzo_plan_length(threads: u16, history: &[u8]) -> u64
-    ensures { result ≡ countNumber (planLengthReply threads history.now) }
+    ensures { result ≡ count_number (plan_length_reply threads history.now) }
 {
     let answer = shares::plan_length(threads, history);
     answer_number(answer)
@@ -122,8 +122,8 @@ pub extern "C" fn wospinzo_plan_length(threads: u16, history: &[u8]) -> u64
 // The requests that make a permitted history happen.
 #[unsafe(no_mangle)]
 pub extern "C" fn wospinzo_plan(threads: u16, history: &[u8], out: &mut [u8]) -> u64
-    ensures value { result ≡ countNumber (deliveryReply (planEntry threads history.now) out.old) }
-    ensures out_after { out.new ≡ deliveryOutput (planEntry threads history.now) out.old }
+    ensures value { result ≡ count_number (delivery_reply (plan_entry threads history.now) out.old) }
+    ensures out_after { out.new ≡ delivery_output (plan_entry threads history.now) out.old }
 {
     let answer = plan::plan(threads, history, out);
     answer_number(answer)
@@ -132,8 +132,8 @@ pub extern "C" fn wospinzo_plan(threads: u16, history: &[u8], out: &mut [u8]) ->
 // The run of a script, with the number of retries among its moves.
 #[unsafe(no_mangle)]
 pub extern "C" fn wospinzo_run(script: &[u8], out: &mut [u8]) -> u64
-    ensures value { result ≡ runNumber (deliveryReply (runEntry script.now) out.old) }
-    ensures out_after { out.new ≡ deliveryOutput (runEntry script.now) out.old }
+    ensures value { result ≡ run_number (delivery_reply (run_entry script.now) out.old) }
+    ensures out_after { out.new ≡ delivery_output (run_entry script.now) out.old }
 {
     let answer = script::run(script, out);
     running_number(answer)
@@ -142,8 +142,8 @@ pub extern "C" fn wospinzo_run(script: &[u8], out: &mut [u8]) -> u64
 // A list of moves, byte triples, as a script.
 #[unsafe(no_mangle)]
 pub extern "C" fn wospinzo_write_script(threads: u16, triples: &[u8], out: &mut [u8]) -> u64
-    ensures value { result ≡ countNumber (held (deliveryReply (writeEntry threads triples.now) out.old)) }
-    ensures out_after { out.new ≡ deliveryOutput (writeEntry threads triples.now) out.old }
+    ensures value { result ≡ count_number (held (delivery_reply (write_entry threads triples.now) out.old)) }
+    ensures out_after { out.new ≡ delivery_output (write_entry threads triples.now) out.old }
 {
     let answer = writing::write(threads, triples, out);
     let fitting = hold_place(answer);
@@ -153,8 +153,8 @@ pub extern "C" fn wospinzo_write_script(threads: u16, triples: &[u8], out: &mut 
 // The moves of a script, as byte triples, and its N.
 #[unsafe(no_mangle)]
 pub extern "C" fn wospinzo_read_script(script: &[u8], out: &mut [u8]) -> u64
-    ensures value { result ≡ readNumber (deliveryReply (read_entry script.now) out.old) }
-    ensures out_after { out.new ≡ deliveryOutput (read_entry script.now) out.old }
+    ensures value { result ≡ read_number (delivery_reply (read_entry script.now) out.old) }
+    ensures out_after { out.new ≡ delivery_output (read_entry script.now) out.old }
 {
     let answer = reading::read(script, out);
     reading_number(answer)
@@ -168,7 +168,7 @@ struct Started {
 }
 
 fn start_record(count: u16, watcher: Watcher) -> Started
-    ensures { result ≡ record { watcher = startRecord count watcher; number = watchNumber (startReply count) } }
+    ensures { result ≡ record { watcher = start_record count watcher; number = watch_number (start_reply count) } }
 {
     let start = watch::start(count, watcher);
     let answer = start.answer;
@@ -206,7 +206,7 @@ fn update_record(watcher: Watcher, thread: u16, event: u16) -> Renewed
 }
 
 fn ask_record(watcher: Watcher) -> u64
-    ensures { result ≡ insideNumber (questionReply watcher) }
+    ensures { result ≡ inside_number (question_reply watcher) }
 {
     let answer = watch::anybody_inside(watcher);
     inside_number(answer)
@@ -215,8 +215,8 @@ fn ask_record(watcher: Watcher) -> u64
 // A watcher's record for N threads, before any event.
 #[unsafe(no_mangle)]
 pub extern "C" fn wospinzo_watch_start(threads: u16, watcher: &mut Watcher) -> u64
-    ensures value { result ≡ watchNumber (startReply threads) }
-    ensures watcher_after { watcher.new ≡ startRecord threads watcher.old }
+    ensures value { result ≡ watch_number (start_reply threads) }
+    ensures watcher_after { watcher.new ≡ start_record threads watcher.old }
 {
     let made = start_record(threads, *watcher);
     *watcher = made.watcher;
@@ -226,8 +226,8 @@ pub extern "C" fn wospinzo_watch_start(threads: u16, watcher: &mut Watcher) -> u
 // One event, judged and added where the record is kept.
 #[unsafe(no_mangle)]
 pub extern "C" fn wospinzo_watch_event(watcher: &mut Watcher, thread: u16, event: u16) -> u64
-    ensures value { result ≡ watchNumber (eventReply watcher.old (record { thread = thread; event = event })) }
-    ensures watcher_after { watcher.new ≡ eventRecord watcher.old (record { thread = thread; event = event }) }
+    ensures value { result ≡ watch_number (event_reply watcher.old (record { thread = thread; event = event })) }
+    ensures watcher_after { watcher.new ≡ event_record watcher.old (record { thread = thread; event = event }) }
 {
     let made = update_record(*watcher, thread, event);
     let at = made.at;
@@ -240,7 +240,7 @@ pub extern "C" fn wospinzo_watch_event(watcher: &mut Watcher, thread: u16, event
 // "Is anybody inside?"
 #[unsafe(no_mangle)]
 pub extern "C" fn wospinzo_watch_inside(watcher: &Watcher) -> u64
-    ensures { result ≡ insideNumber (questionReply watcher.now) }
+    ensures { result ≡ inside_number (question_reply watcher.now) }
 {
     ask_record(*watcher)
 }

@@ -1,6 +1,6 @@
 // Scripts written out: N and a list of moves, byte triples of thread, move and target, become the lines that a run reads.
-ghost use Rattle.definitions.specs.Answers.{answerReply};
-ghost use Rattle.definitions.specs.Scripts.{writeEntry};
+ghost use Rattle.definitions.specs.Answers.{answer_reply};
+ghost use Rattle.definitions.specs.Scripts.{write_entry};
 ghost use Rattle.basics.specs.Outputs.{Delivered};
 
 use codes::count_fits;
@@ -10,7 +10,7 @@ use triple_tests::test_triples;
 
 // The entry. Everything is tested and measured before a byte is written.
 pub fn write(threads: u16, triples: &[u8], out: &mut [u8]) -> Answer
-    ensures { Delivered (writeEntry threads triples.now) out.old out.new (answerReply result) }
+    ensures { Delivered (write_entry threads triples.now) out.old out.new (answer_reply result) }
 {
     if !count_fits(threads as usize) {
         return Answer::Refused(Refusal::BadSize, 0);

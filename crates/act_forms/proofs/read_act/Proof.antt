@@ -4,10 +4,10 @@ use mathlib.Core.Bool.{false}
 use mathlib.Core.List.{List}
 use mathlib.Core.Path.{◌≡◌, sym, ap, ◌∙◌}
 use borrow.Author.Rules.{rules}
-use Rattle.definitions.specs.Forms.{actText, plainMoves, plainForm, actForm}
+use Rattle.definitions.specs.Forms.{act_text, plain_moves, plain_form, act_form}
 use Rattle.definitions.specs.Texts.{bytes, same}
 use Rattle.definitions.specs.Threads.{gather}
-use Rattle.act_forms.specs.Readings.{formFor}
+use Rattle.act_forms.specs.Readings.{form_for}
 use Rattle.act_forms.proofs.read_act.Statement.{statement}
 use Rattle.act_forms.proofs.read_act.Tie as tie
 
@@ -49,43 +49,43 @@ unfolding bytes
 not-hold c = sym c.before.same-text5.ensures ∙ c.if5.false
 
 returns : tie.Need-returns
-unfolding actForm plainForm plainMoves gather actText bytes
+unfolding act_form plain_form plain_moves gather act_text bytes
 returns c =
     let test = c.before in
-    rw (sym test.before.same_text.ensures ∙ test.if1.true) (ap formFor c.asking.ensures)
+    rw (sym test.before.same_text.ensures ∙ test.if1.true) (ap form_for c.asking.ensures)
 
 returns-2 : tie.Need-returns-2
-unfolding actForm plainForm plainMoves gather actText bytes
+unfolding act_form plain_form plain_moves gather act_text bytes
 returns-2 c =
     let test = c.before in
     let e = test.before.before.before in
-    rw (not-go e, sym test.before.same-text2.ensures ∙ test.if2.true) (ap formFor c.asking2.ensures)
+    rw (not-go e, sym test.before.same-text2.ensures ∙ test.if2.true) (ap form_for c.asking2.ensures)
 
 returns-3 : tie.Need-returns-3
-unfolding actForm plainForm plainMoves gather actText bytes
+unfolding act_form plain_form plain_moves gather act_text bytes
 returns-3 c =
     let test = c.before in
     let e = test.before.before.before in
-    rw (not-go (up2 e), not-shared e, sym test.before.same-text3.ensures ∙ test.if3.true) (ap formFor c.asking3.ensures)
+    rw (not-go (up2 e), not-shared e, sym test.before.same-text3.ensures ∙ test.if3.true) (ap form_for c.asking3.ensures)
 
 returns-4 : tie.Need-returns-4
-unfolding actForm plainForm plainMoves gather actText bytes
+unfolding act_form plain_form plain_moves gather act_text bytes
 returns-4 c =
     let test = c.before in
     let e = test.before.before.before in
     rw (not-go (up2 (up3 e)), not-shared (up3 e), not-exclusive e, sym test.before.same-text4.ensures ∙ test.if4.true)
-    (ap formFor c.asking4.ensures)
+    (ap form_for c.asking4.ensures)
 
 returns-5 : tie.Need-returns-5
-unfolding actForm plainForm plainMoves gather actText bytes
+unfolding act_form plain_form plain_moves gather act_text bytes
 returns-5 c =
     let test = c.before in
     let e = test.before.before.before in
     rw (not-go (up2 (up3 (up4 e))), not-shared (up3 (up4 e)), not-exclusive (up4 e), not-relent e, sym test.before.same-text5.ensures ∙ test.if5.true)
-    (ap formFor c.asking5.ensures)
+    (ap form_for c.asking5.ensures)
 
 returns-6 : tie.Need-returns-6
-unfolding actForm plainForm plainMoves gather actText bytes
+unfolding act_form plain_form plain_moves gather act_text bytes
 returns-6 c =
     let e = c.before in
     rw (not-go (up2 (up3 (up4 (up5 e)))), not-shared (up3 (up4 (up5 e))), not-exclusive (up4 (up5 e)), not-relent (up5 e), not-hold e)

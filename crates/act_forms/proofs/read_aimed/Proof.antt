@@ -5,9 +5,9 @@ use mathlib.Core.List.{List}
 use mathlib.Core.Path.{◌≡◌, sym, ap, ◌∙◌}
 use borrow.Author.Rules.{rules}
 use lib.ListN.{length, take, drop}
-use Rattle.definitions.specs.Codes.{setMove, clearMove}
-use Rattle.definitions.specs.Forms.{targetForm, aimedForm}
-use Rattle.definitions.specs.Texts.{bytes, starts, numberRead}
+use Rattle.definitions.specs.Codes.{set_move, clear_move}
+use Rattle.definitions.specs.Forms.{target_form, aimed_form}
+use Rattle.definitions.specs.Texts.{bytes, starts, number_read}
 use Rattle.basics.proofs.Lists.{from_on}
 use Rattle.basics.proofs.Texts.{starts-length}
 use Rattle.act_forms.proofs.read_aimed.Statement.{statement}
@@ -28,26 +28,26 @@ not_set : (c : tie.Else1) → starts (bytes " (set ") (part c.before) ≡ false
 unfolding bytes
 not_set c = sym c.before.starts_with.ensures ∙ c.if1.false
 
-is-clear : (c : tie.Then2) → starts (bytes " (clear ") (part (up c.before)) ≡ true
+is_clear : (c : tie.Then2) → starts (bytes " (clear ") (part (up c.before)) ≡ true
 unfolding bytes
-is-clear c = sym c.before.starts-with2.ensures ∙ c.if2.true
+is_clear c = sym c.before.starts-with2.ensures ∙ c.if2.true
 
-not-clear : (c : tie.Else2) → starts (bytes " (clear ") (part (up c.before)) ≡ false
+not_clear : (c : tie.Else2) → starts (bytes " (clear ") (part (up c.before)) ≡ false
 unfolding bytes
-not-clear c = sym c.before.starts-with2.ensures ∙ c.if2.false
+not_clear c = sym c.before.starts-with2.ensures ∙ c.if2.false
 
 -- the part behind the word
 set_long : (c : tie.Then1) → 6 ≤ length (part c.before)
 unfolding bytes
 set_long c = starts-length (bytes " (set ") (part c.before) (is_set c)
 
-clear-long : (c : tie.Then2) → 8 ≤ length (part (up c.before))
+clear_long : (c : tie.Then2) → 8 ≤ length (part (up c.before))
 unfolding bytes
-clear-long c = starts-length (bytes " (clear ") (part (up c.before)) (is-clear c)
+clear_long c = starts-length (bytes " (clear ") (part (up c.before)) (is_clear c)
 
 -- what the target's reader answers, from place n on
-aimed : (thread mv : ℕ) (xs : List ℕ) (n : ℕ) → targetForm thread mv (numberRead (take (length xs - n) (drop n xs))) ≡ targetForm thread mv (numberRead (drop n xs))
-aimed thread mv xs n = ap (λ (l : List ℕ). targetForm thread mv (numberRead l)) (from_on xs n)
+aimed : (thread mv : ℕ) (xs : List ℕ) (n : ℕ) → target_form thread mv (number_read (take (length xs - n) (drop n xs))) ≡ target_form thread mv (number_read (drop n xs))
+aimed thread mv xs n = ap (λ (l : List ℕ). target_form thread mv (number_read l)) (from_on xs n)
 
 sub-read-target : tie.Need-overflow-sub-read-target
 sub-read-target c = set_long c
@@ -56,26 +56,26 @@ part-read-target-start : tie.Need-slice-bounds-read-target-start
 part-read-target-start c = set_long c
 
 returns : tie.Need-returns
-unfolding aimedForm
+unfolding aimed_form
 returns c =
     let test = c.before.before in
-    rw (is_set test) (c.read-target.ensures ∙ aimed _ setMove (part test.before) 6)
+    rw (is_set test) (c.read-target.ensures ∙ aimed _ set_move (part test.before) 6)
 
 sub-read-target-2 : tie.Need-overflow-sub-read-target-2
-sub-read-target-2 c = clear-long c
+sub-read-target-2 c = clear_long c
 
 part-read-target-start-2 : tie.Need-slice-bounds-read-target-start-2
-part-read-target-start-2 c = clear-long c
+part-read-target-start-2 c = clear_long c
 
 returns-2 : tie.Need-returns-2
-unfolding aimedForm
+unfolding aimed_form
 returns-2 c =
     let test = c.before.before in
-    rw (not_set test.before.before.before, is-clear test) (c.read-target2.ensures ∙ aimed _ clearMove (part (up test.before)) 8)
+    rw (not_set test.before.before.before, is_clear test) (c.read-target2.ensures ∙ aimed _ clear_move (part (up test.before)) 8)
 
 returns-3 : tie.Need-returns-3
-unfolding aimedForm
-returns-3 c = rw (not_set c.before.before.before, not-clear c)
+unfolding aimed_form
+returns-3 c = rw (not_set c.before.before.before, not_clear c)
 
 pub read-aimed-spec : {M : Type 1} → statement M
 read-aimed-spec =

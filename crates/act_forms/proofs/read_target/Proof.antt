@@ -5,7 +5,7 @@ use borrow.Author.Rules.{rules}
 use Rattle.definitions.specs.Forms.{Form, request}
 use Rattle.definitions.specs.Moves.{ask}
 use Rattle.definitions.specs.Texts.{bytes}
-use Rattle.act_forms.specs.Readings.{formFor}
+use Rattle.act_forms.specs.Readings.{form_for}
 use Rattle.act_forms.proofs.Closings.{read_by}
 use Rattle.act_forms.proofs.read_target.Statement.{statement}
 use Rattle.act_forms.proofs.read_target.Tie as tie
@@ -21,7 +21,7 @@ returns : tie.Need-returns
 unfolding bytes
 returns c =
     let read = c.before.before.before.before in
-    ap formFor c.asking.ensures ∙ read_by (aimed read) _ (bytes "))") _ _ read.read-closed.ensures c.before.before.number.given.1
+    ap form_for c.asking.ensures ∙ read_by (aimed read) _ (bytes "))") _ _ read.read-closed.ensures c.before.before.number.given.1
 
 returns-2 : tie.Need-returns-2
 unfolding bytes

@@ -3,7 +3,7 @@ use Prim.Native.Nat.{ℕ}
 use mathlib.Core.List.{List, ◌++◌}
 use borrow.Author.Rules.{rules}
 use Rattle.definitions.specs.Texts.{decimal}
-use Rattle.basics.proofs.Parts.{Partly, no_part, room-part, part-put, last-part}
+use Rattle.basics.proofs.Parts.{Partly, no_part, room_part, part_put, last_part}
 use Rattle.acts.proofs.put_around.Statement.{statement}
 use Rattle.acts.proofs.put_around.Tie as tie
 
@@ -22,23 +22,23 @@ up1 c = c.before.before.before.before.before
 abbrev up2 : tie.After-put-decimal → tie.After-put-text
 up2 c = c.before.before.before.before
 
-word-put : (c : tie.After-put-text) → Up-to (up1 c) (from-number (up1 c)) c.put-text.new.0 c.put-text.result
-word-put c = part-put _ (from-number (up1 c)) (no_part (up1 c).requires) c.put-text.ensures
+word_put : (c : tie.After-put-text) → Up-to (up1 c) (from-number (up1 c)) c.put-text.new.0 c.put-text.result
+word_put c = part_put _ (from-number (up1 c)) (no_part (up1 c).requires) c.put-text.ensures
 
 number_put : (c : tie.After-put-decimal) → let s = up1 (up2 c) in Up-to s s.args.close.now c.put-decimal.new.0 c.put-decimal.result
-number_put c = let s = up1 (up2 c) in part-put (decimal s.args.number) s.args.close.now (word-put (up2 c)) c.put-decimal.ensures
+number_put c = let s = up1 (up2 c) in part_put (decimal s.args.number) s.args.close.now (word_put (up2 c)) c.put-decimal.ensures
 
 put-text-requires : tie.Need-put-text-requires
-put-text-requires c κs = let s = c.before.before.before.before in room-part s.args.word.now (from-number s) (no_part s.requires)
+put-text-requires c κs = let s = c.before.before.before.before in room_part s.args.word.now (from-number s) (no_part s.requires)
 
 put-decimal-requires : tie.Need-put-decimal-requires
-put-decimal-requires c κs = let p = c.before.before.before in room-part _ (up1 p).args.close.now (word-put p)
+put-decimal-requires c κs = let p = c.before.before.before in room_part _ (up1 p).args.close.now (word_put p)
 
 put-text-requires-2 : tie.Need-put-text-requires-2
 put-text-requires-2 c κs = (number_put c.before.before.before).room
 
 returns : tie.Need-returns
-returns c = last-part (number_put c.before.before.before.before.before.before) c.before.before.put-text2.ensures
+returns c = last_part (number_put c.before.before.before.before.before.before) c.before.before.put-text2.ensures
 
 pub put-around-spec : {M : Type 1} → statement M
 put-around-spec =

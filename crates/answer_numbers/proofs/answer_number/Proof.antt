@@ -3,16 +3,16 @@ use Prim.Native.Nat.{ℕ, ◌+◌, ◌*◌, ◌<◌}
 use native.Mathlib.Omega.{arith}
 use mathlib.Core.Path.{◌≡◌, sym, subst, ap, ◌∙◌}
 use borrow.Author.Rules.{rules}
-use Rattle.definitions.specs.Answers.{answerReply}
+use Rattle.definitions.specs.Answers.{answer_reply}
 use Rattle.definitions.specs.declared.Answer.{Answer}
-use Rattle.answer_numbers.specs.Encoding.{encoded, countNumber, valueIn, valueBound}
+use Rattle.answer_numbers.specs.Encoding.{encoded, count_number, value_in, value_bound}
 use Rattle.answer_numbers.proofs.Apart.{numbers}
 use Rattle.answer_numbers.proofs.answer_number.Statement.{statement}
 use Rattle.answer_numbers.proofs.answer_number.Tie as tie
 
 -- what is required, at the case that the answer is
-small : (a b : Answer) → a ≡ b → valueIn (answerReply a) < valueBound → valueIn (answerReply b) < valueBound
-small a b e h = subst (λ (x : Answer). valueIn (answerReply x) < valueBound) e h
+small : (a b : Answer) → a ≡ b → value_in (answer_reply a) < value_bound → value_in (answer_reply b) < value_bound
+small a b e h = subst (λ (x : Answer). value_in (answer_reply x) < value_bound) e h
 
 mul-result : tie.Need-overflow-mul-result
 mul-result c = omega (arith, small _ _ c.before.answer.given.1 c.before.before.before.requires)
@@ -30,13 +30,13 @@ add-result c =
 
 returns : tie.Need-returns
 unfolding encoded
-returns c = sym (ap (λ (a : Answer). countNumber (answerReply a)) c.before.answer.given.1)
+returns c = sym (ap (λ (a : Answer). count_number (answer_reply a)) c.before.answer.given.1)
 
 returns-2 : tie.Need-returns-2
 unfolding encoded
 returns-2 c =
     let g = c.before.before.answer2.given in
-    ap (λ (k : ℕ). 256 * g.0.1.0 + k) c.number_of_lem.ensures ∙ sym (ap (λ (a : Answer). countNumber (answerReply a)) g.1)
+    ap (λ (k : ℕ). 256 * g.0.1.0 + k) c.number_of_lem.ensures ∙ sym (ap (λ (a : Answer). count_number (answer_reply a)) g.1)
 
 pub answer-number-spec : {M : Type 1} → statement M
 answer-number-spec =

@@ -3,16 +3,16 @@ use Prim.Native.Nat.{ℕ, ◌+◌, ◌*◌, ◌<◌}
 use native.Mathlib.Omega.{arith}
 use mathlib.Core.Path.{◌≡◌, sym, subst, ap, ◌∙◌}
 use borrow.Author.Rules.{rules}
-use Rattle.definitions.specs.ShortHistories.{nextReply}
+use Rattle.definitions.specs.ShortHistories.{next_reply}
 use Rattle.definitions.specs.declared.NextHistory.{NextHistory}
-use Rattle.answer_numbers.specs.Encoding.{encoded, nextNumber, nextIn, valueBound}
+use Rattle.answer_numbers.specs.Encoding.{encoded, next_number, next_in, value_bound}
 use Rattle.answer_numbers.proofs.Apart.{numbers}
 use Rattle.answer_numbers.proofs.next_number.Statement.{statement}
 use Rattle.answer_numbers.proofs.next_number.Tie as tie
 
 -- what is required, at the case that the answer is
-small : (a b : NextHistory) → a ≡ b → nextIn (nextReply a) < valueBound → nextIn (nextReply b) < valueBound
-small a b e h = subst (λ (x : NextHistory). nextIn (nextReply x) < valueBound) e h
+small : (a b : NextHistory) → a ≡ b → next_in (next_reply a) < value_bound → next_in (next_reply b) < value_bound
+small a b e h = subst (λ (x : NextHistory). next_in (next_reply x) < value_bound) e h
 
 mul-result : tie.Need-overflow-mul-result
 mul-result c = omega (arith, small _ _ c.before.answer.given.1 c.before.before.before.requires)
@@ -30,17 +30,17 @@ add-result c =
 
 returns : tie.Need-returns
 unfolding encoded
-returns c = sym (ap (λ (a : NextHistory). nextNumber (nextReply a)) c.before.answer.given.1)
+returns c = sym (ap (λ (a : NextHistory). next_number (next_reply a)) c.before.answer.given.1)
 
 returns-2 : tie.Need-returns-2
 unfolding encoded
-returns-2 c = sym (ap (λ (a : NextHistory). nextNumber (nextReply a)) c.enum_told.given.1)
+returns-2 c = sym (ap (λ (a : NextHistory). next_number (next_reply a)) c.enum_told.given.1)
 
 returns-3 : tie.Need-returns-3
 unfolding encoded
 returns-3 c =
     let g = c.before.before.answer2.given in
-    ap (λ (k : ℕ). 256 * g.0.1.0 + k) c.number_of_lem.ensures ∙ sym (ap (λ (a : NextHistory). nextNumber (nextReply a)) g.1)
+    ap (λ (k : ℕ). 256 * g.0.1.0 + k) c.number_of_lem.ensures ∙ sym (ap (λ (a : NextHistory). next_number (next_reply a)) g.1)
 
 pub next-number-spec : {M : Type 1} → statement M
 next-number-spec =

@@ -3,16 +3,16 @@ use Prim.Native.Nat.{ℕ, ◌+◌, ◌*◌, ◌<◌}
 use native.Mathlib.Omega.{arith}
 use mathlib.Core.Path.{◌≡◌, sym, subst, ap, ◌∙◌}
 use borrow.Author.Rules.{rules}
-use Rattle.definitions.specs.Scripts.{readingReply}
+use Rattle.definitions.specs.Scripts.{reading_reply}
 use Rattle.definitions.specs.declared.Reading.{Reading}
-use Rattle.answer_numbers.specs.Encoding.{encoded, readNumber, listedIn, valueBound}
+use Rattle.answer_numbers.specs.Encoding.{encoded, read_number, listed_in, value_bound}
 use Rattle.answer_numbers.proofs.Apart.{numbers}
 use Rattle.answer_numbers.proofs.reading_number.Statement.{statement}
 use Rattle.answer_numbers.proofs.reading_number.Tie as tie
 
 -- what is required, at the case that the answer is
-small : (a b : Reading) → a ≡ b → listedIn (readingReply a) < valueBound → listedIn (readingReply b) < valueBound
-small a b e h = subst (λ (x : Reading). listedIn (readingReply x) < valueBound) e h
+small : (a b : Reading) → a ≡ b → listed_in (reading_reply a) < value_bound → listed_in (reading_reply b) < value_bound
+small a b e h = subst (λ (x : Reading). listed_in (reading_reply x) < value_bound) e h
 
 mul-result : tie.Need-overflow-mul-result
 mul-result c = omega (arith, small _ _ c.before.answer.given.1 c.before.before.before.requires)
@@ -36,13 +36,13 @@ add-result-2 c =
 
 returns : tie.Need-returns
 unfolding encoded
-returns c = sym (ap (λ (a : Reading). readNumber (readingReply a)) c.before.answer.given.1)
+returns c = sym (ap (λ (a : Reading). read_number (reading_reply a)) c.before.answer.given.1)
 
 returns-2 : tie.Need-returns-2
 unfolding encoded
 returns-2 c =
     let g = c.before.before.answer2.given in
-    ap (λ (k : ℕ). 256 * g.0.1.0 + k) c.number_of_lem.ensures ∙ sym (ap (λ (a : Reading). readNumber (readingReply a)) g.1)
+    ap (λ (k : ℕ). 256 * g.0.1.0 + k) c.number_of_lem.ensures ∙ sym (ap (λ (a : Reading). read_number (reading_reply a)) g.1)
 
 pub reading-number-spec : {M : Type 1} → statement M
 reading-number-spec =

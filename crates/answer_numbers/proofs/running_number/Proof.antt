@@ -3,16 +3,16 @@ use Prim.Native.Nat.{ℕ, ◌+◌, ◌*◌, ◌<◌}
 use native.Mathlib.Omega.{arith}
 use mathlib.Core.Path.{◌≡◌, sym, subst, ap, ◌∙◌}
 use borrow.Author.Rules.{rules}
-use Rattle.definitions.specs.Run.{runningReply}
+use Rattle.definitions.specs.Run.{running_reply}
 use Rattle.definitions.specs.declared.Running.{Running}
-use Rattle.answer_numbers.specs.Encoding.{encoded, runNumber, runIn, valueBound}
+use Rattle.answer_numbers.specs.Encoding.{encoded, run_number, run_in, value_bound}
 use Rattle.answer_numbers.proofs.Apart.{numbers}
 use Rattle.answer_numbers.proofs.running_number.Statement.{statement}
 use Rattle.answer_numbers.proofs.running_number.Tie as tie
 
 -- what is required, at the case that the answer is
-small : (a b : Running) → a ≡ b → runIn (runningReply a) < valueBound → runIn (runningReply b) < valueBound
-small a b e h = subst (λ (x : Running). runIn (runningReply x) < valueBound) e h
+small : (a b : Running) → a ≡ b → run_in (running_reply a) < value_bound → run_in (running_reply b) < value_bound
+small a b e h = subst (λ (x : Running). run_in (running_reply x) < value_bound) e h
 
 mul-result : tie.Need-overflow-mul-result
 mul-result c = omega (arith, small _ _ c.before.answer.given.1 c.before.before.before.requires)
@@ -36,13 +36,13 @@ add-result-2 c =
 
 returns : tie.Need-returns
 unfolding encoded
-returns c = sym (ap (λ (a : Running). runNumber (runningReply a)) c.before.answer.given.1)
+returns c = sym (ap (λ (a : Running). run_number (running_reply a)) c.before.answer.given.1)
 
 returns-2 : tie.Need-returns-2
 unfolding encoded
 returns-2 c =
     let g = c.before.before.answer2.given in
-    ap (λ (k : ℕ). 256 * g.0.1.0 + k) c.number_of_lem.ensures ∙ sym (ap (λ (a : Running). runNumber (runningReply a)) g.1)
+    ap (λ (k : ℕ). 256 * g.0.1.0 + k) c.number_of_lem.ensures ∙ sym (ap (λ (a : Running). run_number (running_reply a)) g.1)
 
 pub running-number-spec : {M : Type 1} → statement M
 running-number-spec =

@@ -6,69 +6,69 @@ use mathlib.Core.List.{List}
 use mathlib.Core.Path.{◌≡◌, ap, subst⁻¹, ◌∙◌}
 use borrow.Author.Rules.{rules}
 use lib.Dec.{eqb}
-use Rattle.definitions.specs.Bounds.{mostThreads, last_move}
-use Rattle.definitions.specs.Table.{table_of, byteTable}
+use Rattle.definitions.specs.Bounds.{most_threads, last_move}
+use Rattle.definitions.specs.Table.{table_of, byte_table}
 use Rattle.definitions.specs.declared.Head.{Head}
 use Rattle.definitions.specs.declared.Request.{Request}
 use Rattle.definitions.specs.declared.Task.{Task}
-use Rattle.theory.specs.Statements.{subjectBy, subjectOf}
+use Rattle.theory.specs.Statements.{subject_by, subject_of}
 use Rattle.theory.specs.Tables.{Sized, head_of, task_of, put_back}
 use Rattle.apply.specs.MoveMade.{MoveTried, Accepting, TwoThreads}
-use Rattle.views.specs.View.{viewAt, viewOf, Decides}
+use Rattle.views.specs.View.{view_at, view_of, Decides}
 use Rattle.views.specs.declared.Decided.{Decided}
 use Rattle.views.specs.declared.View.{View}
-use Rattle.moving.specs.Moved.{viewBy}
-use Rattle.moving.proofs.OneMove.{seen_by, count_fits, one-move}
-use Rattle.theory.proofs.Bytes.{sized-e, byte-keeps, same_bytes}
+use Rattle.moving.specs.Moved.{view_by}
+use Rattle.moving.proofs.OneMove.{seen_by, count_fits_lem, one_move}
+use Rattle.theory.proofs.Bytes.{sized_e, byte_keeps, same_bytes}
 use Rattle.theory.proofs.MoveWrites.{subject-thread}
-use Rattle.theory.proofs.Ways.{accepted-e}
+use Rattle.theory.proofs.Ways.{accepted_e}
 use Rattle.apply.proofs.apply_request.Statement.{statement}
 use Rattle.apply.proofs.apply_request.Tie as tie
 
 -- what an accepted request tells
 module _ (bytes : List ℕ) (k : ℕ) (r : Request) (h : Accepting bytes k r) where
   size : Sized bytes
-  size = sized-e bytes h.table.tested.is-sized
+  size = sized_e bytes h.table.tested.is_sized
 
   mover : r.thread < (table_of bytes).threads
-  mover = (accepted-e (table_of bytes) r h.accepted).thread-fits
+  mover = (accepted_e (table_of bytes) r h.accepted).thread-fits
 
   move-fits : r.mv ≤ last_move
-  move-fits = (accepted-e (table_of bytes) r h.accepted).move-fits
+  move-fits = (accepted_e (table_of bytes) r h.accepted).move-fits
 
   -- the subject, from the head and the mover read
-  module _ (head : Head) (task : Task) (t : ℕ) (e : head ≡ head_of (table_of bytes)) (f : task ≡ task_of (table_of bytes) r.thread) (g : t ≡ subjectBy r task.phase head.target) where
-    subject-is : t ≡ subjectOf (table_of bytes) r
-    subject-is = g ∙ (ap (λ (x : Task). subjectBy r x.phase head.target) f ∙ ap (λ (x : Head). subjectBy r ((table_of bytes).phase r.thread) x.target) e)
+  module _ (head : Head) (task : Task) (t : ℕ) (e : head ≡ head_of (table_of bytes)) (f : task ≡ task_of (table_of bytes) r.thread) (g : t ≡ subject_by r task.phase head.target) where
+    subject_is : t ≡ subject_of (table_of bytes) r
+    subject_is = g ∙ (ap (λ (x : Task). subject_by r x.phase head.target) f ∙ ap (λ (x : Head). subject_by r ((table_of bytes).phase r.thread) x.target) e)
 
-    subject-in : t < (table_of bytes).threads
-    subject-in = subst⁻¹ (λ (x : ℕ). x < (table_of bytes).threads) subject-is (subject-thread (table_of bytes) r h.accepted)
+    subject_in : t < (table_of bytes).threads
+    subject_in = subst⁻¹ (λ (x : ℕ). x < (table_of bytes).threads) subject_is (subject-thread (table_of bytes) r h.accepted)
 
     both : TwoThreads bytes r.thread t
-    both = record { size = size; mover = mover; subject = subject-in }
+    both = record { size = size; mover = mover; subject = subject_in }
 
     -- what is seen, with the subject read
     module _ (u : Task) (w : u ≡ task_of (table_of bytes) t) where
-      count-known : (cond (eqb u.forbidden 1) 1 0 ≤ k) × (k ≤ mostThreads)
+      count-known : (cond (eqb u.forbidden 1) 1 0 ≤ k) × (k ≤ most_threads)
       count-known =
-          let fits = count_fits byteTable bytes k h.table t subject-in in
+          let fits = count_fits_lem byte_table bytes k h.table t subject_in in
           (subst⁻¹ (λ (x : Task). cond (eqb x.forbidden 1) 1 0 ≤ k) w fits.0, omega (arith, fits.1, size.most))
 
-      module _ (v : View) (q : v ≡ viewBy head task t u k) where
-        seen : v ≡ viewOf (table_of bytes) r
+      module _ (v : View) (q : v ≡ view_by head task t u k) where
+        seen : v ≡ view_of (table_of bytes) r
         seen =
             let s = table_of bytes in
             q
-            ∙ (ap (λ (x : Head). viewBy x task t u k) e
-            ∙ (ap (λ (x : Task). viewBy (head_of s) x t u k) f
-            ∙ (ap (λ (x : Task). viewBy (head_of s) (task_of s r.thread) t x k) w
-            ∙ (seen_by byteTable bytes k h.table t subject-in r.thread ∙ ap (viewAt s r.thread) subject-is))))
+            ∙ (ap (λ (x : Head). view_by x task t u k) e
+            ∙ (ap (λ (x : Task). view_by (head_of s) x t u k) f
+            ∙ (ap (λ (x : Task). view_by (head_of s) (task_of s r.thread) t x k) w
+            ∙ (seen_by byte_table bytes k h.table t subject_in r.thread ∙ ap (view_at s r.thread) subject_is))))
 
-        made : (d : Decided) (after : List ℕ) (k' : ℕ) → Decides v r.mv d → after ≡ put_back byteTable bytes r.thread t d.head d.mover d.forbidden
+        made : (d : Decided) (after : List ℕ) (k' : ℕ) → Decides v r.mv d → after ≡ put_back byte_table bytes r.thread t d.head d.mover d.forbidden
             → k' + cond (eqb u.forbidden 1) 1 0 ≡ k + cond (eqb d.forbidden 1) 1 0 → MoveTried bytes r after (record { outcome = d.outcome; forbidden = k' })
         made d after k' rule put new =
-            one-move byteTable bytes k h.table byte-keeps same_bytes r h v d seen rule after k'
-            (put ∙ ap (λ (x : ℕ). put_back byteTable bytes r.thread x d.head d.mover d.forbidden) subject-is)
+            one_move byte_table bytes k h.table byte_keeps same_bytes r h v d seen rule after k'
+            (put ∙ ap (λ (x : ℕ). put_back byte_table bytes r.thread x d.head d.mover d.forbidden) subject_is)
             (subst⁻¹ (λ (x : View). k' + cond (eqb x.subject.forbidden 1) 1 0 ≡ k + cond (eqb d.forbidden 1) 1 0) q new)
 
 -- ---- the places of the code
@@ -93,8 +93,8 @@ module _ (c : tie.After-subject-of) where
   abbrev at : tie.After-read-head
   at = c.before.before.before
 
-  subject-below : c.subject-of.result < (table_of (bytes at)).threads
-  subject-below = subject-in (bytes at) (count at) (asked at) (known at) _ _ _ at.read_head.ensures c.before.read-task.ensures c.subject-of.ensures
+  subject_below : c.subject-of.result < (table_of (bytes at)).threads
+  subject_below = subject_in (bytes at) (count at) (asked at) (known at) _ _ _ at.read_head.ensures c.before.read-task.ensures c.subject-of.ensures
 
 read-head-requires : tie.Need-read-head-requires
 read-head-requires c κs = let start = c.before.before.before in size _ _ _ start.requires
@@ -106,15 +106,15 @@ subject-of-requires : tie.Need-subject-of-requires
 subject-of-requires c κs = move-fits _ _ _ (known c.before.before)
 
 read-task-requires-2 : tie.Need-read-task-requires-2
-read-task-requires-2 c κs = (size _ _ _ (known (at c.before)), subject-below c.before)
+read-task-requires-2 c κs = (size _ _ _ (known (at c.before)), subject_below c.before)
 
 view-of-requires : tie.Need-view-of-requires
 view-of-requires c κs =
     let called = c.before.before in
     let head = at called in
     let sized = size _ _ _ (known head) in
-    subst⁻¹ (λ (x : Head). (1 ≤ x.threads) × (x.threads ≤ mostThreads) × (called.subject-of.result < x.threads)) head.read_head.ensures
-    (sized.least, sized.most, subject-below called)
+    subst⁻¹ (λ (x : Head). (1 ≤ x.threads) × (x.threads ≤ most_threads) × (called.subject-of.result < x.threads)) head.read_head.ensures
+    (sized.least, sized.most, subject_below called)
 
 cast-decide : tie.Need-overflow-cast-decide
 cast-decide c = omega (arith, move-fits _ _ _ (known (at c.before.before.before.before)))

@@ -5,43 +5,43 @@ use mathlib.Core.List.{List}
 use mathlib.Core.Path.{◌≡◌, refl, subst, ap, ◌∙◌}
 use lib.Bits.{bit_or}
 use lib.ListN.{get_or}
-use Rattle.definitions.specs.Bounds.{mostThreads}
-use Rattle.definitions.specs.Table.{Table, table_of, phaseAt, busyAt, forbiddenAt}
-use Rattle.rows.specs.Rows.{row_at, stateIn, threadWord, foundBy}
-use Rattle.soundness.specs.Pass.{foundOf}
+use Rattle.definitions.specs.Bounds.{most_threads}
+use Rattle.definitions.specs.Table.{Table, table_of, phase_at, busy_at, forbidden_at}
+use Rattle.rows.specs.Rows.{row_at, state_in, thread_word, found_by}
+use Rattle.soundness.specs.Pass.{found_of}
 use Rattle.soundness.specs.declared.Found.{Found}
-use Rattle.byte_pass.specs.Words.{oddWord}
+use Rattle.byte_pass.specs.Words.{odd_word}
 use Rattle.rows.proofs.Collected.{Bytes}
-use Rattle.byte_pass.proofs.Passing.{AtHand, rows-most, begun, gone-on, ended-all}
+use Rattle.byte_pass.proofs.Passing.{AtHand, rows-most, begun, gone_on, ended-all}
 use Rattle.byte_pass.proofs.found.Statement.{statement}
 use Rattle.byte_pass.proofs.found.Tie as tie
 
 -- every byte of a table is one
-bytes-at : (l : List ℕ) → ((k : ℕ) → get_or l k 0 < 2 ^ 8) → (i : ℕ) → Bytes (table_of l) i
-bytes-at l known i = record { phase = known (phaseAt i); busy = known (busyAt i); forbidden = known (forbiddenAt i) }
+bytes_at : (l : List ℕ) → ((k : ℕ) → get_or l k 0 < 2 ^ 8) → (i : ℕ) → Bytes (table_of l) i
+bytes_at l known i = record { phase = known (phase_at i); busy = known (busy_at i); forbidden = known (forbidden_at i) }
 
 module _ (l : List ℕ) (known : (k : ℕ) → get_or l k 0 < 2 ^ 8) (last : ℕ) where
   abbrev s : Table
   s = table_of l
 
-  first-words : (first second : ℕ) → first ≡ threadWord s last 0 → second ≡ oddWord s last → AtHand s last 0 0 0 first second
-  first-words first second e f = rw (e, f) (begun s last (bytes-at l known last) (bytes-at l known (last - 1)))
+  first_words : (first second : ℕ) → first ≡ thread_word s last 0 → second ≡ odd_word s last → AtHand s last 0 0 0 first second
+  first_words first second e f = rw (e, f) (begun s last (bytes_at l known last) (bytes_at l known (last - 1)))
 
-  module _ (k total seen first second rows : ℕ) (c : AtHand s last k total seen first second) (added : rows ≡ row_at (stateIn first) + row_at (stateIn second)) where
-    rows_fit : k ≤ mostThreads → total + rows < 2 ^ 64
+  module _ (k total seen first second rows : ℕ) (c : AtHand s last k total seen first second) (added : rows ≡ row_at (state_in first) + row_at (state_in second)) where
+    rows_fit : k ≤ most_threads → total + rows < 2 ^ 64
     rows_fit most = omega (arith, rows-most s last c)
 
-    next-words : (k' i first' second' : ℕ) → k' ≡ k + 2 → i ≡ k + 1 → first' ≡ threadWord s k (s.phase (k + 1)) → second' ≡ threadWord s i (s.phase (i + 1))
+    next_words : (k' i first' second' : ℕ) → k' ≡ k + 2 → i ≡ k + 1 → first' ≡ thread_word s k (s.phase (k + 1)) → second' ≡ thread_word s i (s.phase (i + 1))
         → AtHand s last k' (total + rows) (bit_or seen (bit_or first second)) first' second'
-    next-words k' i first' second' e f w w' =
+    next_words k' i first' second' e f w w' =
         let two : k' ≡ suc (suc k) = omega arith in
         let one : i ≡ suc k = omega arith in
-        rw (two, added, w, w' ∙ ap (λ (j : ℕ). threadWord s j (s.phase (i + 1))) one)
-        (gone-on s last c _ _ (bytes-at l known k) (bytes-at l known (suc k)) (known (phaseAt (k + 1))) (known (phaseAt (i + 1))))
+        rw (two, added, w, w' ∙ ap (λ (j : ℕ). thread_word s j (s.phase (i + 1))) one)
+        (gone_on s last c _ _ (bytes_at l known k) (bytes_at l known (suc k)) (known (phase_at (k + 1))) (known (phase_at (i + 1))))
 
-    all_words : (n : ℕ) (r : Found) → k ≡ 2 * (last / 2) → n ≡ suc last → n ≤ mostThreads → r ≡ foundBy (total + rows) (bit_or seen (bit_or first second)) → r ≡ foundOf s n
+    all_words : (n : ℕ) (r : Found) → k ≡ 2 * (last / 2) → n ≡ suc last → n ≤ most_threads → r ≡ found_by (total + rows) (bit_or seen (bit_or first second)) → r ≡ found_of s n
     all_words n r even is most e =
-        e ∙ (ap (λ (x : ℕ). foundBy (total + x) (bit_or seen (bit_or first second))) added ∙ ended-all s last c n even is most)
+        e ∙ (ap (λ (x : ℕ). found_by (total + x) (bit_or seen (bit_or first second))) added ∙ ended-all s last c n even is most)
 
 same-passed : {s : Table} {last k k' total seen first second : ℕ} → k ≡ k' → AtHand s last k total seen first second → AtHand s last k' total seen first second
 same-passed {s} {last} {k} {k'} {total} {seen} {first} {second} e c = subst (λ (j : ℕ). AtHand s last j total seen first second) e c
@@ -73,7 +73,7 @@ loop-holds : tie.Need-loop-init invariant-loop2 decreases-loop2 invariant-loop d
 loop-holds c =
     let known = c.before.before in
     let a = known.before.args in
-    (omega arith, first-words a.table.now (λ k. (known.shared-slice-known.given k).fits) (a.threads - 1) _ _ c.before.last_word.ensures c.odd-word.ensures)
+    (omega arith, first_words a.table.now (λ k. (known.shared-slice-known.given k).fits) (a.threads - 1) _ _ c.before.last_word.ensures c.odd-word.ensures)
 
 loop2-holds : tie.Need-loop2-init invariant-loop2 decreases-loop2 invariant-loop decreases-loop
 loop2-holds c =
@@ -109,7 +109,7 @@ module _ (c : tie.In-loop2 invariant-loop2 decreases-loop2 invariant-loop decrea
   known_bytes : (k : ℕ) → get_or bytes k 0 < 2 ^ 8
   known_bytes k = (known.shared-slice-known.given k).fits
 
-  few : known.before.args.threads ≤ mostThreads
+  few : known.before.args.threads ≤ most_threads
   few = omega (arith, known.before.pre)
 
 two-rows-requires : tie.Need-two-rows-requires invariant-loop2 decreases-loop2 invariant-loop decreases-loop
@@ -131,31 +131,31 @@ returns c =
     (omega (arith, (turn i).loop.invariant.0, c.before.if1.true)) (omega (arith, (known i).before.requires)) (few i) c.found_of.ensures
 
 -- two threads more stand in front of the last one or two
-two-more : (c : tie.Else1 invariant-loop2 decreases-loop2 invariant-loop decreases-loop) → passed c.before.before + 2 ≤ 2 * (last c.before.before / 2)
-two-more c =
+two_more : (c : tie.Else1 invariant-loop2 decreases-loop2 invariant-loop decreases-loop) → passed c.before.before + 2 ≤ 2 * (last c.before.before / 2)
+two_more c =
     let i = c.before.before in
     omega (arith, (turn i).loop.invariant.0, (at i).loop2.invariant.1, c.if1.false)
 
 mul-thread-word : tie.Need-overflow-mul-thread-word invariant-loop2 decreases-loop2 invariant-loop decreases-loop
-mul-thread-word c = omega (arith, two-more c, few c.before.before)
+mul-thread-word c = omega (arith, two_more c, few c.before.before)
 
 add-thread-word : tie.Need-overflow-add-thread-word invariant-loop2 decreases-loop2 invariant-loop decreases-loop
-add-thread-word c = omega (arith, two-more c, few c.before.before)
+add-thread-word c = omega (arith, two_more c, few c.before.before)
 
 thread-word-requires : tie.Need-thread-word-requires invariant-loop2 decreases-loop2 invariant-loop decreases-loop
-thread-word-requires c κs = let start = (known c.before.before).before in (start.pre.0, omega (arith, two-more c, start.pre))
+thread-word-requires c κs = let start = (known c.before.before).before in (start.pre.0, omega (arith, two_more c, start.pre))
 
 mul-thread-word-2 : tie.Need-overflow-mul-thread-word-2 invariant-loop2 decreases-loop2 invariant-loop decreases-loop
-mul-thread-word-2 c = omega (arith, two-more c.before, few c.before.before.before)
+mul-thread-word-2 c = omega (arith, two_more c.before, few c.before.before.before)
 
 add-thread-word-2 : tie.Need-overflow-add-thread-word-2 invariant-loop2 decreases-loop2 invariant-loop decreases-loop
-add-thread-word-2 c = omega (arith, two-more c.before, few c.before.before.before)
+add-thread-word-2 c = omega (arith, two_more c.before, few c.before.before.before)
 
 add-thread-word-3 : tie.Need-overflow-add-thread-word-3 invariant-loop2 decreases-loop2 invariant-loop decreases-loop
-add-thread-word-3 c = omega (arith, two-more c.before, few c.before.before.before)
+add-thread-word-3 c = omega (arith, two_more c.before, few c.before.before.before)
 
 thread-word-requires-2 : tie.Need-thread-word-requires-2 invariant-loop2 decreases-loop2 invariant-loop decreases-loop
-thread-word-requires-2 c κs = let start = (known c.before.before.before).before in (start.pre.0, omega (arith, two-more c.before, start.pre))
+thread-word-requires-2 c κs = let start = (known c.before.before.before).before in (start.pre.0, omega (arith, two_more c.before, start.pre))
 
 add-j : tie.Need-overflow-add-j invariant-loop2 decreases-loop2 invariant-loop decreases-loop
 add-j c = omega arith
@@ -168,8 +168,8 @@ loop2-again c =
     let called = c.before.before.before in
     let i = called.before in (
       omega arith,
-      omega (arith, two-more c.before.before, (turn i).loop.invariant.0),
-      next-words (bytes i) (known_bytes i) (last i) (passed i) _ _ _ _ _ (collected i) called.two-rows.ensures _ _ _ _
+      omega (arith, two_more c.before.before, (turn i).loop.invariant.0),
+      next_words (bytes i) (known_bytes i) (last i) (passed i) _ _ _ _ _ (collected i) called.two-rows.ensures _ _ _ _
           (omega arith) refl c.before.thread-word.ensures c.thread-word2.ensures,
     )
 

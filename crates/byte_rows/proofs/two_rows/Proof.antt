@@ -4,7 +4,7 @@ use native.Mathlib.Numerals.{add-one}
 use native.Mathlib.Omega.{arith}
 use mathlib.Core.Path.{◌≡◌, refl, sym, subst, ap, ◌∙◌}
 use Rattle.definitions.specs.Threads.{sum_of}
-use Rattle.rows.specs.Rows.{oneBad, row_at, stateIn}
+use Rattle.rows.specs.Rows.{one_bad, row_at, state_in}
 use Rattle.rows.proofs.RowBounds.{row-most}
 use Rattle.byte_rows.proofs.two_rows.Statement.{statement}
 use Rattle.byte_rows.proofs.two_rows.Tie as tie
@@ -14,27 +14,27 @@ word_at first second zero = first
 word_at first second (suc turn) = second
 
 abbrev rows_to : ℕ → ℕ → ℕ → ℕ
-rows_to first second turns = sum_of turns (λ turn. row_at (stateIn (word_at first second turn)))
+rows_to first second turns = sum_of turns (λ turn. row_at (state_in (word_at first second turn)))
 
 record Passed (first second sum word turns : ℕ) : Type 0 where
   within : turns ≤ 2
   short : word < 2 ^ 32
-  word-is : word ≡ word_at first second turns
+  word_is : word ≡ word_at first second turns
   so_far : sum ≡ rows_to first second turns
-  few : sum ≤ turns * oneBad
+  few : sum ≤ turns * one_bad
 
 -- one turn more
-module _ (first second sum word turns row : ℕ) (p : Passed first second sum word turns) (r : row ≡ row_at (stateIn word)) where
-  row-few : row ≤ oneBad
-  row-few = subst (λ (x : ℕ). x ≤ oneBad) (sym r) (row-most (stateIn word))
+module _ (first second sum word turns row : ℕ) (p : Passed first second sum word turns) (r : row ≡ row_at (state_in word)) where
+  row-few : row ≤ one_bad
+  row-few = subst (λ (x : ℕ). x ≤ one_bad) (sym r) (row-most (state_in word))
 
   turned : turns ≤ 1 → second < 2 ^ 32 → Passed first second (sum + row) second (suc turns)
   turned h s =
       record {
         within = omega arith;
         short = s;
-        word-is = refl;
-        so_far = cc (ap (λ (w : ℕ). row_at (stateIn w)) p.word-is);
+        word_is = refl;
+        so_far = cc (ap (λ (w : ℕ). row_at (state_in w)) p.word_is);
         few = omega (arith, row-few);
       }
 
@@ -45,7 +45,7 @@ abbrev decreases-loop : tie.decreases-loop
 decreases-loop first second sum₀ word₀ counter₀ sum word counter = 2 - counter
 
 loop-holds : tie.Need-loop-init invariant-loop decreases-loop
-loop-holds c = record { within = omega arith; short = c.requires.0; word-is = refl; so_far = refl; few = omega arith }
+loop-holds c = record { within = omega arith; short = c.requires.0; word_is = refl; so_far = refl; few = omega arith }
 
 row-in-requires : tie.Need-row-in-requires invariant-loop decreases-loop
 row-in-requires c κs = c.before.loop.invariant.short

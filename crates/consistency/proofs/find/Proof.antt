@@ -6,29 +6,29 @@ use mathlib.Core.List.{List}
 use mathlib.Core.Path.{◌≡◌, refl, sym, subst, ap, ◌∙◌}
 use borrow.Author.Rules.{rules}
 use lib.Dec.{eqb}
-use Rattle.definitions.specs.Bounds.{mostThreads}
-use Rattle.definitions.specs.PlainLock.{placesIn}
-use Rattle.definitions.specs.Threads.{every, howMany}
-use Rattle.consistency.specs.Pass.{Room, withPlace, foundIn}
+use Rattle.definitions.specs.Bounds.{most_threads}
+use Rattle.definitions.specs.PlainLock.{places_in}
+use Rattle.definitions.specs.Threads.{every, how_many}
+use Rattle.consistency.specs.Pass.{Room, with_place, found_in}
 use Rattle.consistency.specs.declared.Found.{Found}
-use Rattle.basics.proofs.Quantifiers.{howMany-most}
+use Rattle.basics.proofs.Quantifiers.{how_many-most}
 use Rattle.consistency.proofs.find.Statement.{statement}
 use Rattle.consistency.proofs.find.Tie as tie
 
 record Passed (n : ℕ) (places : List ℕ) (found : Found) (t : ℕ) : Type 0 where
   within : t ≤ n
-  so_far : found ≡ foundIn places t
+  so_far : found ≡ found_in places t
 
-next : (places : List ℕ) (t : ℕ) → withPlace (foundIn places t) (placesIn places t) ≡ foundIn places (t + 1)
-unfolding howMany every
-next places t = ap (foundIn places) (sym (add-one t))
+next : (places : List ℕ) (t : ℕ) → with_place (found_in places t) (places_in places t) ≡ found_in places (t + 1)
+unfolding how_many every
+next places t = ap (found_in places) (sym (add-one t))
 
-room : (n : ℕ) (places : List ℕ) (found : Found) (t : ℕ) → n ≤ mostThreads → Passed n places found t → t < n → Room found
+room : (n : ℕ) (places : List ℕ) (found : Found) (t : ℕ) → n ≤ most_threads → Passed n places found t → t < n → Room found
 room n places found t few p l =
     subst Room (sym p.so_far)
     (record {
-      shared = omega (arith, howMany-most (λ k. eqb (placesIn places k) 2) t);
-      exclusive = omega (arith, howMany-most (λ k. eqb (placesIn places k) 6) t);
+      shared = omega (arith, how_many-most (λ k. eqb (places_in places k) 2) t);
+      exclusive = omega (arith, how_many-most (λ k. eqb (places_in places k) 6) t);
     })
 
 abbrev invariant-loop : tie.invariant-loop
@@ -38,7 +38,7 @@ abbrev decreases-loop : tie.decreases-loop
 decreases-loop threads places found₀ count t₀ found t = count - t
 
 loop-holds : tie.Need-loop-init invariant-loop decreases-loop
-unfolding howMany every
+unfolding how_many every
 loop-holds c = record { within = omega arith; so_far = refl }
 
 shared-slice-read-place : tie.Need-shared-slice-read-place invariant-loop decreases-loop
@@ -59,13 +59,13 @@ loop-again c =
     record {
       within = omega (arith, c.before.before.loop-test.true);
       so_far = c.with-place.ensures
-          ∙ (ap (λ (f : Found). withPlace f (placesIn places at.loop.t)) at.loop.invariant.so_far ∙ next places at.loop.t);
+          ∙ (ap (λ (f : Found). with_place f (places_in places at.loop.t)) at.loop.invariant.so_far ∙ next places at.loop.t);
     }
 
 returns : tie.Need-returns invariant-loop decreases-loop
 returns c =
     let at = c.before in
-    at.loop.invariant.so_far ∙ ap (foundIn at.before.before.args.places.now) (omega (arith, at.loop.invariant.within, c.loop-test.false))
+    at.loop.invariant.so_far ∙ ap (found_in at.before.before.args.places.now) (omega (arith, at.loop.invariant.within, c.loop-test.false))
 
 pub find_spec : {M : Type 1} → statement M
 find_spec =

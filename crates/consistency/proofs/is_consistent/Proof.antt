@@ -1,9 +1,9 @@
 -- `is_consistent` meets its contract: one pass decides.
 use mathlib.Core.Path.{ap, ◌∙◌}
 use borrow.Author.Rules.{rules}
-use Rattle.consistency.specs.Pass.{foundIn, foundFits}
+use Rattle.consistency.specs.Pass.{found_in, found_fits}
 use Rattle.consistency.specs.declared.Found.{Found}
-use Rattle.consistency.proofs.OnePass.{one-pass}
+use Rattle.consistency.proofs.OnePass.{one_pass}
 use Rattle.consistency.proofs.is_consistent.Statement.{statement}
 use Rattle.consistency.proofs.is_consistent.Tie as tie
 
@@ -14,8 +14,8 @@ returns c =
     let a = passed.before.before.args in
     let places = a.places.now in
     c.found-fits.ensures
-    ∙ (ap (λ (f : Found). foundFits a.totals f rest.rest-is-empty.result) passed.find.ensures
-    ∙ (ap (foundFits a.totals (foundIn places a.totals.threads)) rest.rest-is-empty.ensures ∙ one-pass a.totals places))
+    ∙ (ap (λ (f : Found). found_fits a.totals f rest.rest-is-empty.result) passed.find.ensures
+    ∙ (ap (found_fits a.totals (found_in places a.totals.threads)) rest.rest-is-empty.ensures ∙ one_pass a.totals places))
 
 pub is-consistent-spec : {M : Type 1} → statement M
 is-consistent-spec = tie.close (tie.spec (λ c κs. search rules) (λ c κs. search rules) (λ c κs. search rules) returns)

@@ -2,15 +2,15 @@
 use native.Mathlib.Omega.{arith}
 use borrow.Author.Rules.{rules}
 use lib.Dec.{eqb}
-use Rattle.basics.proofs.Casts.{cast_is, cast-most}
+use Rattle.basics.proofs.Casts.{cast_is, cast_most}
 use Rattle.consistency.proofs.with_place.Statement.{statement}
 use Rattle.consistency.proofs.with_place.Tie as tie
 
 add-shared : tie.Need-overflow-add-shared
-add-shared c = record { fits = omega (arith, c.before.requires.shared, cast-most (eqb c.before.args.place 2)) }
+add-shared c = record { fits = omega (arith, c.before.requires.shared, cast_most (eqb c.before.args.place 2)) }
 
 add-exclusive : tie.Need-overflow-add-exclusive
-add-exclusive c = record { fits = omega (arith, c.before.before.requires.exclusive, cast-most (eqb c.before.before.args.place 6)) }
+add-exclusive c = record { fits = omega (arith, c.before.before.requires.exclusive, cast_most (eqb c.before.before.args.place 6)) }
 
 returns : tie.Need-returns
 returns c =

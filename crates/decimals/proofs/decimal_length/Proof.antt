@@ -1,6 +1,6 @@
 -- `decimals::decimal_length` meets its contract. The loop's invariant: the digits behind those of `front` are counted. The measure is `front`.
 use native.Mathlib.Omega.{arith}
-use Rattle.decimals.proofs.Decimals.{DigitsCounted, counted_none, counted-more, counted-all, counted-few}
+use Rattle.decimals.proofs.Decimals.{DigitsCounted, counted_none, counted_more, counted-all, counted-few}
 use Rattle.decimals.proofs.decimal_length.Statement.{statement}
 use Rattle.decimals.proofs.decimal_length.Tie as tie
 
@@ -17,7 +17,7 @@ add-digits : tie.Need-overflow-add-digits invariant-loop decreases-loop
 add-digits c = omega (arith, counted-few _ _ _ c.before.before.ranges.n.fits c.before.loop.invariant)
 
 loop-again : tie.Need-loop-preserved invariant-loop decreases-loop
-loop-again c = counted-more _ _ _ c.loop-test.true c.before.loop.invariant
+loop-again c = counted_more _ _ _ c.loop-test.true c.before.loop.invariant
 
 returns : tie.Need-returns invariant-loop decreases-loop
 returns c = counted-all _ _ _ c.loop-test.false c.before.loop.invariant

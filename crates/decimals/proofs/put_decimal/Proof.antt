@@ -4,8 +4,8 @@ use native.Mathlib.Omega.{arith}
 use mathlib.Core.Path.{◌≡◌, refl, ap, ◌∙◌}
 use lib.ListN.{length}
 use Rattle.definitions.specs.Texts.{decimal}
-use Rattle.basics.proofs.Numbers.{decimal-small, decimal-some}
-use Rattle.decimals.proofs.Decimals.{Lower, lower-none, lower-room, lower-more, lower-all}
+use Rattle.basics.proofs.Numbers.{decimal_small, decimal-some}
+use Rattle.decimals.proofs.Decimals.{Lower, lower_none, lower_room, lower_more, lower_all}
 use Rattle.decimals.proofs.put_decimal.Statement.{statement}
 use Rattle.decimals.proofs.put_decimal.Tie as tie
 
@@ -20,12 +20,12 @@ further : (c : tie.In-loop invariant-loop decreases-loop) → let l = c.before.l
 further c = let l = c.before.loop in omega (arith, l.invariant.1.start, decimal-some l.high)
 
 first : (c : tie.After-loop invariant-loop decreases-loop) → let l = c.before.loop in c.before.before.before.before.args.at + 1 ≡ l.place
-first c = let l = c.before.loop in omega (arith, l.invariant.1.start, ap length (decimal-small l.high c.loop-test.false))
+first c = let l = c.before.loop in omega (arith, l.invariant.1.start, ap length (decimal_small l.high c.loop-test.false))
 
 loop-holds : tie.Need-loop-init invariant-loop decreases-loop
 loop-holds c =
     let end = ap (λ k. c.before.before.args.at + k) c.decimal-length.ensures in
-    (end, lower-none c.before.before.requires end)
+    (end, lower_none c.before.before.requires end)
 
 sub-place : tie.Need-overflow-sub-place invariant-loop decreases-loop
 sub-place c = omega (arith, further c)
@@ -33,18 +33,18 @@ sub-place c = omega (arith, further c)
 put-byte-requires : tie.Need-put-byte-requires invariant-loop decreases-loop
 put-byte-requires c κs =
     let l = c.before.before in
-    lower-room l.before.before.before.requires l.loop.invariant.1 _ (further c.before) _
+    lower_room l.before.before.before.requires l.loop.invariant.1 _ (further c.before) _
 
 loop-again : tie.Need-loop-preserved invariant-loop decreases-loop
 loop-again c =
     let test = c.before.before.before.before in
     let l = test.before in
-    (l.loop.invariant.0, lower-more l.before.before.before.requires l.loop.invariant.1 _ (further test) _ c.before.before.put_byte.ensures test.loop-test.true refl)
+    (l.loop.invariant.0, lower_more l.before.before.before.requires l.loop.invariant.1 _ (further test) _ c.before.before.put_byte.ensures test.loop-test.true refl)
 
 put-byte-requires-2 : tie.Need-put-byte-requires-2 invariant-loop decreases-loop
 put-byte-requires-2 c κs =
     let l = c.before.before in
-    lower-room l.before.before.before.requires l.loop.invariant.1 _ (first c.before) _
+    lower_room l.before.before.before.requires l.loop.invariant.1 _ (first c.before) _
 
 same_length : tie.Need-same-length invariant-loop decreases-loop
 same_length c = c.before.before.put-byte2.auto.0 ∙ c.before.before.before.before.before.loop.invariant.1.size
@@ -53,7 +53,7 @@ returns : tie.Need-returns invariant-loop decreases-loop
 returns c =
     let test = c.before.before.before.before in
     let l = test.before in
-    lower-all l.before.before.before.requires l.loop.invariant.1 _ (first test) _ c.before.before.put-byte2.ensures test.loop-test.false refl refl l.loop.invariant.0
+    lower_all l.before.before.before.requires l.loop.invariant.1 _ (first test) _ c.before.before.put-byte2.ensures test.loop-test.false refl refl l.loop.invariant.0
 
 pub put-decimal-spec : {M : Type 1} → statement M
 put-decimal-spec =

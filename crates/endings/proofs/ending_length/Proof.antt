@@ -1,12 +1,12 @@
 -- `endings::ending_length` meets its contract, by the case of the ending.
 use native.Mathlib.Omega.{arith}
 use borrow.Author.Rules.{rules}
-use Rattle.endings.proofs.Endings.{steps-length, refused-length}
+use Rattle.endings.proofs.Endings.{steps_length, refused-length}
 use Rattle.endings.proofs.ending_length.Statement.{statement}
 use Rattle.endings.proofs.ending_length.Tie as tie
 
 returns : tie.Need-returns
-returns c = omega (arith, steps-length c.before.before.ending.given.1)
+returns c = omega (arith, steps_length c.before.before.ending.given.1)
 
 returns-2 : tie.Need-returns-2
 returns-2 c =

@@ -1,7 +1,7 @@
 -- `event_names::put_name` meets its contract, arm by arm: an arm's text is the name of its code.
 use mathlib.Core.Path.{sym, ap}
 use borrow.Author.Rules.{rules}
-use Rattle.definitions.specs.Run.{eventName}
+use Rattle.definitions.specs.Run.{event_name}
 use Rattle.definitions.specs.Texts.{bytes}
 use Rattle.basics.proofs.Parts.{room_as, put_as}
 use Rattle.basics.proofs.Outputs.{none}
@@ -10,68 +10,68 @@ use Rattle.event_names.proofs.put_name.Statement.{statement}
 use Rattle.event_names.proofs.put_name.Tie as tie
 
 put-text-requires : tie.Need-put-text-requires
-unfolding bytes eventName
-put-text-requires c κs = room_as (ap eventName c.before.before.match.keys1) c.before.before.before.before.requires
+unfolding bytes event_name
+put-text-requires c κs = room_as (ap event_name c.before.before.match.keys1) c.before.before.before.before.requires
 
 put-text-requires-2 : tie.Need-put-text-requires-2
-unfolding bytes eventName
-put-text-requires-2 c κs = room_as (ap eventName c.before.before.match.keys2) c.before.before.before.before.requires
+unfolding bytes event_name
+put-text-requires-2 c κs = room_as (ap event_name c.before.before.match.keys2) c.before.before.before.before.requires
 
 put-text-requires-3 : tie.Need-put-text-requires-3
-unfolding bytes eventName
-put-text-requires-3 c κs = room_as (ap eventName c.before.before.match.keys3) c.before.before.before.before.requires
+unfolding bytes event_name
+put-text-requires-3 c κs = room_as (ap event_name c.before.before.match.keys3) c.before.before.before.before.requires
 
 put-text-requires-4 : tie.Need-put-text-requires-4
-unfolding bytes eventName
-put-text-requires-4 c κs = room_as (ap eventName c.before.before.match.keys4) c.before.before.before.before.requires
+unfolding bytes event_name
+put-text-requires-4 c κs = room_as (ap event_name c.before.before.match.keys4) c.before.before.before.before.requires
 
 put-text-requires-5 : tie.Need-put-text-requires-5
-unfolding bytes eventName
-put-text-requires-5 c κs = room_as (ap eventName c.before.before.match.keys5) c.before.before.before.before.requires
+unfolding bytes event_name
+put-text-requires-5 c κs = room_as (ap event_name c.before.before.match.keys5) c.before.before.before.before.requires
 
 put-text-requires-6 : tie.Need-put-text-requires-6
-unfolding bytes eventName
-put-text-requires-6 c κs = room_as (ap eventName c.before.before.match.keys6) c.before.before.before.before.requires
+unfolding bytes event_name
+put-text-requires-6 c κs = room_as (ap event_name c.before.before.match.keys6) c.before.before.before.before.requires
 
 put-text-requires-7 : tie.Need-put-text-requires-7
-unfolding bytes eventName
-put-text-requires-7 c κs = room_as (ap eventName c.before.before.match.keys7) c.before.before.before.before.requires
+unfolding bytes event_name
+put-text-requires-7 c κs = room_as (ap event_name c.before.before.match.keys7) c.before.before.before.before.requires
 
 put-text-requires-8 : tie.Need-put-text-requires-8
-unfolding bytes eventName
-put-text-requires-8 c κs = room_as (ap eventName c.before.before.match.keys8) c.before.before.before.before.requires
+unfolding bytes event_name
+put-text-requires-8 c κs = room_as (ap event_name c.before.before.match.keys8) c.before.before.before.before.requires
 
 returns : tie.Need-returns
-unfolding bytes eventName
-returns c = put_as (sym (ap eventName c.before.before.before.before.before.match.keys1)) c.before.before.put-text.ensures
+unfolding bytes event_name
+returns c = put_as (sym (ap event_name c.before.before.before.before.before.match.keys1)) c.before.before.put-text.ensures
 
 returns-2 : tie.Need-returns-2
-unfolding bytes eventName
-returns-2 c = put_as (sym (ap eventName c.before.before.before.before.before.match.keys2)) c.before.before.put-text2.ensures
+unfolding bytes event_name
+returns-2 c = put_as (sym (ap event_name c.before.before.before.before.before.match.keys2)) c.before.before.put-text2.ensures
 
 returns-3 : tie.Need-returns-3
-unfolding bytes eventName
-returns-3 c = put_as (sym (ap eventName c.before.before.before.before.before.match.keys3)) c.before.before.put-text3.ensures
+unfolding bytes event_name
+returns-3 c = put_as (sym (ap event_name c.before.before.before.before.before.match.keys3)) c.before.before.put-text3.ensures
 
 returns-4 : tie.Need-returns-4
-unfolding bytes eventName
-returns-4 c = put_as (sym (ap eventName c.before.before.before.before.before.match.keys4)) c.before.before.put-text4.ensures
+unfolding bytes event_name
+returns-4 c = put_as (sym (ap event_name c.before.before.before.before.before.match.keys4)) c.before.before.put-text4.ensures
 
 returns-5 : tie.Need-returns-5
-unfolding bytes eventName
-returns-5 c = put_as (sym (ap eventName c.before.before.before.before.before.match.keys5)) c.before.before.put-text5.ensures
+unfolding bytes event_name
+returns-5 c = put_as (sym (ap event_name c.before.before.before.before.before.match.keys5)) c.before.before.put-text5.ensures
 
 returns-6 : tie.Need-returns-6
-unfolding bytes eventName
-returns-6 c = put_as (sym (ap eventName c.before.before.before.before.before.match.keys6)) c.before.before.put-text6.ensures
+unfolding bytes event_name
+returns-6 c = put_as (sym (ap event_name c.before.before.before.before.before.match.keys6)) c.before.before.put-text6.ensures
 
 returns-7 : tie.Need-returns-7
-unfolding bytes eventName
-returns-7 c = put_as (sym (ap eventName c.before.before.before.before.before.match.keys7)) c.before.before.put-text7.ensures
+unfolding bytes event_name
+returns-7 c = put_as (sym (ap event_name c.before.before.before.before.before.match.keys7)) c.before.before.put-text7.ensures
 
 returns-8 : tie.Need-returns-8
-unfolding bytes eventName
-returns-8 c = put_as (sym (ap eventName c.before.before.before.before.before.match.keys8)) c.before.before.put-text8.ensures
+unfolding bytes event_name
+returns-8 c = put_as (sym (ap event_name c.before.before.before.before.before.match.keys8)) c.before.before.put-text8.ensures
 
 returns-9 : tie.Need-returns-9
 returns-9 c = let args = c.before.before.args in rw (no_name args.code c.match.rest) (none args.out.now args.at)

@@ -1,8 +1,8 @@
 -- `leave_exclusive` meets its contract: go, clear each t, go.
 use borrow.Author.Rules.{rules}
 use Rattle.definitions.specs.Plan.{plan_of}
-use Rattle.repeats.specs.Requests.{clearEach}
-use Rattle.repeats.proofs.RequestBytes.{first-room, each-room, last-room, all-put}
+use Rattle.repeats.specs.Requests.{clear_each}
+use Rattle.repeats.proofs.RequestBytes.{first_room, each-room, last-room, all-put}
 use Rattle.event_plans.proofs.leave_exclusive.Statement.{statement}
 use Rattle.event_plans.proofs.leave_exclusive.Tie as tie
 
@@ -12,7 +12,7 @@ clear-each-requires c κs =
     let first = c.before.before.before in
     let start = first.before.before.before in
     let a = start.args in
-    each-room a.thread (clearEach a.thread a.threads) start.requires first.put-triple.ensures
+    each-room a.thread (clear_each a.thread a.threads) start.requires first.put-triple.ensures
 
 put-triple-requires-2 : tie.Need-put-triple-requires-2
 unfolding plan_of
@@ -21,7 +21,7 @@ put-triple-requires-2 c κs =
     let first = each.before.before.before.before in
     let start = first.before.before.before in
     let a = start.args in
-    last-room a.thread (clearEach a.thread a.threads) start.requires first.put-triple.ensures each.clear-each.ensures
+    last-room a.thread (clear_each a.thread a.threads) start.requires first.put-triple.ensures each.clear-each.ensures
 
 returns : tie.Need-returns
 unfolding plan_of
@@ -31,14 +31,14 @@ returns c =
     let first = each.before.before.before.before in
     let start = first.before.before.before in
     let a = start.args in
-    all-put a.thread (clearEach a.thread a.threads) start.requires first.put-triple.ensures each.clear-each.ensures last.put-triple2.ensures
+    all-put a.thread (clear_each a.thread a.threads) start.requires first.put-triple.ensures each.clear-each.ensures last.put-triple2.ensures
 
 pub leave-exclusive-spec : {M : Type 1} → statement M
 unfolding plan_of
 leave-exclusive-spec =
     tie.close
     (tie.spec
-    (λ c κs. let a = c.before.before.args in first-room a.thread (clearEach a.thread a.threads) c.before.before.requires)
+    (λ c κs. let a = c.before.before.args in first_room a.thread (clear_each a.thread a.threads) c.before.before.requires)
     clear-each-requires
     put-triple-requires-2
     (λ c. search rules)

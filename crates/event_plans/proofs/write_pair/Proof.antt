@@ -11,8 +11,8 @@ use Rattle.definitions.specs.declared.Event.TheVariants.{EnterSharedCall, EnterS
 use Rattle.definitions.specs.declared.Event.TheVariants.{EnterExclusiveCall, EnterExclusiveReturn, LeaveExclusiveCall, LeaveExclusiveReturn}
 use Rattle.definitions.specs.declared.Request.{Request}
 use Rattle.basics.specs.Outputs.{RoomAt, PutAt}
-use Rattle.event_plans.proofs.EventCodes.{known-code, no-plan}
-use Rattle.repeats.proofs.RequestBytes.{put-none}
+use Rattle.event_plans.proofs.EventCodes.{known-code, no_plan}
+use Rattle.repeats.proofs.RequestBytes.{put_none}
 use Rattle.event_plans.proofs.write_pair.Statement.{statement}
 use Rattle.event_plans.proofs.write_pair.Tie as tie
 
@@ -39,12 +39,12 @@ put : (c : tie.After-known-told) (f : Event) → event c ≡ f → (left : List 
 put c f q left next p = subst (λ (k : ℕ). PutAt (entry c).args.out.now (entry c).args.at (text c k) left next) (code_is c f q) p
 
 nothing : (out : List ℕ) (at : ℕ) (rs : List Request) → rs ≡ [] → PutAt out at (bytes_of rs) out at
-nothing out at rs e = rw e (put-none out at)
+nothing out at rs e = rw e (put_none out at)
 
 returns : tie.Need-returns
 returns c =
     let a = c.before.before.before.before.args in
-    nothing a.out.now a.at _ (no-plan a.threads a.thread a.code (sym c.enum_told.given.1 ∙ c.before.before.from-code.ensures))
+    nothing a.out.now a.at _ (no_plan a.threads a.thread a.code (sym c.enum_told.given.1 ∙ c.before.before.from-code.ensures))
 
 put-triple-requires : tie.Need-put-triple-requires
 unfolding plan_of gather
@@ -117,7 +117,7 @@ returns-7 c =
 returns-8 : tie.Need-returns-8
 unfolding plan_of gather
 returns-8 c =
-    let done = c.before.before.leave-exclusive in
+    let done = c.before.before.leave_exclusive in
     put c.before.before.before.before.before.before LeaveExclusiveCall c.before.before.before.before.enum-told8.given.1 done.new.0 done.result done.ensures
 
 returns-9 : tie.Need-returns-9

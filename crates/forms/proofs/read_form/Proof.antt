@@ -5,8 +5,8 @@ use mathlib.Core.List.{List}
 use mathlib.Core.Path.{◌≡◌, sym, ap, ◌∙◌}
 use borrow.Author.Rules.{rules}
 use lib.ListN.{length}
-use Rattle.definitions.specs.Forms.{noteForm, threadsForm, moveForm, form_of}
-use Rattle.definitions.specs.Texts.{bytes, starts, numberRead}
+use Rattle.definitions.specs.Forms.{note_form, threads_form, move_form, form_of}
+use Rattle.definitions.specs.Texts.{bytes, starts, number_read}
 use Rattle.basics.proofs.Lists.{from_on}
 use Rattle.basics.proofs.Texts.{starts-length}
 use Rattle.forms.proofs.read_form.Statement.{statement}
@@ -22,17 +22,17 @@ up2 c = c.before.before.before
 abbrev up3 : tie.After-starts-with3 → tie.After-starts-with2
 up3 c = c.before.before.before
 
-is-threads : (c : tie.Then1) → starts (bytes "(threads ") (line c.before) ≡ true
+is_threads : (c : tie.Then1) → starts (bytes "(threads ") (line c.before) ≡ true
 unfolding bytes
-is-threads c = sym c.before.starts_with.ensures ∙ c.if1.true
+is_threads c = sym c.before.starts_with.ensures ∙ c.if1.true
 
 not-threads : (c : tie.Else1) → starts (bytes "(threads ") (line c.before) ≡ false
 unfolding bytes
 not-threads c = sym c.before.starts_with.ensures ∙ c.if1.false
 
-is-note : (c : tie.Then2) → starts (bytes "(note ") (line (up2 c.before)) ≡ true
+is_note_lem : (c : tie.Then2) → starts (bytes "(note ") (line (up2 c.before)) ≡ true
 unfolding bytes
-is-note c = sym c.before.starts-with2.ensures ∙ c.if2.true
+is_note_lem c = sym c.before.starts-with2.ensures ∙ c.if2.true
 
 not-note : (c : tie.Else2) → starts (bytes "(note ") (line (up2 c.before)) ≡ false
 unfolding bytes
@@ -42,22 +42,22 @@ is_open : (c : tie.Then3) → starts (bytes "(") (line (up2 (up3 c.before))) ≡
 unfolding bytes
 is_open c = sym c.before.starts-with3.ensures ∙ c.if3.true
 
-not-open : (c : tie.Else3) → starts (bytes "(") (line (up2 (up3 c.before))) ≡ false
+not_open : (c : tie.Else3) → starts (bytes "(") (line (up2 (up3 c.before))) ≡ false
 unfolding bytes
-not-open c = sym c.before.starts-with3.ensures ∙ c.if3.false
+not_open c = sym c.before.starts-with3.ensures ∙ c.if3.false
 
 -- the line is as long as the word that it begins with
 threads-long : (c : tie.Then1) → 9 ≤ length (line c.before)
 unfolding bytes
-threads-long c = starts-length (bytes "(threads ") (line c.before) (is-threads c)
+threads-long c = starts-length (bytes "(threads ") (line c.before) (is_threads c)
 
 note-long : (c : tie.Then2) → 6 ≤ length (line (up2 c.before))
 unfolding bytes
-note-long c = starts-length (bytes "(note ") (line (up2 c.before)) (is-note c)
+note-long c = starts-length (bytes "(note ") (line (up2 c.before)) (is_note_lem c)
 
-open-long : (c : tie.Then3) → 1 ≤ length (line (up2 (up3 c.before)))
+open_long : (c : tie.Then3) → 1 ≤ length (line (up2 (up3 c.before)))
 unfolding bytes
-open-long c = starts-length (bytes "(") (line (up2 (up3 c.before))) (is_open c)
+open_long c = starts-length (bytes "(") (line (up2 (up3 c.before))) (is_open c)
 
 sub-read-threads : tie.Need-overflow-sub-read-threads
 sub-read-threads c = threads-long c
@@ -69,7 +69,7 @@ returns : tie.Need-returns
 unfolding form_of
 returns c =
     let test = c.before.before in
-    rw (is-threads test) (c.read-threads.ensures ∙ ap (λ (l : List ℕ). threadsForm (numberRead l)) (from_on (line test.before) 9))
+    rw (is_threads test) (c.read-threads.ensures ∙ ap (λ (l : List ℕ). threads_form (number_read l)) (from_on (line test.before) 9))
 
 sub-read-note : tie.Need-overflow-sub-read-note
 sub-read-note c = note-long c
@@ -81,14 +81,14 @@ returns-2 : tie.Need-returns-2
 unfolding form_of
 returns-2 c =
     let test = c.before.before in
-    rw (not-threads test.before.before.before, is-note test)
-    (c.read-note.ensures ∙ ap noteForm (from_on (line (up2 test.before)) 6))
+    rw (not-threads test.before.before.before, is_note_lem test)
+    (c.read-note.ensures ∙ ap note_form (from_on (line (up2 test.before)) 6))
 
 sub-read-request : tie.Need-overflow-sub-read-request
-sub-read-request c = open-long c
+sub-read-request c = open_long c
 
 part-read-request-start : tie.Need-slice-bounds-read-request-start
-part-read-request-start c = open-long c
+part-read-request-start c = open_long c
 
 returns-3 : tie.Need-returns-3
 unfolding form_of
@@ -96,13 +96,13 @@ returns-3 c =
     let test = c.before.before in
     let e = test.before.before.before in
     rw (not-threads e.before.before.before, not-note e, is_open test)
-    (c.read-request.ensures ∙ ap (λ (l : List ℕ). moveForm (numberRead l)) (from_on (line (up2 (up3 test.before))) 1))
+    (c.read-request.ensures ∙ ap (λ (l : List ℕ). move_form (number_read l)) (from_on (line (up2 (up3 test.before))) 1))
 
 returns-4 : tie.Need-returns-4
 unfolding form_of
 returns-4 c =
     let e = c.before.before.before in
-    rw (not-threads e.before.before.before, not-note e, not-open c)
+    rw (not-threads e.before.before.before, not-note e, not_open c)
 
 pub read-form-spec : {M : Type 1} → statement M
 read-form-spec =

@@ -1,7 +1,7 @@
 -- `forms::read_request` meets its contract: the thread's number at the front, and the act behind it.
 use mathlib.Core.Path.{sym, ap, ◌∙◌}
 use borrow.Author.Rules.{rules}
-use Rattle.definitions.specs.Forms.{actForm}
+use Rattle.definitions.specs.Forms.{act_form}
 use Rattle.basics.proofs.Lists.{from_on}
 use Rattle.words.proofs.NumberReading.{Found, found, missing}
 use Rattle.forms.proofs.read_request.Statement.{statement}
@@ -23,8 +23,8 @@ enum_told c = search rules
 returns : tie.Need-returns
 returns c =
     let n = number c.before.before.before in
-    rw (n.fits, n.value-is, n.rest)
-    (c.read-act.ensures ∙ ap (actForm _) (from_on c.before.before.before.before.before.before.before.args.part.now _))
+    rw (n.fits, n.value_is, n.rest)
+    (c.read-act.ensures ∙ ap (act_form _) (from_on c.before.before.before.before.before.before.before.args.part.now _))
 
 returns-2 : tie.Need-returns-2
 returns-2 c = rw (missing _ (sym c.enum_told.given.1 ∙ c.before.before.read_number.ensures))

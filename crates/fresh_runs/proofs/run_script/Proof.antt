@@ -4,7 +4,7 @@ use borrow.Author.Rules.{rules}
 use Rattle.definitions.specs.declared.Refusal.TheVariants.{BadForm}
 use Rattle.opening.specs.FirstLine.{FirstAt, ThreadsAt}
 use Rattle.opening.proofs.FirstLines as first
-use Rattle.fresh_runs.proofs.FromFresh.{stopped-first, recorded-as}
+use Rattle.fresh_runs.proofs.FromFresh.{stopped_first, recorded_as}
 use Rattle.fresh_runs.proofs.run_script.Statement.{statement}
 use Rattle.fresh_runs.proofs.run_script.Tie as tie
 
@@ -12,8 +12,8 @@ use Rattle.fresh_runs.proofs.run_script.Tie as tie
 abbrev start : tie.After-known-told → tie.Start
 start c = c.before.before.before.before.before.before
 
-threads-at : (c : tie.After-known-told) → let g = c.before.first.given.0 in ThreadsAt (start c).args.script.now g.0 g.1.0
-threads-at c = subst (FirstAt _) c.before.first.given.1 c.before.before.before.first-line.ensures
+threads_at : (c : tie.After-known-told) → let g = c.before.first.given.0 in ThreadsAt (start c).args.script.now g.0 g.1.0
+threads_at c = subst (FirstAt _) c.before.first.given.1 c.before.before.before.first_line.ensures
 
 first-line-requires : tie.Need-first-line-requires
 first-line-requires c κs = c.before.before.requires.short
@@ -25,19 +25,19 @@ returns : tie.Need-returns
 returns c =
     let told = c.before in
     let p = told.before.before in
-    let none = subst (FirstAt _) told.enum_told.given.1 p.first-line.ensures in
-    stopped-first BadForm (first.run-bad none, first.retries-bad none) c.stopped.ensures
+    let none = subst (FirstAt _) told.enum_told.given.1 p.first_line.ensures in
+    stopped_first BadForm (first.run-bad none, first.retries-bad none) c.stopped.ensures
 
 run-from-requires : tie.Need-run-from-requires
 run-from-requires c κs =
     let k = c.before in
-    ((threads-at k).within, (start k).requires)
+    ((threads_at k).within, (start k).requires)
 
 returns-2 : tie.Need-returns-2
 returns-2 c =
     let run = c.before.before in
     let k = run.before.before in
-    recorded-as (first.run-from _ _ (threads-at k), first.retries-from _ _ (threads-at k)) run.run-from.ensures
+    recorded_as (first.run-from _ _ (threads_at k), first.retries-from _ _ (threads_at k)) run.run-from.ensures
 
 pub run-script-spec : {M : Type 1} → statement M
 run-script-spec =

@@ -7,8 +7,8 @@ use Rattle.definitions.specs.declared.Task.{Task}
 use Rattle.layout.proofs.read_task.Statement.{statement}
 use Rattle.layout.proofs.read_task.Tie as tie
 
-same-task : {p p' b b' f f' : ℕ} → p ≡ p' → b ≡ b' → f ≡ f' → ◌≡◌ {A = Task} (record { phase = p; busy = b; forbidden = f }) (record { phase = p'; busy = b'; forbidden = f' })
-same-task e₁ e₂ e₃ = cc
+same_task : {p p' b b' f f' : ℕ} → p ≡ p' → b ≡ b' → f ≡ f' → ◌≡◌ {A = Task} (record { phase = p; busy = b; forbidden = f }) (record { phase = p'; busy = b'; forbidden = f' })
+same_task e₁ e₂ e₃ = cc
 
 returns : tie.Need-returns
 returns c =
@@ -16,7 +16,7 @@ returns c =
     let busy = forbidden.before.before in
     let phase = busy.before.before in
     let byte : ℕ → ℕ = λ k. get_or phase.before.before.args.table.now k 0 in
-    same-task (ap byte phase.phase-at.ensures) (ap byte busy.busy-at.ensures) (ap byte forbidden.forbidden-at.ensures)
+    same_task (ap byte phase.phase-at.ensures) (ap byte busy.busy_at.ensures) (ap byte forbidden.forbidden-at.ensures)
 
 pub read-task-spec : {M : Type 1} → statement M
 read-task-spec =

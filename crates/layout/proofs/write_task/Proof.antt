@@ -8,7 +8,7 @@ use Rattle.layout.proofs.write_task.Tie as tie
 
 returns : tie.Need-returns
 unfolding stored
-returns c = rw (c.before.before.phase-at.ensures, c.before.busy-at.ensures, c.forbidden-at.ensures)
+returns c = rw (c.before.before.phase-at.ensures, c.before.busy_at.ensures, c.forbidden-at.ensures)
 
 pub write-task-spec : {M : Type 1} → statement M
 write-task-spec =

@@ -4,13 +4,13 @@ use native.Mathlib.Omega.{arith}
 use mathlib.Core.List.{[], ◌∷◌}
 use borrow.Author.Rules.{rules}
 use lib.ListN.{length-set}
-use Rattle.definitions.specs.PlainLock.{historyBytes}
+use Rattle.definitions.specs.PlainLock.{history_bytes}
 use Rattle.basics.proofs.Outputs.{stored}
 use Rattle.least_histories.proofs.put_pair.Statement.{statement}
 use Rattle.least_histories.proofs.put_pair.Tie as tie
 
 pub put-pair-spec : {M : Type 1} → statement M
-unfolding historyBytes
+unfolding history_bytes
 put-pair-spec =
     tie.close
     (tie.spec

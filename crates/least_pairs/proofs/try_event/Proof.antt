@@ -1,12 +1,12 @@
 -- `try_event` meets its contract: below the code nothing, and else as `judge` says.
 use mathlib.Core.Path.{◌∙◌}
 use borrow.Author.Rules.{rules}
-use Rattle.least_pairs.proofs.TriedLaws.{tried-below, tried-fits, tried-bad}
+use Rattle.least_pairs.proofs.TriedLaws.{tried_below, tried-fits, tried-bad}
 use Rattle.least_pairs.proofs.try_event.Statement.{statement}
 use Rattle.least_pairs.proofs.try_event.Tie as tie
 
 returns : tie.Need-returns
-returns c = c.no-fitting.ensures ∙ tried-below _ _ _ _ _ c.before.if1.true
+returns c = c.no-fitting.ensures ∙ tried_below _ _ _ _ _ c.before.if1.true
 
 returns-2 : tie.Need-returns-2
 returns-2 c =

@@ -1,6 +1,6 @@
 -- `line_moves::take_line` meets its contract: the form that was read says what the line leaves (proofs/OneLine).
 use borrow.Author.Rules.{rules}
-use Rattle.line_moves.proofs.OneLine.{threads-refused, bad-refused, note-taken, request-room, line_taken}
+use Rattle.line_moves.proofs.OneLine.{threads-refused, bad-refused, note_taken, request-room, line_taken}
 use Rattle.line_moves.proofs.take_line.Statement.{statement}
 use Rattle.line_moves.proofs.take_line.Tie as tie
 
@@ -22,7 +22,7 @@ returns-2 c =
     line_taken _ _ p.read-form.ensures _ _ _ f.form.given.1 a.moves.now a.at t.take-request.new.1.1.1.0 t.take-request.result t.take-request.ensures
 
 returns-3 : tie.Need-returns-3
-returns-3 c = let p = c.before.before in note-taken _ _ p.read-form.ensures _ _ _ _ c.enum-told2.given.1
+returns-3 c = let p = c.before.before in note_taken _ _ p.read-form.ensures _ _ _ _ c.enum-told2.given.1
 
 returns-4 : tie.Need-returns-4
 returns-4 c = let p = c.before.before in bad-refused _ _ p.read-form.ensures _ _ c.enum-told3.given.1

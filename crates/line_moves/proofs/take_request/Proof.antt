@@ -1,7 +1,7 @@
 -- `line_moves::take_request` meets its contract: its numbers are turned down, or its triple is put (proofs/OneLine).
 use native.Mathlib.Omega.{arith}
 use borrow.Author.Rules.{rules}
-use Rattle.line_moves.proofs.OneLine.{Small, request-refused, small, request-taken}
+use Rattle.line_moves.proofs.OneLine.{Small, request-refused, small, request_taken}
 use Rattle.line_moves.proofs.take_request.Statement.{statement}
 use Rattle.line_moves.proofs.take_request.Tie as tie
 
@@ -31,7 +31,7 @@ returns-2 c =
     let w = c.before.before in
     let k = w.before.before.before.before.before in
     let p = k.before.before in
-    request-taken _ _ _ p.test-numbers.result p.test-numbers.ensures k.enum_told.given.1 w.put-triple.ensures
+    request_taken _ _ _ p.test-numbers.result p.test-numbers.ensures k.enum_told.given.1 w.put-triple.ensures
 
 pub take-request-spec : {M : Type 1} → statement M
 take-request-spec =

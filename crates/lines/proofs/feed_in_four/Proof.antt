@@ -4,8 +4,8 @@ use native.Mathlib.Omega.{arith}
 use mathlib.Core.Path.{◌≡◌}
 use borrow.Author.Rules.{rules}
 use lib.ListN.{drop}
-use Rattle.lines.specs.Lines.{lineLength}
-use Rattle.lines.proofs.FirstLines.{at-feed, past-byte}
+use Rattle.lines.specs.Lines.{line_length}
+use Rattle.lines.proofs.FirstLines.{at_feed, past_byte}
 use Rattle.lines.proofs.feed_in_four.Statement.{statement}
 use Rattle.lines.proofs.feed_in_four.Tie as tie
 
@@ -21,49 +21,49 @@ up4 c = c.before.before
 
 -- the first n bytes hold no line feed
 abbrev Passed : tie.Else1 → ℕ → Type 0
-Passed c n = let args = c.before.before.args in lineLength (drop args.at args.script.now) ≡ n + lineLength (drop (args.at + n) args.script.now)
+Passed c n = let args = c.before.before.args in line_length (drop args.at args.script.now) ≡ n + line_length (drop (args.at + n) args.script.now)
 
-passed-1 : (c : tie.Else1) → Passed c 1
-passed-1 c = let args = c.before.before.args in past-byte args.script.now args.at (omega arith) (args.at + 1) (omega arith) c.if1.false
+passed_1 : (c : tie.Else1) → Passed c 1
+passed_1 c = let args = c.before.before.args in past_byte args.script.now args.at (omega arith) (args.at + 1) (omega arith) c.if1.false
 
-passed-2 : (c : tie.Else2) → Passed (up2 c) 2
-passed-2 c =
+passed_2 : (c : tie.Else2) → Passed (up2 c) 2
+passed_2 c =
     let args = (up2 c).before.before.args in
-    omega (arith, passed-1 (up2 c), past-byte args.script.now (args.at + 1) (omega arith) (args.at + 2) (omega arith) c.if2.false)
+    omega (arith, passed_1 (up2 c), past_byte args.script.now (args.at + 1) (omega arith) (args.at + 2) (omega arith) c.if2.false)
 
-passed-3 : (c : tie.Else3) → Passed (up2 (up3 c)) 3
-passed-3 c =
+passed_3 : (c : tie.Else3) → Passed (up2 (up3 c)) 3
+passed_3 c =
     let args = (up2 (up3 c)).before.before.args in
-    omega (arith, passed-2 (up3 c), past-byte args.script.now (args.at + 2) (omega arith) (args.at + 3) (omega arith) c.if3.false)
+    omega (arith, passed_2 (up3 c), past_byte args.script.now (args.at + 2) (omega arith) (args.at + 3) (omega arith) c.if3.false)
 
-passed-4 : (c : tie.Else4) → Passed (up2 (up3 (up4 c))) 4
-passed-4 c =
+passed_4 : (c : tie.Else4) → Passed (up2 (up3 (up4 c))) 4
+passed_4 c =
     let args = (up2 (up3 (up4 c))).before.before.args in
-    omega (arith, passed-3 (up4 c), past-byte args.script.now (args.at + 3) (omega arith) (args.at + 4) (omega arith) c.if4.false)
+    omega (arith, passed_3 (up4 c), past_byte args.script.now (args.at + 3) (omega arith) (args.at + 4) (omega arith) c.if4.false)
 
 returns : tie.Need-returns
-returns c = let args = c.before.before.args in omega (arith, at-feed args.script.now args.at (omega arith) c.if1.true)
+returns c = let args = c.before.before.args in omega (arith, at_feed args.script.now args.at (omega arith) c.if1.true)
 
 returns-2 : tie.Need-returns-2
 returns-2 c =
     let e = c.before.before in
     let args = e.before.before.args in
-    omega (arith, passed-1 e, at-feed args.script.now (args.at + 1) (omega arith) c.if2.true)
+    omega (arith, passed_1 e, at_feed args.script.now (args.at + 1) (omega arith) c.if2.true)
 
 returns-3 : tie.Need-returns-3
 returns-3 c =
     let e = c.before.before in
     let args = (up2 e).before.before.args in
-    omega (arith, passed-2 e, at-feed args.script.now (args.at + 2) (omega arith) c.if3.true)
+    omega (arith, passed_2 e, at_feed args.script.now (args.at + 2) (omega arith) c.if3.true)
 
 returns-4 : tie.Need-returns-4
 returns-4 c =
     let e = c.before.before in
     let args = (up2 (up3 e)).before.before.args in
-    omega (arith, passed-3 e, at-feed args.script.now (args.at + 3) (omega arith) c.if4.true)
+    omega (arith, passed_3 e, at_feed args.script.now (args.at + 3) (omega arith) c.if4.true)
 
 returns-5 : tie.Need-returns-5
-returns-5 c = passed-4 c
+returns-5 c = passed_4 c
 
 pub feed-in-four-spec : {M : Type 1} → statement M
 feed-in-four-spec =

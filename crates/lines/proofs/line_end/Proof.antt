@@ -5,13 +5,13 @@ use native.Mathlib.Omega.{arith}
 use mathlib.Core.List.{List}
 use mathlib.Core.Path.{◌≡◌, refl}
 use lib.ListN.{length, drop}
-use Rattle.lines.specs.Lines.{lineLength}
-use Rattle.lines.proofs.FirstLines.{at-feed, past-byte, past_end, four-found, four-more}
+use Rattle.lines.specs.Lines.{line_length}
+use Rattle.lines.proofs.FirstLines.{at_feed, past_byte, past_end, four_found, four_more}
 use Rattle.lines.proofs.line_end.Statement.{statement}
 use Rattle.lines.proofs.line_end.Tie as tie
 
 abbrev Passed : List ℕ → ℕ → ℕ → Type 0
-Passed script from i = (i ≤ length script) × (from + lineLength (drop from script) ≡ i + lineLength (drop i script))
+Passed script from i = (i ≤ length script) × (from + line_length (drop from script) ≡ i + line_length (drop i script))
 
 abbrev invariant-loop : tie.invariant-loop
 invariant-loop script from i₀ i = Passed script from i
@@ -35,12 +35,12 @@ loop-holds c = (omega arith, refl)
 returns : tie.Need-returns invariant-loop decreases-loop invariant-loop2 decreases-loop2
 returns c =
     let l = c.before.before.before.loop in
-    omega (arith, l.invariant.1, four-found _ l.i _ c.before.feed-in-four.ensures c.if1.true)
+    omega (arith, l.invariant.1, four_found _ l.i _ c.before.feed-in-four.ensures c.if1.true)
 
 loop-again : tie.Need-loop-preserved invariant-loop decreases-loop invariant-loop2 decreases-loop2
 loop-again c =
     let l = c.before.before.before.loop in
-    (omega arith, omega (arith, l.invariant.1, four-more _ l.i _ c.before.feed-in-four.ensures c.if1.false))
+    (omega arith, omega (arith, l.invariant.1, four_more _ l.i _ c.before.feed-in-four.ensures c.if1.false))
 
 loop2-holds : tie.Need-loop2-init invariant-loop decreases-loop invariant-loop2 decreases-loop2
 loop2-holds c = c.before.loop.invariant
@@ -49,13 +49,13 @@ returns-2 : tie.Need-returns-2 invariant-loop decreases-loop invariant-loop2 dec
 returns-2 c =
     let test = c.before.before in
     let l = test.before.loop2 in
-    omega (arith, l.invariant.1, at-feed (script test.before) l.i test.loop2-test.true c.if2.true)
+    omega (arith, l.invariant.1, at_feed (script test.before) l.i test.loop2-test.true c.if2.true)
 
 loop2-again : tie.Need-loop2-preserved invariant-loop decreases-loop invariant-loop2 decreases-loop2
 loop2-again c =
     let test = c.before.before in
     let l = test.before.loop2 in
-    (omega arith, omega (arith, l.invariant.1, past-byte (script test.before) l.i test.loop2-test.true (l.i + 1) refl c.if2.false))
+    (omega arith, omega (arith, l.invariant.1, past_byte (script test.before) l.i test.loop2-test.true (l.i + 1) refl c.if2.false))
 
 returns-3 : tie.Need-returns-3 invariant-loop decreases-loop invariant-loop2 decreases-loop2
 returns-3 c =

@@ -4,15 +4,15 @@ use native.Mathlib.Omega.{arith}
 use mathlib.Core.List.{List}
 use mathlib.Core.Path.{sym, ap, ◌∙◌}
 use borrow.Author.Rules.{rules}
-use Rattle.definitions.specs.Bounds.{lastPhase}
+use Rattle.definitions.specs.Bounds.{last_phase}
 use Rattle.definitions.specs.Table.{table_of}
 use Rattle.definitions.specs.declared.Head.{Head}
 use Rattle.definitions.specs.declared.Task.{Task}
 use Rattle.theory.specs.Tables.{Sized}
-use Rattle.table.proofs.TableTests.{SoundTable, sound-is}
-use Rattle.theory.proofs.Bytes.{sized-e}
-use Rattle.theory.proofs.Soundness.{task-fits}
-use Rattle.listing.proofs.OpenAnswer.{table-refused, no-thread, listed}
+use Rattle.table.proofs.TableTests.{SoundTable, sound_is}
+use Rattle.theory.proofs.Bytes.{sized_e}
+use Rattle.theory.proofs.Soundness.{task_fits}
+use Rattle.listing.proofs.OpenAnswer.{table-refused, no_thread, listed}
 use Rattle.listing.proofs.open_moves.Statement.{statement}
 use Rattle.listing.proofs.open_moves.Tie as tie
 
@@ -25,15 +25,15 @@ module _ (c : tie.After-known-told2) where
   table = start.args.table.now
 
   found : SoundTable table c.before.examined2.given.0.0 c.before.examined2.given.0.1.0
-  found = sound-is table _ _ (sym c.before.before.before.examine.ensures ∙ c.before.examined2.given.1)
+  found = sound_is table _ _ (sym c.before.before.before.examine.ensures ∙ c.before.examined2.given.1)
 
   size : Sized table
-  size = sized-e table found.tested.is-sized
+  size = sized_e table found.tested.is_sized
 
 returns : tie.Need-returns
 returns c =
     let told = c.before in
-    no-thread (table told) (start told).args.thread (start told).args.out.now (found told).tested (omega (arith, (found told).threads))
+    no_thread (table told) (start told).args.thread (start told).args.out.now (found told).tested (omega (arith, (found told).threads))
 
 read-head-requires : tie.Need-read-head-requires
 read-head-requires c κs = size c.before
@@ -44,10 +44,10 @@ read-task-requires c κs =
     (size told, omega (arith, (found told).threads))
 
 -- the phase that was read
-phase-fits : (c : tie.After-read-task) → c.read-task.result.phase ≤ lastPhase
+phase-fits : (c : tie.After-read-task) → c.read-task.result.phase ≤ last_phase
 phase-fits c =
     let told = c.before.before.before in
-    task-fits (table_of (table told)) (found told).tested.is-sound (start told).args.thread (omega (arith, (found told).threads)) c.read-task.ensures
+    task_fits (table_of (table told)) (found told).tested.is_sound (start told).args.thread (omega (arith, (found told).threads)) c.read-task.ensures
 
 moves-in-requires : tie.Need-moves-in-requires
 moves-in-requires c κs = phase-fits c
@@ -59,7 +59,7 @@ list-open-requires c κs =
     record {
       few = omega (arith, size told, (found told).threads);
       known = phase-fits moves.before;
-      bits = moves.moves-in.ensures;
+      bits = moves.moves_in.ensures;
     }
 
 returns-2 : tie.Need-returns-2

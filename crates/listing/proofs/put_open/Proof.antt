@@ -3,14 +3,14 @@ use Prim.Native.Nat.{suc, ◌-◌}
 use native.Mathlib.Omega.{arith}
 use mathlib.Core.Path.{sym, ap}
 use Rattle.definitions.specs.Bounds.{last_move}
-use Rattle.listing.specs.Pairs.{pairs, pairsBelow}
-use Rattle.basics.proofs.Parts.{room_as, put_as, PartsPut, parts_none, parts-room, parts_more, parts_all}
-use Rattle.listing.proofs.PairLists.{openParts, targets-most}
+use Rattle.listing.specs.Pairs.{pairs, pairs_below}
+use Rattle.basics.proofs.Parts.{room_as, put_as, PartsPut, parts_none, parts_room, parts_more, parts_all}
+use Rattle.listing.proofs.PairLists.{open_parts, targets_most}
 use Rattle.listing.proofs.put_open.Statement.{statement}
 use Rattle.listing.proofs.put_open.Tie as tie
 
 abbrev invariant-loop : tie.invariant-loop
-invariant-loop out₀ at next₀ mv₀ out next mv = PartsPut (openParts at) out₀ 0 mv out next
+invariant-loop out₀ at next₀ mv₀ out next mv = PartsPut (open_parts at) out₀ 0 mv out next
 
 abbrev decreases-loop : tie.decreases-loop
 decreases-loop out₀ at next₀ mv₀ out next mv = suc last_move - mv
@@ -22,7 +22,7 @@ put-pairs-requires c κs =
     let start = at.before.before in
     let mv = at.loop.mv in
     let n = targets.open-targets.ensures in
-    (room_as (ap (pairs mv) (sym n)) (parts-room at.loop.invariant (omega arith)), omega (arith, targets-most start.args.at mv start.requires.0.few))
+    (room_as (ap (pairs mv) (sym n)) (parts_room at.loop.invariant (omega arith)), omega (arith, targets_most start.args.at mv start.requires.0.few))
 
 loop-again : tie.Need-loop-preserved invariant-loop decreases-loop
 loop-again c =
@@ -32,7 +32,7 @@ loop-again c =
     parts_more at.loop.invariant (omega arith) (put_as (ap (pairs at.loop.mv) targets.open-targets.ensures) put.put-pairs.ensures)
 
 pub put-open-spec : {M : Type 1} → statement M
-unfolding pairsBelow
+unfolding pairs_below
 put-open-spec =
     tie.close
     (tie.spec

@@ -6,7 +6,7 @@ use mathlib.Core.Path.{◌≡◌}
 use borrow.Author.Rules.{rules}
 use lib.Dec.{eqb}
 use mir.Val.{bool_byte}
-use Rattle.basics.proofs.Casts.{cast_is, cast-most}
+use Rattle.basics.proofs.Casts.{cast_is, cast_most}
 use Rattle.moving.proofs.recount.Statement.{statement}
 use Rattle.moving.proofs.recount.Tie as tie
 
@@ -16,7 +16,7 @@ record Cast (b : Bool) : Type 0 where
   most : bool_byte b ≤ 1
 
 cast : (b : Bool) → Cast b
-cast b = record { is = cast_is b; most = cast-most b }
+cast b = record { is = cast_is b; most = cast_most b }
 
 -- the two
 casts : (c : tie.Start) → Cast (eqb c.args.before 1) × Cast (eqb c.args.after 1)

@@ -6,19 +6,19 @@ use mathlib.Core.List.{List, [], ◌∷◌}
 use mathlib.Core.Logic.{◌⊎◌, inl, inr}
 use mathlib.Core.Path.{◌≡◌, refl, sym, ap, ◌∙◌}
 use lib.Dec.{T, leb, eqb, leb→le, le→leb, eqb→eq}
-use Rattle.definitions.specs.Bounds.{lastPhase}
+use Rattle.definitions.specs.Bounds.{last_phase}
 use Rattle.definitions.specs.Codes.{Free}
-use Rattle.definitions.specs.Phases.{Row, rows, nodeOf}
+use Rattle.definitions.specs.Phases.{Row, rows, node_of}
 use Rattle.definitions.specs.Threads.{every, among, implies}
 use Rattle.basics.proofs.Matches.{NoneOf, not-among}
-use Rattle.basics.proofs.Quantifiers.{every-at}
-use Rattle.basics.proofs.Tests.{and_l, and_r, and_i, implies-e, below?}
-use Rattle.theory.proofs.PhaseCases.{no-row}
+use Rattle.basics.proofs.Quantifiers.{every_at}
+use Rattle.basics.proofs.Tests.{and_l, and_r, and_i, implies_e, below?}
+use Rattle.theory.proofs.PhaseCases.{no_row_lem}
 use Rattle.nodes.proofs.node_of.Statement.{statement}
 use Rattle.nodes.proofs.node_of.Tie as tie
 
-row : {p k code : ℕ} → p ≡ k → code ≡ nodeOf k → code ≡ nodeOf p
-row e h = h ∙ ap nodeOf (sym e)
+row : {p k code : ℕ} → p ≡ k → code ≡ node_of k → code ≡ node_of p
+row e h = h ∙ ap node_of (sym e)
 
 -- the arms with one number, from the last; one more stands before the others, in the arm of 1 to 4
 abbrev single : List ℕ
@@ -31,19 +31,19 @@ others : (c : tie.At-match-rest) → T (not (among c.before.args.phase single))
 others c = other c.match.rest
 
 -- the other phases from the first to the last have one node
-range : {p code : ℕ} (first last : ℕ) → T (every (suc last) (λ q. implies (leb first q && not (among q single)) (eqb code (nodeOf q))))
-    → T (not (among p single)) → first ≤ p → p < suc last → code ≡ nodeOf p
+range : {p code : ℕ} (first last : ℕ) → T (every (suc last) (λ q. implies (leb first q && not (among q single)) (eqb code (node_of q))))
+    → T (not (among p single)) → first ≤ p → p < suc last → code ≡ node_of p
 range {p} {code} first last t other low high =
-    eqb→eq code (nodeOf p)
-    (implies-e (leb first p && not (among p single)) (eqb code (nodeOf p)) (every-at _ (suc last) t p high) (and_i (leb first p) _ (le→leb first p low) other))
+    eqb→eq code (node_of p)
+    (implies_e (leb first p && not (among p single)) (eqb code (node_of p)) (every_at _ (suc last) t p high) (and_i (leb first p) _ (le→leb first p low) other))
 
 -- from the last phase on every other than k, which is one of these, is Free
-past : {p k : ℕ} → T (leb lastPhase k && every k (λ q. implies (leb lastPhase q) (eqb Free (nodeOf q)))) → (p ≡ k → ⊥) → lastPhase ≤ p → Free ≡ nodeOf p
+past : {p k : ℕ} → T (leb last_phase k && every k (λ q. implies (leb last_phase q) (eqb Free (node_of q)))) → (p ≡ k → ⊥) → last_phase ≤ p → Free ≡ node_of p
 past {p} {k} t ne low = by (below? k p)
   where
-    by : (p < k) ⊎ (k ≤ p) → Free ≡ nodeOf p
-    by (inl l) = eqb→eq Free (nodeOf p) (implies-e (leb lastPhase p) _ (every-at _ k (and_r (leb lastPhase k) _ t) p l) (le→leb lastPhase p low))
-    by (inr l) = let least = leb→le lastPhase k (and_l (leb lastPhase k) _ t) in sym (ap (λ (r : Row). r.node) (no-row p (omega arith)))
+    by : (p < k) ⊎ (k ≤ p) → Free ≡ node_of p
+    by (inl l) = eqb→eq Free (node_of p) (implies_e (leb last_phase p) _ (every_at _ k (and_r (leb last_phase k) _ t) p l) (le→leb last_phase p low))
+    by (inr l) = let least = leb→le last_phase k (and_l (leb last_phase k) _ t) in sym (ap (λ (r : Row). r.node) (no_row_lem p (omega arith)))
 
 pub node-of-spec : {M : Type 1} → statement M
 unfolding rows every among

@@ -2,9 +2,9 @@
 use mathlib.Core.Path.{sym, ◌∙◌}
 use borrow.Author.Rules.{rules}
 use Rattle.definitions.specs.Answers.{number_of}
-use Rattle.definitions.specs.Nodes.{nodesEntry}
+use Rattle.definitions.specs.Nodes.{nodes_entry}
 use Rattle.basics.proofs.Outputs.{turned_down}
-use Rattle.table.proofs.TableTests.{refusal_is, sound-is}
+use Rattle.table.proofs.TableTests.{refusal_is, sound_is}
 use Rattle.nodes.proofs.nodes.Statement.{statement}
 use Rattle.nodes.proofs.nodes.Tie as tie
 
@@ -12,7 +12,7 @@ put-nodes-requires : tie.Need-put-nodes-requires
 put-nodes-requires c κs =
     let known = c.before.before in
     let at = known.before.before in
-    let found = sound-is at.before.before.before.args.table.now _ _ (sym at.examine.ensures ∙ known.examined.given.1) in
+    let found = sound_is at.before.before.before.args.table.now _ _ (sym at.examine.ensures ∙ known.examined.given.1) in
     (found.tested, found.threads)
 
 returns-2 : tie.Need-returns-2
@@ -21,7 +21,7 @@ returns-2 c =
     let at = known.before.before in
     let a = at.before.before.before.args in
     let x = known.examined2.given.0.0 in
-    turned_down (nodesEntry a.table.now) a.out.now 0 (number_of x) 0
+    turned_down (nodes_entry a.table.now) a.out.now 0 (number_of x) 0
     (refusal_is 0 a.table.now x (sym at.examine.ensures ∙ known.examined2.given.1))
 
 pub nodes-spec : {M : Type 1} → statement M

@@ -3,21 +3,21 @@ use native.Mathlib.Omega.{arith}
 use mathlib.Core.Path.{sym}
 use borrow.Author.Rules.{rules}
 use lib.Seq.{length-take-le}
-use Rattle.notes.proofs.NoteText.{note-empty, note-unclosed, note-closed}
+use Rattle.notes.proofs.NoteText.{note_empty, note_unclosed, note_closed}
 use Rattle.notes.proofs.ends_note.Statement.{statement}
 use Rattle.notes.proofs.ends_note.Tie as tie
 
 returns : tie.Need-returns
-returns c = note-empty _ c.if1.true
+returns c = note_empty _ c.if1.true
 
 returns-2 : tie.Need-returns-2
-returns-2 c = note-unclosed _ c.if2.true
+returns-2 c = note_unclosed _ c.if2.true
 
 slice-aggregate-note-fits : tie.Need-slice-aggregate-note-fits
 slice-aggregate-note-fits c = sym (length-take-le _ _ (omega arith))
 
 returns-3 : tie.Need-returns-3
-returns-3 c = note-closed _ _ c.before.before.if2.false c.note-fits.ensures
+returns-3 c = note_closed _ _ c.before.before.if2.false c.note-fits.ensures
 
 pub ends-note-spec : {M : Type 1} → statement M
 ends-note-spec =

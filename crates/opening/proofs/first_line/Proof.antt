@@ -3,7 +3,7 @@ use native.Mathlib.Omega.{arith}
 use mathlib.Core.Path.{subst}
 use borrow.Author.Rules.{rules}
 use Rattle.lines.specs.Lines.{LineAt, NextAt}
-use Rattle.opening.proofs.FirstLines.{no_line, threads-line, other-line}
+use Rattle.opening.proofs.FirstLines.{no_line, threads_line_lem, other_line}
 use Rattle.opening.proofs.first_line.Statement.{statement}
 use Rattle.opening.proofs.first_line.Tie as tie
 
@@ -21,7 +21,7 @@ part-read-form-end : tie.Need-slice-bounds-read-form-end
 part-read-form-end c = omega (arith, (line_at c).ends)
 
 returns-2 : tie.Need-returns-2
-returns-2 c = let p = c.before in other-line _ _ (line_at p.before.before) p.read-form.result p.read-form.ensures c.match2.keys2
+returns-2 c = let p = c.before in other_line _ _ (line_at p.before.before) p.read-form.result p.read-form.ensures c.match2.keys2
 
 add_start : tie.Need-overflow-add-start
 add_start c =
@@ -29,7 +29,7 @@ add_start c =
     omega (arith, (line_at k).ends, (start k).requires)
 
 returns-3 : tie.Need-returns-3
-returns-3 c = let p = c.before.before.before in threads-line _ _ (line_at p.before.before) _ p.read-form.ensures _ c.before.form.given.1
+returns-3 c = let p = c.before.before.before in threads_line_lem _ _ (line_at p.before.before) _ p.read-form.ensures _ c.before.form.given.1
 
 pub first-line-spec : {M : Type 1} → statement M
 first-line-spec =

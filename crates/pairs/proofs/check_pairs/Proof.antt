@@ -3,7 +3,7 @@ use Prim.Native.Nat.{◌-◌, ◌*◌, ◌+◌, ◌<◌}
 use native.Mathlib.Omega.{arith}
 use borrow.Author.Rules.{rules}
 use lib.ListN.{get_or}
-use Rattle.pairs.proofs.PassLaws.{Passed, passed_none, counted-here, bad-here, goes_on, passed-all}
+use Rattle.pairs.proofs.PassLaws.{Passed, passed_none, counted_here, bad_here, goes_on, passed-all}
 use Rattle.pairs.proofs.check_pairs.Statement.{statement}
 use Rattle.pairs.proofs.check_pairs.Tie as tie
 
@@ -14,16 +14,16 @@ abbrev decreases-loop : tie.decreases-loop
 decreases-loop threads history places₀ inside₀ events k₀ places inside k = events - k
 
 -- a thread is a byte
-thread-byte : (c : tie.After-shared-slice-known3 invariant-loop decreases-loop)
+thread_byte : (c : tie.After-shared-slice-known3 invariant-loop decreases-loop)
     → let at = c.before.before.before in get_or at.before.before.args.history.now (2 * at.loop.k) 0 < 256
-thread-byte c = (c.shared-slice-known3.given (2 * c.before.before.before.loop.k)).fits
+thread_byte c = (c.shared-slice-known3.given (2 * c.before.before.before.loop.k)).fits
 
 judge-requires : tie.Need-judge-requires invariant-loop decreases-loop
 judge-requires c κs =
     let at = c.before.before.before in
     let start = at.before.before in
     let a = start.args in
-    counted-here a.threads start.requires a.history.now at.loop.places at.loop.inside at.loop.k at.loop.invariant (omega arith)
+    counted_here a.threads start.requires a.history.now at.loop.places at.loop.inside at.loop.k at.loop.invariant (omega arith)
 
 -- a bad pair
 returns : tie.Need-returns invariant-loop decreases-loop
@@ -32,7 +32,7 @@ returns c =
     let at = c.before.before.before.before.before.before.before in
     let start = at.before.before in
     let a = start.args in
-    bad-here a.threads start.requires a.history.now at.loop.places at.loop.inside at.loop.k at.loop.invariant (omega arith)
+    bad_here a.threads start.requires a.history.now at.loop.places at.loop.inside at.loop.k at.loop.invariant (omega arith)
     judge.result c.before.verdict2.given.0.0 c.before.verdict2.given.1 judge.ensures _
 
 -- one that fits
@@ -44,7 +44,7 @@ loop-again c =
     let start = at.before.before in
     let a = start.args in
     goes_on a.threads start.requires a.history.now at.loop.places at.loop.inside at.loop.k at.loop.invariant (omega arith)
-    judge.result c.before.verdict.given.0.0 c.before.verdict.given.1 judge.ensures (thread-byte read)
+    judge.result c.before.verdict.given.0.0 c.before.verdict.given.1 judge.ensures (thread_byte read)
 
 returns-2 : tie.Need-returns-2 invariant-loop decreases-loop
 returns-2 c =
@@ -63,13 +63,13 @@ check-pairs-spec =
     (λ c. search rules)
     (λ c. search rules)
     (λ c. search rules)
-    (λ c. omega (arith, thread-byte c))
-    (λ c. omega (arith, thread-byte c))
-    (λ c. omega (arith, thread-byte c))
+    (λ c. omega (arith, thread_byte c))
+    (λ c. omega (arith, thread_byte c))
+    (λ c. omega (arith, thread_byte c))
     (λ c. omega (arith, c.shared-slice-known3.given (2 * c.before.before.before.loop.k + 1)))
     judge-requires
     (λ c. search rules)
-    (λ c. omega (arith, thread-byte c.before.before.before.before))
+    (λ c. omega (arith, thread_byte c.before.before.before.before))
     (λ c. search rules)
     returns
     (λ c. search rules)

@@ -6,7 +6,7 @@ use mathlib.Core.Path.{◌≡◌, refl, sym, ap, ◌∙◌}
 use borrow.Author.Rules.{rules}
 use borrow.Author.Tests.{le-ltb, ne_eqb}
 use lib.Dec.{ltb, eqb}
-use Rattle.definitions.specs.Moves.{namesThread}
+use Rattle.definitions.specs.Moves.{names_thread}
 use Rattle.phase_moves.proofs.target_fits.Statement.{statement}
 use Rattle.phase_moves.proofs.target_fits.Tie as tie
 
@@ -21,7 +21,7 @@ by_names false n t = below_one t
 returns : tie.Need-returns
 returns c =
     let a = c.before.args in
-    ap (λ (k : ℕ). ltb a.target k) c.Targets-of.ensures ∙ by_names (namesThread a.mv) a.threads a.target
+    ap (λ (k : ℕ). ltb a.target k) c.Targets-of.ensures ∙ by_names (names_thread a.mv) a.threads a.target
 
 pub target-fits-spec : {M : Type 1} → statement M
 target-fits-spec = tie.close (tie.spec (λ c κs. search rules) returns)

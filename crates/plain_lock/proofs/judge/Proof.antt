@@ -4,13 +4,13 @@ use Rattle.std.proofs.Common.{◌≡◌, ℕ, ◌/◌, ◌%◌, ◌^◌, ◌<◌
 use mathlib.Core.Bool.{false≢true}
 use borrow.Author.Tests.{lt-leb}
 use Rattle.definitions.specs.Answers.{Reply, accepted, refused, answered}
-use Rattle.definitions.specs.PlainLock.{isNext}
+use Rattle.definitions.specs.PlainLock.{is_next}
 use Rattle.definitions.specs.Threads.{between}
-use Rattle.plain_lock.specs.Counts.{countsMeet, countTests, standingAfter, Counted}
-use Rattle.plain_lock.specs.Rows.{eventRow, movedBy}
+use Rattle.plain_lock.specs.Counts.{counts_meet, count_tests, standing_after, Counted}
+use Rattle.plain_lock.specs.Rows.{event_row, moved_by}
 use Rattle.plain_lock.specs.declared.Standing.{Standing}
 use Rattle.basics.proofs.Tests.{T_true, true-T, decided, and_both}
-use Rattle.plain_lock.proofs.RowLaws.{next_known, met-known, moved-known, next-unknown}
+use Rattle.plain_lock.proofs.RowLaws.{next_known, met_known, moved-known, next_unknown}
 use Rattle.plain_lock.proofs.judge.Statement.{statement}
 use Rattle.plain_lock.proofs.judge.Tie as tie
 
@@ -19,23 +19,23 @@ module _ (n thread code : ℕ) (s : Standing) (k : ℕ) where
   known = between 1 8 code && ltb thread n
 
   abbrev reply : Reply Standing
-  reply = answered (countTests n s k (record { thread = thread; event = code })) (standingAfter s code)
+  reply = answered (count_tests n s k (record { thread = thread; event = code })) (standing_after s code)
 
-  by_tests : (a b d : Bool) → known ≡ a → isNext s.place code ≡ b → countsMeet s code ≡ d
-      → cond a (cond b (cond d (accepted (standingAfter s code)) (refused 11 k)) (refused 10 k)) (refused 9 k) ≡ reply
+  by_tests : (a b d : Bool) → known ≡ a → is_next s.place code ≡ b → counts_meet s code ≡ d
+      → cond a (cond b (cond d (accepted (standing_after s code)) (refused 11 k)) (refused 10 k)) (refused 9 k) ≡ reply
   unfolding answered
   by_tests a b d p q r = rw (← p, ← q, ← r)
 
   -- a code above the last event's
-  above-last : 8 < code → refused 9 k ≡ reply
-  above-last l = by_tests false _ _ (rw (lt-leb code 8 l) (no-event (leb 1 code))) refl refl
+  above_last : 8 < code → refused 9 k ≡ reply
+  above_last l = by_tests false _ _ (rw (lt-leb code 8 l) (no_event (leb 1 code))) refl refl
     where
-      no-event : (a : Bool) → (a && false) && ltb thread n ≡ false
-      no-event true = refl
-      no-event false = refl
+      no_event : (a : Bool) → (a && false) && ltb thread n ≡ false
+      no_event true = refl
+      no_event false = refl
 
   -- any other, by its row
-  module _ (c : Counted n thread s) (most : code ≤ 8) (row : ℕ) (same : row ≡ eventRow code) where
+  module _ (c : Counted n thread s) (most : code ≤ 8) (row : ℕ) (same : row ≡ event_row code) where
     abbrev next : Bool
     next = eqb s.place (row % 2 ^ 8)
 
@@ -48,24 +48,24 @@ module _ (n thread code : ℕ) (s : Standing) (k : ℕ) where
       where
         by : T (between 1 8 code) ⊎ T (not (between 1 8 code)) → T (between 1 8 code)
         by (inl t) = t
-        by (inr t) = absurd (false≢true (sym (next-unknown n thread s code c t) ∙ (ap (λ (r : ℕ). eqb s.place (r % 2 ^ 8)) (sym same) ∙ e)))
+        by (inr t) = absurd (false≢true (sym (next_unknown n thread s code c t) ∙ (ap (λ (r : ℕ). eqb s.place (r % 2 ^ 8)) (sym same) ∙ e)))
 
     -- of an event the row's tests are those by counts
-    is-next : T (between 1 8 code) → next ≡ isNext s.place code
-    is-next t = ap (λ (r : ℕ). eqb s.place (r % 2 ^ 8)) same ∙ next_known n thread s code c t
+    is_next_lem : T (between 1 8 code) → next ≡ is_next s.place code
+    is_next_lem t = ap (λ (r : ℕ). eqb s.place (r % 2 ^ 8)) same ∙ next_known n thread s code c t
 
-    is-met : T (between 1 8 code) → met ≡ countsMeet s code
-    is-met t = ap (λ (r : ℕ). leb s.inside (r / 2 ^ 16 % 2 ^ 16)) same ∙ met-known n thread s code c t
+    is_met : T (between 1 8 code) → met ≡ counts_meet s code
+    is_met t = ap (λ (r : ℕ). leb s.inside (r / 2 ^ 16 % 2 ^ 16)) same ∙ met_known n thread s code c t
 
-    fits : (after : Standing) → ltb thread n && (next && met) ≡ true → after ≡ movedBy s row → accepted after ≡ reply
+    fits : (after : Standing) → ltb thread n && (next && met) ≡ true → after ≡ moved_by s row → accepted after ≡ reply
     fits after flag e =
         let a = and_both (ltb thread n) (next && met) flag in
         let b = and_both next met a.1 in
         let t = next-event b.0 in
         let l = ltb-true thread n a.0 in
-        let q : isNext s.place code ≡ true = sym (is-next t) ∙ b.0 in
-        ap accepted (e ∙ (rw same (moved-known n thread s code c t l (true-T (isNext s.place code) q))))
-        ∙ by_tests true true true (rw (T_true (between 1 8 code) t, a.0)) q (sym (is-met t) ∙ b.1)
+        let q : is_next s.place code ≡ true = sym (is_next_lem t) ∙ b.0 in
+        ap accepted (e ∙ (rw same (moved-known n thread s code c t l (true-T (is_next s.place code) q))))
+        ∙ by_tests true true true (rw (T_true (between 1 8 code) t, a.0)) q (sym (is_met t) ∙ b.1)
 
     -- the code's test for 9
     is_known : known ≡ ltb thread n && leb 1 code
@@ -84,16 +84,16 @@ module _ (n thread code : ℕ) (s : Standing) (k : ℕ) where
         by false b p q = by_tests false _ _ p refl refl
         by true false p q =
             let t = and_both (between 1 8 code) (ltb thread n) p in
-            by_tests true false _ p (sym (is-next (true-T (between 1 8 code) t.0)) ∙ q) refl
+            by_tests true false _ p (sym (is_next_lem (true-T (between 1 8 code) t.0)) ∙ q) refl
         by true true p q =
             let t = and_both (between 1 8 code) (ltb thread n) p in
             let u = true-T (between 1 8 code) t.0 in
-            by_tests true true false p (sym (is-next u) ∙ q) (sym (is-met u) ∙ (rw (t.1, q) at flag))
+            by_tests true true false p (sym (is_next_lem u) ∙ q) (sym (is_met u) ∙ (rw (t.1, q) at flag))
 
 returns : tie.Need-returns
 returns c k =
     let a = c.before.args in
-    above-last a.threads a.thread a.code a.before k (omega (arith, c.if1.true))
+    above_last a.threads a.thread a.code a.before k (omega (arith, c.if1.true))
 
 returns-2 : tie.Need-returns-2
 returns-2 c k =

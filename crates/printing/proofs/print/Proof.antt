@@ -1,6 +1,6 @@
 -- `printing::print` meets its contract: the output is measured, then its lines are put.
 use borrow.Author.Rules.{rules}
-use Rattle.printing.proofs.Output.{lines-short, needed-fits, print-short, lines-room, last-room, printed}
+use Rattle.printing.proofs.Output.{lines-short, needed_fits, print-short, lines-room, last-room, printed}
 use Rattle.printing.proofs.print.Statement.{statement}
 use Rattle.printing.proofs.print.Tie as tie
 
@@ -8,7 +8,7 @@ events-length-requires : tie.Need-events-length-requires
 events-length-requires c κs = lines-short c.before.before.requires
 
 add-needed : tie.Need-overflow-add-needed
-add-needed c = record { fits = needed-fits c.before.before.before.before.requires c.before.events-length.ensures c.ending-length.ensures }
+add-needed c = record { fits = needed_fits c.before.before.before.before.requires c.before.events-length.ensures c.ending-length.ensures }
 
 returns : tie.Need-returns
 returns c =

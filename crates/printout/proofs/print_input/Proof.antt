@@ -1,6 +1,6 @@
 -- `printout::print_input` meets its contract: in a buffer that suffices the output is written, and no refusal is answered.
 use borrow.Author.Rules.{rules}
-use Rattle.printout.proofs.Output.{printed, never-refused}
+use Rattle.printout.proofs.Output.{printed, never_refused}
 use Rattle.printout.proofs.print_input.Statement.{statement}
 use Rattle.printout.proofs.print_input.Tie as tie
 
@@ -10,7 +10,7 @@ enum_told c = search rules
 returns : tie.Need-returns
 returns c =
     let ran = c.before.before.before.before in
-    absurd (never-refused _ _ ran.before.before.before.before.requires ran.write-output.ensures _ _ c.enum_told.given.1)
+    absurd (never_refused _ _ ran.before.before.before.before.requires ran.write-output.ensures _ _ c.enum_told.given.1)
 
 returns-2 : tie.Need-returns-2
 returns-2 c =

@@ -2,7 +2,7 @@
 use mathlib.Core.Path.{◌∙◌}
 use borrow.Author.Rules.{rules}
 use Rattle.definitions.specs.Texts.{bytes}
-use Rattle.printout.proofs.Output.{too_long, too-long-line, run-prints, run-refuses}
+use Rattle.printout.proofs.Output.{too_long, too_long_line, run-prints, run_refuses}
 use Rattle.printout.proofs.write_output.Statement.{statement}
 use Rattle.printout.proofs.write_output.Tie as tie
 
@@ -11,7 +11,7 @@ unfolding bytes
 returns c =
     let d = c.before.before in
     let then = d.before.before.before in
-    rw (too_long then.before.before.before.args.input.now then.if1.true ∙ too-long-line) d.deliver.ensures
+    rw (too_long then.before.before.before.args.input.now then.if1.true ∙ too_long_line) d.deliver.ensures
 
 returns-2 : tie.Need-returns-2
 returns-2 c =
@@ -21,7 +21,7 @@ returns-2 c =
 returns-3 : tie.Need-returns-3
 returns-3 c =
     let r = c.before.before.before.before.before in
-    run-refuses _ _ r.before.before.if1.false _ _ c.before.ran2.given.1 r.run.ensures
+    run_refuses _ _ r.before.before.if1.false _ _ c.before.ran2.given.1 r.run.ensures
 
 pub write-output-spec : {M : Type 1} → statement M
 write-output-spec =

@@ -5,34 +5,34 @@ use mathlib.Core.Logic.{⊎_elim}
 use mathlib.Core.Path.{sym, subst}
 use borrow.Author.Rules.{rules}
 use lib.ListN.{get_or}
-use Rattle.definitions.specs.PlainLock.{pairsOf}
+use Rattle.definitions.specs.PlainLock.{pairs_of}
 use Rattle.raising.specs.Raises.{Raises}
-use Rattle.pairs.proofs.PassLaws.{Passed, passed_none, counted-here, bad-here, goes_on}
-use Rattle.raising.proofs.RaiseLaws.{Raising, raising-none, kept_here, raising-can, raising-not, can-raise, can-not-raise, raises}
+use Rattle.pairs.proofs.PassLaws.{Passed, passed_none, counted_here, bad_here, goes_on}
+use Rattle.raising.proofs.RaiseLaws.{Raising, raising_none, kept_here, raising_can, raising_not, can_raise, can_not_raise, raises}
 use Rattle.raising.proofs.last_raise.Statement.{statement}
 use Rattle.raising.proofs.last_raise.Tie as tie
 
 abbrev invariant-loop : tie.invariant-loop
-invariant-loop threads history places₀ inside₀ upto₀ events k₀ places inside upto k = Passed threads history places inside k × Raising threads (pairsOf history) upto k
+invariant-loop threads history places₀ inside₀ upto₀ events k₀ places inside upto k = Passed threads history places inside k × Raising threads (pairs_of history) upto k
 
 abbrev decreases-loop : tie.decreases-loop
 decreases-loop threads history places₀ inside₀ upto₀ events k₀ places inside upto k = events - k
 
 -- a thread is a byte
-thread-byte : (c : tie.After-shared-slice-known3 invariant-loop decreases-loop)
+thread_byte : (c : tie.After-shared-slice-known3 invariant-loop decreases-loop)
     → let at = c.before.before.before in get_or at.before.before.args.history.now (2 * at.loop.k) 0 < 256
-thread-byte c = (c.shared-slice-known3.given (2 * c.before.before.before.loop.k)).fits
+thread_byte c = (c.shared-slice-known3.given (2 * c.before.before.before.loop.k)).fits
 
-code-byte : (c : tie.After-shared-slice-known3 invariant-loop decreases-loop)
+code_byte : (c : tie.After-shared-slice-known3 invariant-loop decreases-loop)
     → let at = c.before.before.before in get_or at.before.before.args.history.now (2 * at.loop.k + 1) 0 < 256
-code-byte c = (c.shared-slice-known3.given (2 * c.before.before.before.loop.k + 1)).fits
+code_byte c = (c.shared-slice-known3.given (2 * c.before.before.before.loop.k + 1)).fits
 
 judge-requires : tie.Need-judge-requires invariant-loop decreases-loop
 judge-requires c κs =
     let at = c.before.before.before in
     let start = at.before.before in
     let a = start.args in
-    counted-here a.threads start.requires a.history.now at.loop.places at.loop.inside at.loop.k at.loop.invariant.0 (omega arith)
+    counted_here a.threads start.requires a.history.now at.loop.places at.loop.inside at.loop.k at.loop.invariant.0 (omega arith)
 
 -- a bad pair
 returns : tie.Need-returns invariant-loop decreases-loop
@@ -41,7 +41,7 @@ returns c =
     let at = c.before.before.before.before.before.before.before in
     let start = at.before.before in
     let a = start.args in
-    bad-here a.threads start.requires a.history.now at.loop.places at.loop.inside at.loop.k at.loop.invariant.0 (omega arith)
+    bad_here a.threads start.requires a.history.now at.loop.places at.loop.inside at.loop.k at.loop.invariant.0 (omega arith)
     judge.result c.before.verdict2.given.0.0 c.before.verdict2.given.1 judge.ensures
 
 -- one that fits, and whether it can be raised
@@ -54,18 +54,18 @@ loop-again c =
     let start = at.before.before in
     let a = start.args in
     let n = a.threads in
-    let h = pairsOf a.history.now in
+    let h = pairs_of a.history.now in
     let k = at.loop.k in
     let p = at.loop.invariant.0 in
     let found = c.before.before.least-pair in (
       goes_on n start.requires a.history.now at.loop.places at.loop.inside k p (omega arith)
-          judge.result fits.verdict.given.0.0 fits.verdict.given.1 judge.ensures (thread-byte read),
+          judge.result fits.verdict.given.0.0 fits.verdict.given.1 judge.ensures (thread_byte read),
       ⊎_elim
           (λ w. subst (λ (u : ℕ). Raising n h u (k + 1)) (sym w.1)
-          (raising-can n h k (can-raise n a.history.now at.loop.places at.loop.inside k p (omega arith) found.result found.ensures w.0.taken)))
+          (raising_can n h k (can_raise n a.history.now at.loop.places at.loop.inside k p (omega arith) found.result found.ensures w.0.taken)))
           (λ w. subst (λ (u : ℕ). Raising n h u (k + 1)) (sym w.1)
-          (raising-not n h at.loop.upto k at.loop.invariant.1
-          (can-not-raise n a.history.now at.loop.places at.loop.inside k p (omega arith) found.result found.ensures w.0.left)))
+          (raising_not n h at.loop.upto k at.loop.invariant.1
+          (can_not_raise n a.history.now at.loop.places at.loop.inside k p (omega arith) found.result found.ensures w.0.left)))
           c.if1.branch,
     )
 
@@ -89,24 +89,24 @@ last-raise-spec =
     (tie.spec
     invariant-loop
     decreases-loop
-    (λ c. (passed_none _ _, raising-none _ _))
+    (λ c. (passed_none _ _, raising_none _ _))
     (λ c. search rules)
     (λ c. search rules)
     (λ c. search rules)
     (λ c. search rules)
-    (λ c. omega (arith, thread-byte c))
-    (λ c. omega (arith, thread-byte c))
-    (λ c. omega (arith, thread-byte c))
-    (λ c. omega (arith, code-byte c))
+    (λ c. omega (arith, thread_byte c))
+    (λ c. omega (arith, thread_byte c))
+    (λ c. omega (arith, thread_byte c))
+    (λ c. omega (arith, code_byte c))
     judge-requires
     (λ c. search rules)
-    (λ c. omega (arith, code-byte c.before.before.before.before))
-    (λ c. omega (arith, code-byte c.before.before.before.before))
+    (λ c. omega (arith, code_byte c.before.before.before.before))
+    (λ c. omega (arith, code_byte c.before.before.before.before))
     (λ c. search rules)
     (λ c κs. let at = c.before.before.before.before.before.before.before.before in
     kept_here at.before.before.args.threads at.before.before.requires at.before.before.args.history.now at.loop.places at.loop.inside at.loop.k at.loop.invariant.0)
     (λ c. search rules)
-    (λ c. omega (arith, thread-byte c.before.before.before.before.before.before.before.before))
+    (λ c. omega (arith, thread_byte c.before.before.before.before.before.before.before.before))
     (λ c. search rules)
     returns
     (λ c. search rules)

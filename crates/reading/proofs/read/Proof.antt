@@ -8,15 +8,15 @@ use borrow.Author.Rules.{rules}
 use borrow.Author.Tests.{not-true, not-false}
 use lib.ListN.{length, drop, replicate, length-replicate}
 use lib.Seq.{length-take-le}
-use Rattle.definitions.specs.Bounds.{mostScript, mostThreads}
-use Rattle.definitions.specs.Scripts.{linesTests, requestsIn}
-use Rattle.definitions.specs.Table.{countFits}
+use Rattle.definitions.specs.Bounds.{most_script, most_threads}
+use Rattle.definitions.specs.Scripts.{lines_tests, requests_in}
+use Rattle.definitions.specs.Table.{count_fits}
 use Rattle.definitions.specs.Texts.{lines_of}
 use Rattle.opening.specs.FirstLine.{FirstAt, ThreadsAt}
 use Rattle.line_moves.specs.Moves.{MovesTaken, AllTaken}
 use Rattle.basics.proofs.Tests.{true-T}
 use Rattle.theory.proofs.Stages.{count_most}
-use Rattle.reading.proofs.EntryLaws.{too_long, bad-first, bad-count, bad-line, no-room-left, within, triples-room, triples-whole, all_read}
+use Rattle.reading.proofs.EntryLaws.{too_long, bad_first, bad-count, bad_line, no_room_left, within, triples_room, triples_whole, all_read}
 use Rattle.reading.proofs.read.Statement.{statement}
 use Rattle.reading.proofs.read.Tie as tie
 
@@ -24,21 +24,21 @@ use Rattle.reading.proofs.read.Tie as tie
 abbrev start : tie.After-known-told → tie.Start
 start c = c.before.before.before.before.before.before.before
 
-short : (c : tie.After-known-told) → length (start c).args.script.now ≤ mostScript
+short : (c : tie.After-known-told) → length (start c).args.script.now ≤ most_script
 short c = c.before.before.before.before.if1.false
 
-threads-at : (c : tie.After-known-told) → let g = c.before.first.given.0 in ThreadsAt (start c).args.script.now g.0 g.1.0
-threads-at c = subst (FirstAt _) c.before.first.given.1 c.before.before.before.first-line.ensures
+threads_at : (c : tie.After-known-told) → let g = c.before.first.given.0 in ThreadsAt (start c).args.script.now g.0 g.1.0
+threads_at c = subst (FirstAt _) c.before.first.given.1 c.before.before.before.first_line.ensures
 
 -- the place for the triples: a third of the longest script
 abbrev place : List ℕ
-place = replicate (mostScript / 3) 0
+place = replicate (most_script / 3) 0
 
 -- and it fits
-counts : (c : tie.Else2) → countFits c.before.before.before.first.given.0.0 ≡ true
+counts : (c : tie.Else2) → count_fits c.before.before.before.first.given.0.0 ≡ true
 counts c = sym c.before.count_fits.ensures ∙ not-false _ c.if2.false
 
-most : (c : tie.Else2) → c.before.before.before.first.given.0.0 ≤ mostThreads
+most : (c : tie.Else2) → c.before.before.before.first.given.0.0 ≤ most_threads
 most c = count_most _ (true-T _ (counts c))
 
 -- the lines behind it were read
@@ -55,19 +55,19 @@ lines c = c.before.before.before.before
 abbrev size : tie.After-known-told3 → ℕ
 size c = c.before.taken2.given.0.0
 
-all-taken : (c : tie.After-known-told3) → let t = lines c in let k = known (fitting t) in
-    AllTaken (linesTests 2 k.before.first.given.0.0 (lines_of (drop k.before.first.given.0.1.0 (start k).args.script.now)))
-    (requestsIn (lines_of (drop k.before.first.given.0.1.0 (start k).args.script.now))) place 0 t.take-lines.last.1.1.1.0 (size c)
-all-taken c = subst (MovesTaken _ _ _ _ _) c.before.taken2.given.1 (lines c).take-lines.ensures
+all_taken : (c : tie.After-known-told3) → let t = lines c in let k = known (fitting t) in
+    AllTaken (lines_tests 2 k.before.first.given.0.0 (lines_of (drop k.before.first.given.0.1.0 (start k).args.script.now)))
+    (requests_in (lines_of (drop k.before.first.given.0.1.0 (start k).args.script.now))) place 0 t.take-lines.last.1.1.1.0 (size c)
+all_taken c = subst (MovesTaken _ _ _ _ _) c.before.taken2.given.1 (lines c).take-lines.ensures
 
 long : (c : tie.After-known-told) → length (start c).args.script.now ≤ 3 * length place
-long c = omega (arith, short c, length-replicate {A = ℕ} (mostScript / 3) 0)
+long c = omega (arith, short c, length-replicate {A = ℕ} (most_script / 3) 0)
 
 size_fits : (c : tie.After-known-told3) → size c ≤ length (lines c).take-lines.new.1.1.1.0
 size_fits c =
     let t = lines c in
     let k = known (fitting t) in
-    within _ (start k).args.out.now (short k) _ _ (threads-at k) (counts (fitting t)) (all-taken c) (long k) t.take-lines.kept.1.1.1.0
+    within _ (start k).args.out.now (short k) _ _ (threads_at k) (counts (fitting t)) (all_taken c) (long k) t.take-lines.kept.1.1.1.0
 
 returns : tie.Need-returns
 returns c = too_long _ _ c.if1.true
@@ -75,12 +75,12 @@ returns c = too_long _ _ c.if1.true
 returns-2 : tie.Need-returns-2
 returns-2 c =
     let p = c.before.before in
-    bad-first _ _ p.before.if1.false (subst (FirstAt _) c.enum_told.given.1 p.first-line.ensures)
+    bad_first _ _ p.before.if1.false (subst (FirstAt _) c.enum_told.given.1 p.first_line.ensures)
 
 returns-3 : tie.Need-returns-3
 returns-3 c =
     let k = c.before.before in
-    bad-count _ _ (short k) _ _ (threads-at k) (sym c.before.count_fits.ensures ∙ not-true _ c.if2.true)
+    bad-count _ _ (short k) _ _ (threads_at k) (sym c.before.count_fits.ensures ∙ not-true _ c.if2.true)
 
 cast-threads : tie.Need-overflow-cast-threads
 cast-threads c = record { fits = omega (arith, most c) }
@@ -88,13 +88,13 @@ cast-threads c = record { fits = omega (arith, most c) }
 take-lines-requires : tie.Need-take-lines-requires
 take-lines-requires c κs =
     let k = known c.before in
-    ((threads-at k).within, record { short = short k; room = long k })
+    ((threads_at k).within, record { short = short k; room = long k })
 
 returns-4 : tie.Need-returns-4
 returns-4 c =
     let t = lines c.before in
     let k = known (fitting t) in
-    no-room-left _ _ (short k) _ _ (threads-at k) (counts (fitting t)) (all-taken c.before) c.if3.true
+    no_room_left _ _ (short k) _ _ (threads_at k) (counts (fitting t)) (all_taken c.before) c.if3.true
 
 array-share-prefix-moves : tie.Need-array-share-prefix-moves
 array-share-prefix-moves c = size_fits c.before.before
@@ -107,8 +107,8 @@ put-triples-requires c κs =
     let e = c.before.before in
     let t = lines e.before in
     let k = known (fitting t) in (
-      triples-room _ _ (short k) _ _ (threads-at k) (counts (fitting t)) (all-taken e.before) (long k) t.take-lines.kept.1.1.1.0 e.if3.false,
-      triples-whole _ (start k).args.out.now (short k) _ _ (threads-at k) (counts (fitting t)) (all-taken e.before) (long k) t.take-lines.kept.1.1.1.0 e.if3.false,
+      triples_room _ _ (short k) _ _ (threads_at k) (counts (fitting t)) (all_taken e.before) (long k) t.take-lines.kept.1.1.1.0 e.if3.false,
+      triples_whole _ (start k).args.out.now (short k) _ _ (threads_at k) (counts (fitting t)) (all_taken e.before) (long k) t.take-lines.kept.1.1.1.0 e.if3.false,
     )
 
 returns-5 : tie.Need-returns-5
@@ -116,7 +116,7 @@ returns-5 c =
     let t = c.before.before.before.before in
     let e = fitting t in
     let k = known e in
-    bad-line _ _ (short k) _ _ (threads-at k) (counts e) _ _ (subst (MovesTaken _ _ _ _ _) c.before.taken.given.1 t.take-lines.ensures)
+    bad_line _ _ (short k) _ _ (threads_at k) (counts e) _ _ (subst (MovesTaken _ _ _ _ _) c.before.taken.given.1 t.take-lines.ensures)
 
 returns-6 : tie.Need-returns-6
 returns-6 c =
@@ -124,7 +124,7 @@ returns-6 c =
     let e = w.before.before.before in
     let t = lines e.before in
     let k = known (fitting t) in
-    all_read _ _ (short k) _ _ (threads-at k) (counts (fitting t)) (all-taken e.before) (long k) t.take-lines.kept.1.1.1.0 e.if3.false _ _ w.put-triples.ensures
+    all_read _ _ (short k) _ _ (threads_at k) (counts (fitting t)) (all_taken e.before) (long k) t.take-lines.kept.1.1.1.0 e.if3.false _ _ w.put-triples.ensures
 
 pub read_spec : {M : Type 1} → statement M
 read_spec =

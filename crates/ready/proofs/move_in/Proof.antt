@@ -4,24 +4,24 @@ use mathlib.Core.List.{[], ◌∷◌}
 use mathlib.Core.Path.{◌≡◌, refl, sym, ap, ◌∙◌}
 use borrow.Author.Tests.{ne_eqb}
 use Rattle.definitions.specs.Codes.{go}
-use Rattle.dispatching.specs.Ready.{moveBy}
+use Rattle.dispatching.specs.Ready.{move_by}
 use Rattle.basics.proofs.Matches.{NoneOf}
 use Rattle.ready.proofs.move_in.Statement.{statement}
 use Rattle.ready.proofs.move_in.Tie as tie
 
-at : (k mv phase : ℕ) → phase ≡ k → mv ≡ moveBy k → mv ≡ moveBy phase
-at k mv phase e h = h ∙ ap moveBy (sym e)
+at : (k mv phase : ℕ) → phase ≡ k → mv ≡ move_by k → mv ≡ move_by phase
+at k mv phase e h = h ∙ ap move_by (sym e)
 
-neither : (phase : ℕ) → NoneOf phase (15 ∷ 10 ∷ []) → go ≡ moveBy phase
-unfolding moveBy
+neither : (phase : ℕ) → NoneOf phase (15 ∷ 10 ∷ []) → go ≡ move_by phase
+unfolding move_by
 neither phase r = simp (ne_eqb phase 15 r.1, ne_eqb phase 10 r.0.1)
 
 returns : tie.Need-returns
-unfolding moveBy
+unfolding move_by
 returns c = at 10 _ _ c.match.keys1 refl
 
 returns-2 : tie.Need-returns-2
-unfolding moveBy
+unfolding move_by
 returns-2 c = at 15 _ _ c.match.keys2 refl
 
 returns-3 : tie.Need-returns-3

@@ -3,20 +3,20 @@ use Prim.Native.Nat.{ℕ, ◌-◌}
 use native.Mathlib.Omega.{arith}
 use mathlib.Core.List.{List, [], ◌∷◌}
 use borrow.Author.Rules.{rules}
-use Rattle.definitions.specs.Codes.{clearMove}
+use Rattle.definitions.specs.Codes.{clear_move}
 use Rattle.definitions.specs.Moves.{ask}
 use Rattle.definitions.specs.declared.Request.{Request}
-use Rattle.basics.proofs.Parts.{PartsPut, parts_none, parts-room, parts_more, parts_all}
-use Rattle.repeats.proofs.RequestBytes.{requestParts}
+use Rattle.basics.proofs.Parts.{PartsPut, parts_none, parts_room, parts_more, parts_all}
+use Rattle.repeats.proofs.RequestBytes.{request_parts}
 use Rattle.repeats.proofs.clear_each.Statement.{statement}
 use Rattle.repeats.proofs.clear_each.Tie as tie
 
 -- what turn t puts
 abbrev turn : ℕ → ℕ → List Request
-turn thread t = ask thread clearMove t ∷ []
+turn thread t = ask thread clear_move t ∷ []
 
 abbrev invariant-loop : tie.invariant-loop
-invariant-loop out₀ at thread threads next₀ t₀ out next t = PartsPut (requestParts threads (turn thread)) out₀ at t out next
+invariant-loop out₀ at thread threads next₀ t₀ out next t = PartsPut (request_parts threads (turn thread)) out₀ at t out next
 
 abbrev decreases-loop : tie.decreases-loop
 decreases-loop out₀ at thread threads next₀ t₀ out next t = threads - t
@@ -31,7 +31,7 @@ clear-each-spec =
     invariant-loop
     decreases-loop
     (λ c. parts_none c.before.requires)
-    (λ c κs. parts-room c.before.before.loop.invariant (omega arith))
+    (λ c κs. parts_room c.before.before.loop.invariant (omega arith))
     (λ c. search rules)
     (λ c. search rules)
     loop-again

@@ -6,8 +6,8 @@ use borrow.Author.Rules.{rules}
 use Rattle.definitions.specs.Codes.{go}
 use Rattle.definitions.specs.Moves.{ask}
 use Rattle.definitions.specs.declared.Request.{Request}
-use Rattle.basics.proofs.Parts.{PartsPut, parts_none, parts-room, parts_more, parts_all}
-use Rattle.repeats.proofs.RequestBytes.{requestParts}
+use Rattle.basics.proofs.Parts.{PartsPut, parts_none, parts_room, parts_more, parts_all}
+use Rattle.repeats.proofs.RequestBytes.{request_parts}
 use Rattle.repeats.proofs.go_times.Statement.{statement}
 use Rattle.repeats.proofs.go_times.Tie as tie
 
@@ -16,7 +16,7 @@ abbrev turn : ℕ → ℕ → List Request
 turn thread t = ask thread go 0 ∷ []
 
 abbrev invariant-loop : tie.invariant-loop
-invariant-loop out₀ at thread count next₀ t₀ out next t = PartsPut (requestParts count (turn thread)) out₀ at t out next
+invariant-loop out₀ at thread count next₀ t₀ out next t = PartsPut (request_parts count (turn thread)) out₀ at t out next
 
 abbrev decreases-loop : tie.decreases-loop
 decreases-loop out₀ at thread count next₀ t₀ out next t = count - t
@@ -31,7 +31,7 @@ go-times-spec =
     invariant-loop
     decreases-loop
     (λ c. parts_none c.before.requires)
-    (λ c κs. parts-room c.before.before.loop.invariant (omega arith))
+    (λ c κs. parts_room c.before.before.loop.invariant (omega arith))
     (λ c. search rules)
     (λ c. search rules)
     loop-again

@@ -6,8 +6,8 @@ use borrow.Author.Tests.{le-leb, lt-leb, not-true, not-false}
 use lib.Dec.{leb}
 use Rattle.definitions.specs.Answers.{answered}
 use Rattle.definitions.specs.Bounds.{last_move}
-use Rattle.definitions.specs.Moves.{targetFits}
-use Rattle.definitions.specs.Phases.{hasMove}
+use Rattle.definitions.specs.Moves.{target_fits}
+use Rattle.definitions.specs.Phases.{has_move}
 use Rattle.basics.proofs.Tests.{true-T}
 use Rattle.requests.proofs.test_move.Statement.{statement}
 use Rattle.requests.proofs.test_move.Tie as tie
@@ -34,7 +34,7 @@ returns-2 c =
     rw (known at, sym at.before.target_fits.ensures ∙ not-true at.before.target_fits.result c.if2.true)
 
 -- test 5 is passed
-fits : (c : tie.Else2) → let a = (start c.before).args in targetFits a.head.threads a.request.mv a.request.target ≡ true
+fits : (c : tie.Else2) → let a = (start c.before).args in target_fits a.head.threads a.request.mv a.request.target ≡ true
 fits c = sym c.before.before.target_fits.ensures ∙ not-false _ c.if2.false
 
 returns-3 : tie.Need-returns-3
@@ -44,7 +44,7 @@ returns-3 c =
     rw (known at, fits c.before, sym at.has_move.ensures ∙ not-true at.has_move.result c.if3.true)
 
 -- and test 6
-exists : (c : tie.Else3) → let a = (start c.before.before).args in hasMove a.request.mv a.mover.phase ≡ true
+exists : (c : tie.Else3) → let a = (start c.before.before).args in has_move a.request.mv a.mover.phase ≡ true
 exists c = sym c.before.before.has_move.ensures ∙ not-false _ c.if3.false
 
 returns-4 : tie.Need-returns-4

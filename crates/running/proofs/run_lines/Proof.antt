@@ -5,16 +5,16 @@ use native.Mathlib.Omega.{arith}
 use mathlib.Core.Path.{subst, ◌∙◌}
 use borrow.Author.Rules.{rules}
 use lib.ListN.{length, drop}
-use Rattle.definitions.specs.Run.{printed, retriesFrom}
+use Rattle.definitions.specs.Run.{printed, retries_from}
 use Rattle.definitions.specs.Texts.{lines_of}
 use Rattle.lines.specs.Lines.{LineAt, NextAt}
-use Rattle.running.proofs.Loop.{AtLine, begun, finished, unended, line-room, stop, steps-fit, retries-fit, next}
+use Rattle.running.proofs.Loop.{AtLine, begun, finished, unended, line_room, stop, steps_fit, retries_fit, next}
 use Rattle.running.proofs.run_lines.Statement.{statement}
 use Rattle.running.proofs.run_lines.Tie as tie
 
 abbrev invariant-loop : tie.invariant-loop
 invariant-loop script start table₀ history₀ from₀ line₀ steps₀ retried₀ flags₀ shown₀ table history from line steps retried flags shown =
-    AtLine script table₀ history₀ (printed table₀ 2 0 (lines_of (drop start script))) (retriesFrom table₀ (lines_of (drop start script))) table history from line steps retried flags shown
+    AtLine script table₀ history₀ (printed table₀ 2 0 (lines_of (drop start script))) (retries_from table₀ (lines_of (drop start script))) table history from line steps retried flags shown
 
 abbrev decreases-loop : tie.decreases-loop
 decreases-loop script start table₀ history₀ from₀ line₀ steps₀ retried₀ flags₀ shown₀ table history from line steps retried flags shown = length script - from
@@ -74,7 +74,7 @@ take-line-requires : tie.Need-take-line-requires invariant-loop decreases-loop
 take-line-requires c κs =
     let f = c.before.before.before in
     let g = (here f).loop.invariant in
-    (g.tested, line-room (start (here f)).pre.room g (end f) (line_at f))
+    (g.tested, line_room (start (here f)).pre.room g (end f) (line_at f))
 
 same-length-5 : tie.Need-same-length-5 invariant-loop decreases-loop
 same-length-5 c =
@@ -99,7 +99,7 @@ add-steps c =
     let p = c.before.before.before in
     let f = found p in
     let t = (taken p).take-line in
-    record { fits = steps-fit (start (here f)).pre.room (here f).loop.inv (end f) (line_at f) t.last.1.0 t.last.1.1.1.0 t.result t.ensures _ _ _ _ c.before.step2.given.1 }
+    record { fits = steps_fit (start (here f)).pre.room (here f).loop.inv (end f) (line_at f) t.last.1.0 t.last.1.1.1.0 t.result t.ensures _ _ _ _ c.before.step2.given.1 }
 
 add-retried : tie.Need-overflow-add-retried invariant-loop decreases-loop
 add-retried c =
@@ -107,7 +107,7 @@ add-retried c =
     let f = found p in
     let t = (taken p).take-line in
     let line = line_at f in
-    record { fits = retries-fit (start (here f)).pre.room (here f).loop.inv (end f) line t.last.1.0 t.last.1.1.1.0 t.result t.ensures _ _ _ _ c.before.step2.given.1 }
+    record { fits = retries_fit (start (here f)).pre.room (here f).loop.inv (end f) line t.last.1.0 t.last.1.1.1.0 t.result t.ensures _ _ _ _ c.before.step2.given.1 }
 
 loop-less : tie.Need-loop-smaller invariant-loop decreases-loop
 loop-less c =

@@ -6,7 +6,7 @@ use borrow.Author.Rules.{rules}
 use lib.ListN.{length}
 use Rattle.lines.specs.Lines.{LineAt, NextAt}
 use Rattle.line_moves.specs.Moves.{MovesTaken}
-use Rattle.script_moves.proofs.Loop.{AtLine, begun, finished, unended, line-room, refused-line, next}
+use Rattle.script_moves.proofs.Loop.{AtLine, begun, finished, unended, line_room, refused_line_lem, next}
 use Rattle.script_moves.proofs.take_lines.Statement.{statement}
 use Rattle.script_moves.proofs.take_lines.Tie as tie
 
@@ -63,7 +63,7 @@ part-take-line-end : tie.Need-slice-bounds-take-line-end invariant-loop decrease
 part-take-line-end c = omega (arith, (line_at c).ends)
 
 take-line-requires : tie.Need-take-line-requires invariant-loop decreases-loop
-take-line-requires c κs = let f = c.before.before in line-room (here f).loop.invariant (end f) (line_at f)
+take-line-requires c κs = let f = c.before.before in line_room (here f).loop.invariant (end f) (line_at f)
 
 same-length-3 : tie.Need-same-length-3 invariant-loop decreases-loop
 same-length-3 c =
@@ -76,7 +76,7 @@ returns-3 c =
     let t = c.before.before.before.before in
     let f = t.before.before.before in
     rw c.enum-told3.given.1
-    (refused-line (here f).loop.invariant (end f) (line_at f) _ _ (subst (MovesTaken _ _ _ _ _) c.enum-told3.given.1 t.take-line.ensures))
+    (refused_line_lem (here f).loop.invariant (end f) (line_at f) _ _ (subst (MovesTaken _ _ _ _ _) c.enum-told3.given.1 t.take-line.ensures))
 
 loop-less : tie.Need-loop-smaller invariant-loop decreases-loop
 loop-less c =

@@ -1,7 +1,7 @@
 -- `script_text::put_moves` meets its contract. The loop's invariant: the lines of the triples passed are put. The measure is how many triples are left.
 use Prim.Native.Nat.{◌-◌}
 use native.Mathlib.Omega.{arith}
-use Rattle.basics.proofs.Parts.{PartsPut, parts_none, parts-room, parts_more, parts_all}
+use Rattle.basics.proofs.Parts.{PartsPut, parts_none, parts_room, parts_more, parts_all}
 use Rattle.script_text.proofs.ScriptParts.{move_parts}
 use Rattle.script_text.proofs.put_moves.Statement.{statement}
 use Rattle.script_text.proofs.put_moves.Tie as tie
@@ -13,7 +13,7 @@ abbrev decreases-loop : tie.decreases-loop
 decreases-loop out₀ start triples moves at₀ j₀ out at j = moves - j
 
 put-move-requires : tie.Need-put-move-requires invariant-loop decreases-loop
-put-move-requires c κs = let test = c.before.before.before.before in parts-room test.before.loop.invariant test.loop-test.true
+put-move-requires c κs = let test = c.before.before.before.before in parts_room test.before.loop.invariant test.loop-test.true
 
 loop-again : tie.Need-loop-preserved invariant-loop decreases-loop
 loop-again c =

@@ -2,9 +2,9 @@
 use Prim.Native.Nat.{◌+◌, ◌*◌, ◌-◌, ◌/◌, ◌≤◌}
 use native.Mathlib.Omega.{arith}
 use borrow.Author.Rules.{rules}
-use Rattle.definitions.specs.Bounds.{mostThreads}
+use Rattle.definitions.specs.Bounds.{most_threads}
 use Rattle.shares.specs.Shares.{each}
-use Rattle.shares.proofs.Counting.{Counting, counting-none, counting_more, counting-each, counting-all}
+use Rattle.shares.proofs.Counting.{Counting, counting_none, counting_more, counting_each, counting_all}
 use Rattle.shares.proofs.count_moves.Statement.{statement}
 use Rattle.shares.proofs.count_moves.Tie as tie
 
@@ -20,11 +20,11 @@ loop-again c =
     counting_more _ _ _ at.loop.k at.loop.shares at.loop.invariant c.share-of.result (omega arith) c.share-of.ensures
 
 -- what is made for each thread fits
-each_fits : (c : tie.After-loop invariant-loop decreases-loop) → c.before.loop.shares / each * c.before.before.before.args.threads ≤ 2 * mostThreads * c.before.loop.k
-each_fits c = counting-each _ _ _ c.before.loop.k c.before.loop.shares c.before.loop.invariant
+each_fits : (c : tie.After-loop invariant-loop decreases-loop) → c.before.loop.shares / each * c.before.before.before.args.threads ≤ 2 * most_threads * c.before.loop.k
+each_fits c = counting_each _ _ _ c.before.loop.k c.before.loop.shares c.before.loop.invariant
 
 returns : tie.Need-returns invariant-loop decreases-loop
-returns c = counting-all _ _ _ c.before.loop.k c.before.loop.shares c.before.loop.invariant (omega arith)
+returns c = counting_all _ _ _ c.before.loop.k c.before.loop.shares c.before.loop.invariant (omega arith)
 
 pub count-moves-spec : {M : Type 1} → statement M
 count-moves-spec =
@@ -32,7 +32,7 @@ count-moves-spec =
     (tie.spec
     invariant-loop
     decreases-loop
-    (λ c. counting-none _ _ _ c.before.requires)
+    (λ c. counting_none _ _ _ c.before.requires)
     (λ c. search rules)
     (λ c. search rules)
     (λ c. search rules)

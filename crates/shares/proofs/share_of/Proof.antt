@@ -4,23 +4,23 @@ use native.Mathlib.Omega.{arith}
 use mathlib.Core.Logic.{inr}
 use mathlib.Core.Path.{◌≡◌, sym, ap, ◌∙◌}
 use lib.ListN.{length, get_or}
-use Rattle.shares.specs.Shares.{each, movesByShares, ShareOf}
-use Rattle.basics.proofs.Matches.{NoneOf, downFrom, above}
-use Rattle.theory.proofs.PlanLengths.{eventLengths, movesFor, event-moves, plan-past}
+use Rattle.shares.specs.Shares.{each, moves_by_shares, ShareOf}
+use Rattle.basics.proofs.Matches.{NoneOf, down_from, above}
+use Rattle.theory.proofs.PlanLengths.{event_lengths, moves_for, event-moves, plan_past}
 use Rattle.shares.proofs.share_of.Statement.{statement}
 use Rattle.shares.proofs.share_of.Tie as tie
 
 -- that of the arm for code k
-at : (k code share : ℕ) → code ≡ k → share % each ≤ 3 → share / each ≤ 2 → ((n : ℕ) → movesByShares n share ≡ get_or (eventLengths n) k 0) → ShareOf code share
-unfolding movesFor
+at : (k code share : ℕ) → code ≡ k → share % each ≤ 3 → share / each ≤ 2 → ((n : ℕ) → moves_by_shares n share ≡ get_or (event_lengths n) k 0) → ShareOf code share
+unfolding moves_for
 at k code share e few few' h =
-    rw e (record { whole = λ n thread. h n ∙ sym (event-moves n (record { thread = thread; event = k })); once-most = few; each-most = few' })
+    rw e (record { whole = λ n thread. h n ∙ sym (event-moves n (record { thread = thread; event = k })); once_most = few; each-most = few' })
 
 -- that of the `_` arm
-other : (code : ℕ) → NoneOf code (downFrom 9) → ShareOf code 0
+other : (code : ℕ) → NoneOf code (down_from 9) → ShareOf code 0
 other code none =
     let past = above 9 code none in
-    record { whole = λ n thread. let e = ap length (plan-past n thread code (inr past)) in omega arith; once-most = omega arith; each-most = omega arith }
+    record { whole = λ n thread. let e = ap length (plan_past n thread code (inr past)) in omega arith; once_most = omega arith; each-most = omega arith }
 
 returns : tie.Need-returns
 returns c = at 0 _ _ c.match.keys1 (omega arith) (omega arith) (λ n. omega arith)

@@ -3,18 +3,18 @@ use mathlib.Core.Bool.{true}
 use mathlib.Core.Path.{◌≡◌, sym, ◌∙◌}
 use borrow.Author.Rules.{rules}
 use borrow.Author.Tests.{not-true, not-false}
-use Rattle.definitions.specs.ShortHistories.{isListed}
-use Rattle.definitions.specs.Table.{countFits}
-use Rattle.short_histories.proofs.FirstLaws.{first-bad-size, first-unlisted, first-no-room, first-ready, first-written}
+use Rattle.definitions.specs.ShortHistories.{is_listed}
+use Rattle.definitions.specs.Table.{count_fits}
+use Rattle.short_histories.proofs.FirstLaws.{first-bad-size, first_unlisted, first_no_room, first-ready, first-written}
 use Rattle.short_histories.proofs.first_history.Statement.{statement}
 use Rattle.short_histories.proofs.first_history.Tie as tie
 
 -- N fits, and its histories of that length are listed
-fits : (c : tie.Else1) → countFits c.before.before.before.args.threads ≡ true
+fits : (c : tie.Else1) → count_fits c.before.before.before.args.threads ≡ true
 fits c = sym c.before.count_fits.ensures ∙ not-false _ c.if1.false
 
-listed : (c : tie.Else2) → let a = c.before.before.before.before.before.args in isListed a.threads a.events ≡ true
-listed c = sym c.before.is-listed.ensures ∙ not-false _ c.if2.false
+listed : (c : tie.Else2) → let a = c.before.before.before.before.before.args in is_listed a.threads a.events ≡ true
+listed c = sym c.before.is_listed.ensures ∙ not-false _ c.if2.false
 
 returns-4 : tie.Need-returns-4
 returns-4 c =
@@ -28,9 +28,9 @@ first-history-spec =
     (λ c κs. search rules)
     (λ c. first-bad-size _ _ _ (sym c.before.count_fits.ensures ∙ not-true _ c.if1.true))
     (λ c κs. search rules)
-    (λ c. first-unlisted _ _ _ (fits c.before.before) (sym c.before.is-listed.ensures ∙ not-true _ c.if2.true))
+    (λ c. first_unlisted _ _ _ (fits c.before.before) (sym c.before.is_listed.ensures ∙ not-true _ c.if2.true))
     (λ c. search rules)
-    (λ c. first-no-room _ _ _ (fits c.before.before.before) (listed c.before) c.if3.true)
+    (λ c. first_no_room _ _ _ (fits c.before.before.before) (listed c.before) c.if3.true)
     (λ c. search rules)
     (λ c. search rules)
     (λ c κs. let left = c.before.before in first-ready _ _ _ (fits left.before.before.before) (listed left.before) left.if3.false)

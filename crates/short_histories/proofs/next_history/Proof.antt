@@ -1,6 +1,6 @@
 -- `next_history` meets its contract: refused by its form, or by what follows.
 use borrow.Author.Rules.{rules}
-use Rattle.history.proofs.CheckLaws.{passed-form}
+use Rattle.history.proofs.CheckLaws.{passed_form}
 use Rattle.short_histories.proofs.NextLaws.{next-turned}
 use Rattle.short_histories.proofs.next_history.Statement.{statement}
 use Rattle.short_histories.proofs.next_history.Tie as tie
@@ -10,7 +10,7 @@ next-shaped-requires c κs =
     let told = c.before.before in
     let called = told.before.before in
     let a = called.before.before.before.args in
-    let p = passed-form a.threads a.history.now called.check-form.result _ called.check-form.ensures _ told.formed.given.1 in
+    let p = passed_form a.threads a.history.now called.check-form.result _ called.check-form.ensures _ told.formed.given.1 in
     record { formed = p.0; pairs = p.1 }
 
 returns-2 : tie.Need-returns-2

@@ -6,17 +6,17 @@ use mathlib.Core.Path.{◌≡◌, sym, subst, ◌∙◌}
 use borrow.Author.Rules.{rules}
 use borrow.Author.Tests.{not-true, not-false}
 use lib.ListN.{length, length-take}
-use Rattle.definitions.specs.ShortHistories.{isListed}
+use Rattle.definitions.specs.ShortHistories.{is_listed}
 use Rattle.raising.specs.Raises.{RaiseOf}
 use Rattle.raising.specs.declared.Raise.TheVariants.{Upto}
-use Rattle.history.proofs.CheckLaws.{formed-e}
-use Rattle.short_histories.proofs.NextLaws.{kept-within, next-unlisted, next-bad, next_last, next-no-room, next-ready, next-written}
+use Rattle.history.proofs.CheckLaws.{formed_e}
+use Rattle.short_histories.proofs.NextLaws.{kept-within, next_unlisted, next-bad, next_last, next_no_room, next-ready, next-written}
 use Rattle.short_histories.proofs.next_shaped.Statement.{statement}
 use Rattle.short_histories.proofs.next_shaped.Tie as tie
 
 -- its length is listed
-listed : (c : tie.Else1) → let a = c.before.before.before.before.args in isListed a.threads a.events ≡ true
-listed c = sym c.before.is-listed.ensures ∙ not-false _ c.if1.false
+listed : (c : tie.Else1) → let a = c.before.before.before.before.args in is_listed a.threads a.events ≡ true
+listed c = sym c.before.is_listed.ensures ∙ not-false _ c.if1.false
 
 -- a pair can be raised, the last one that can be
 module _ (c : tie.After-known-told) where
@@ -60,10 +60,10 @@ next-shaped-spec =
     tie.close
     (tie.spec
     (λ c κs. search rules)
-    (λ c. next-unlisted _ _ _ _ c.before.before.before.before.requires (sym c.before.is-listed.ensures ∙ not-true _ c.if1.true))
-    (λ c κs. let begin = c.before.before.before.before in (formed-e _ begin.args.history.now begin.requires.formed).most)
+    (λ c. next_unlisted _ _ _ _ c.before.before.before.before.requires (sym c.before.is_listed.ensures ∙ not-true _ c.if1.true))
+    (λ c κs. let begin = c.before.before.before.before in (formed_e _ begin.args.history.now begin.requires.formed).most)
     (λ c. search rules)
-    (λ c. next-no-room _ _ _ _ (start c.before).pre (listed (passed c.before)) _ (raise c.before) c.if2.true)
+    (λ c. next_no_room _ _ _ _ (start c.before).pre (listed (passed c.before)) _ (raise c.before) c.if2.true)
     (λ c. omega (arith, kept-bytes c.before))
     (λ c. let told = c.before.before.before in omega (arith, kept-bytes told, length-take (2 * told.before.raise.given.0.0) (start told).args.history.now))
     (λ c κs. let left = c.before.before in let told = left.before in next-ready _ _ _ _ (start told).requires (listed (passed told)) _ (raise told) left.if2.false)

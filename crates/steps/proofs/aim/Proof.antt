@@ -4,7 +4,7 @@ use borrow.Author.Rules.{rules}
 use Rattle.definitions.specs.Table.{target≔}
 use Rattle.definitions.specs.declared.Outcome.{Outcome}
 use Rattle.definitions.specs.declared.Task.{Task}
-use Rattle.theory.specs.Tables.{headWith}
+use Rattle.theory.specs.Tables.{head_with}
 use Rattle.views.specs.declared.Decided.{Decided}
 use Rattle.steps.proofs.aim.Statement.{statement}
 use Rattle.steps.proofs.aim.Tie as tie
@@ -12,8 +12,8 @@ use Rattle.steps.proofs.aim.Tie as tie
 returns : tie.Need-returns
 returns c =
     let a = c.before.before.before.before.args in
-    let decided : Task → Outcome → Decided = λ mover outcome. record { head = headWith a.v.head (target≔ a.target); mover = mover; forbidden = a.forbidden; outcome = outcome } in
-    ap₂ decided c.before.in-phase.ensures c.unseen.ensures
+    let decided : Task → Outcome → Decided = λ mover outcome. record { head = head_with a.v.head (target≔ a.target); mover = mover; forbidden = a.forbidden; outcome = outcome } in
+    ap₂ decided c.before.in_phase.ensures c.unseen.ensures
 
 pub aim-spec : {M : Type 1} → statement M
 aim-spec = tie.close (tie.spec (λ c κs. search rules) (λ c κs. search rules) returns)

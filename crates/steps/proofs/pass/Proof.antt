@@ -11,7 +11,7 @@ returns : tie.Need-returns
 returns c =
     let v = c.before.before.before.before.before.args.v in
     let decided : Task → Outcome → Decided = λ mover outcome. record { head = v.head; mover = mover; forbidden = v.subject.forbidden; outcome = outcome } in
-    ap₂ decided c.before.in-phase.ensures c.unseen.ensures
+    ap₂ decided c.before.in_phase.ensures c.unseen.ensures
 
 pub pass_spec : {M : Type 1} → statement M
 pass_spec = tie.close (tie.spec (λ c κs. search rules) (λ c κs. search rules) returns)

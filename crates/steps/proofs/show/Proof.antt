@@ -11,7 +11,7 @@ returns : tie.Need-returns
 returns c =
     let a = c.before.before.before.before.args in
     let decided : Task → Decided = λ mover. record { head = a.v.head; mover = mover; forbidden = a.v.subject.forbidden; outcome = Shown a.event } in
-    ap decided c.in-phase.ensures
+    ap decided c.in_phase.ensures
 
 pub show-spec : {M : Type 1} → statement M
 show-spec = tie.close (tie.spec (λ c κs. search rules) returns)

@@ -4,7 +4,7 @@ use mathlib.Core.Bool.{Bool, false}
 use mathlib.Core.List.{[], ◌∷◌}
 use mathlib.Core.Path.{◌≡◌, refl, sym, ap, ◌∙◌}
 use borrow.Author.Tests.{ne_eqb}
-use Rattle.tallies.specs.Rules.{restFits}
+use Rattle.tallies.specs.Rules.{rest_fits}
 use Rattle.tallies.specs.declared.Tally.{Tally}
 use Rattle.basics.proofs.Matches.{NoneOf}
 use Rattle.tallies.proofs.rest_fits.Statement.{statement}
@@ -13,13 +13,13 @@ use Rattle.tallies.proofs.rest_fits.Tie as tie
 module _ (t : Tally) (n : ℕ) where
   -- by the holder's phase
   abbrev fits : ℕ → Bool
-  fits h = restFits (record { holder = h; forbidden = t.forbidden; readers = t.readers; backed_off = t.backed_off }) n
+  fits h = rest_fits (record { holder = h; forbidden = t.forbidden; readers = t.readers; backed_off = t.backed_off }) n
 
   at : (k : ℕ) (r : Bool) → t.holder ≡ k → r ≡ fits k → r ≡ fits t.holder
   at k r e h = h ∙ ap fits (sym e)
 
   none : (h : ℕ) → NoneOf h (18 ∷ 16 ∷ 15 ∷ 14 ∷ 13 ∷ 10 ∷ 0 ∷ []) → false ≡ fits h
-  unfolding restFits
+  unfolding rest_fits
   none h r =
       simp (
         ne_eqb h 18 r.1,
@@ -32,7 +32,7 @@ module _ (t : Tally) (n : ℕ) where
       )
 
 pub rest-fits-spec : {M : Type 1} → statement M
-unfolding restFits
+unfolding rest_fits
 rest-fits-spec =
     tie.close
     (tie.spec

@@ -2,7 +2,7 @@
 use Prim.Native.Nat.{◌-◌}
 use native.Mathlib.Omega.{arith}
 use lib.ListN.{length}
-use Rattle.basics.proofs.Parts.{bytewise, PartsPut, parts_none, parts-room, parts_more, parts_all}
+use Rattle.basics.proofs.Parts.{bytewise, PartsPut, parts_none, parts_room, parts_more, parts_all}
 use Rattle.text.proofs.put_text.Statement.{statement}
 use Rattle.text.proofs.put_text.Tie as tie
 
@@ -13,7 +13,7 @@ abbrev decreases-loop : tie.decreases-loop
 decreases-loop out₀ at text next₀ i₀ out next i = length text - i
 
 put-byte-requires : tie.Need-put-byte-requires invariant-loop decreases-loop
-put-byte-requires c κs = parts-room c.before.before.before.loop.invariant (omega arith)
+put-byte-requires c κs = parts_room c.before.before.before.loop.invariant (omega arith)
 
 loop-again : tie.Need-loop-preserved invariant-loop decreases-loop
 loop-again c = parts_more c.before.before.before.before.before.before.loop.invariant (omega arith) c.before.before.put_byte.ensures

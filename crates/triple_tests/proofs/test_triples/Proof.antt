@@ -2,7 +2,7 @@
 use Prim.Native.Nat.{◌-◌}
 use native.Mathlib.Omega.{arith}
 use borrow.Author.Rules.{rules}
-use Rattle.triple_tests.proofs.TripleTests.{Tried, tried-none, tried-all, tried-refused, tried-passed}
+use Rattle.triple_tests.proofs.TripleTests.{Tried, tried_none, tried_all, tried_refused, tried_passed}
 use Rattle.triple_tests.proofs.test_triples.Statement.{statement}
 use Rattle.triple_tests.proofs.test_triples.Tie as tie
 
@@ -13,22 +13,22 @@ abbrev decreases-loop : tie.decreases-loop
 decreases-loop threads triples moves k₀ k = moves - k
 
 loop-holds : tie.Need-loop-init invariant-loop decreases-loop
-loop-holds c = tried-none _ _
+loop-holds c = tried_none _ _
 
 returns : tie.Need-returns invariant-loop decreases-loop
 returns c =
     let p = c.before.before.before in
     let l = p.before.before.before.before.before in
-    tried-refused _ _ l.before.loop.k l.loop-test.true l.before.loop.invariant p.before.request-of.ensures _ p.test-numbers.ensures _ c.before.tested.given.1
+    tried_refused _ _ l.before.loop.k l.loop-test.true l.before.loop.invariant p.before.request-of.ensures _ p.test-numbers.ensures _ c.before.tested.given.1
 
 loop-again : tie.Need-loop-preserved invariant-loop decreases-loop
 loop-again c =
     let p = c.before.before in
     let l = p.before.before.before.before.before in
-    tried-passed _ _ l.before.loop.k l.loop-test.true l.before.loop.invariant p.before.request-of.ensures _ p.test-numbers.ensures c.enum_told.given.1
+    tried_passed _ _ l.before.loop.k l.loop-test.true l.before.loop.invariant p.before.request-of.ensures _ p.test-numbers.ensures c.enum_told.given.1
 
 returns-2 : tie.Need-returns-2 invariant-loop decreases-loop
-returns-2 c = tried-all _ _ c.before.loop.k c.loop-test.false c.before.loop.invariant
+returns-2 c = tried_all _ _ c.before.loop.k c.loop-test.false c.before.loop.invariant
 
 pub test-triples-spec : {M : Type 1} → statement M
 test-triples-spec =

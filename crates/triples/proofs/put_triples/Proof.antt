@@ -7,7 +7,7 @@ use lib.ListN.{length, get_or, drop, drop_of_length-le}
 use Rattle.definitions.specs.Moves.{ask}
 use Rattle.definitions.specs.Plan.{bytes_of}
 use Rattle.basics.proofs.Parts.{Partly, no_part, room_by, put-by, all-by}
-use Rattle.theory.proofs.Triples.{triple-bytes}
+use Rattle.theory.proofs.Triples.{triple_bytes}
 use Rattle.triples.proofs.put_triples.Statement.{statement}
 use Rattle.triples.proofs.put_triples.Tie as tie
 
@@ -17,7 +17,7 @@ part_at moves at = bytes_of (ask (get_or moves at 0) (get_or moves (at + 1) 0) (
 
 part : (moves : List ℕ) (at next : ℕ) → at + 3 ≤ length moves → next ≡ at + 3 → drop at moves ≡ part_at moves at ++ drop next moves
 unfolding bytes_of
-part moves at next h e = triple-bytes moves at h ∙ ap (λ (k : ℕ). part_at moves at ++ drop k moves) (sym e)
+part moves at next h e = triple_bytes moves at h ∙ ap (λ (k : ℕ). part_at moves at ++ drop k moves) (sym e)
 
 abbrev invariant-loop : tie.invariant-loop
 invariant-loop out₀ moves at₀ out at = (at ≤ length moves) × (at % 3 ≡ 0) × Partly out₀ 0 moves (drop at moves) out at

@@ -1,6 +1,6 @@
 -- `turns::take_line` meets its contract: the form that was read says what the line does to the run (proofs/Turns).
 use borrow.Author.Rules.{rules}
-use Rattle.turns.proofs.Turns.{threads-stops, bad-stops, note-passes, request-room, request-steps}
+use Rattle.turns.proofs.Turns.{threads-stops, bad-stops, note-passes, request-room, request_steps}
 use Rattle.turns.proofs.take_line.Statement.{statement}
 use Rattle.turns.proofs.take_line.Tie as tie
 
@@ -27,7 +27,7 @@ returns-2 c =
     let p = f.before.before in
     let a = (start p).args in
     let m = called.make in
-    request-steps _ _ p.read-form.ensures a.table.now (start p).requires.0.tested _ a.history.now a.at f.form.given.1 m.new.0 m.new.1.1.1.0 m.result m.ensures
+    request_steps _ _ p.read-form.ensures a.table.now (start p).requires.0.tested _ a.history.now a.at f.form.given.1 m.new.0 m.new.1.1.1.0 m.result m.ensures
 
 returns-3 : tie.Need-returns-3
 returns-3 c = let p = c.before.before in note-passes _ _ p.read-form.ensures _ _ _ _ (start p).requires.0 c.enum-told2.given.1

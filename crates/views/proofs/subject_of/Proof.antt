@@ -1,25 +1,25 @@
 -- `subject_of` meets its contract: each return rewrites with the tests that led there.
 use mathlib.Core.Path.{sym, ◌∙◌}
 use borrow.Author.Rules.{rules}
-use Rattle.theory.specs.Statements.{subjectBy}
+use Rattle.theory.specs.Statements.{subject_by}
 use Rattle.views.proofs.subject_of.Statement.{statement}
 use Rattle.views.proofs.subject_of.Tie as tie
 
 returns : tie.Need-returns
-unfolding subjectBy
+unfolding subject_by
 returns c =
     let taken = c.before in
     rw (sym taken.before.names-thread.ensures ∙ taken.if1.true)
 
 returns-2 : tie.Need-returns-2
-unfolding subjectBy
+unfolding subject_by
 returns-2 c =
     let at = c.before in
     let left = at.before.before.before in
     rw (sym left.before.names-thread.ensures ∙ left.if1.false, at.if2.true)
 
 returns-3 : tie.Need-returns-3
-unfolding subjectBy
+unfolding subject_by
 returns-3 c =
     let at = c.before in
     let left = at.before.before.before in

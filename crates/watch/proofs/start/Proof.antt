@@ -3,7 +3,7 @@ use native.Mathlib.Omega.{arith}
 use mathlib.Core.Path.{sym, ◌∙◌}
 use borrow.Author.Rules.{rules}
 use borrow.Author.Tests.{not-true, not-false}
-use Rattle.watch.proofs.TestLaws.{start-bad, start-good}
+use Rattle.watch.proofs.TestLaws.{start-bad, start_good}
 use Rattle.consistency.proofs.TestLaws.{few-threads}
 use Rattle.watch.proofs.start.Statement.{statement}
 use Rattle.watch.proofs.start.Tie as tie
@@ -21,4 +21,4 @@ start_spec =
     record { fits = omega arith })
     (λ c.
     let a = c.before.before.args in
-    start-good a.count a.watcher (sym c.before.count_fits.ensures ∙ not-false _ c.if1.false)))
+    start_good a.count a.watcher (sym c.before.count_fits.ensures ∙ not-false _ c.if1.false)))

@@ -2,12 +2,12 @@
 use mathlib.Core.Path.{sym, ap}
 use borrow.Author.Rules.{rules}
 use lib.ListN.{get_or-eq_default}
-use Rattle.definitions.specs.Texts.{isDigit}
+use Rattle.definitions.specs.Texts.{is_digit}
 use Rattle.words.proofs.digit_at.Statement.{statement}
 use Rattle.words.proofs.digit_at.Tie as tie
 
 returns-2 : tie.Need-returns-2
-returns-2 c = sym (ap isDigit (get_or-eq_default c.before.args.part.now 0 c.if1.false))
+returns-2 c = sym (ap is_digit (get_or-eq_default c.before.args.part.now 0 c.if1.false))
 
 pub digit-at-spec : {M : Type 1} → statement M
 digit-at-spec =

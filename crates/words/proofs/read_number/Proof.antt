@@ -6,9 +6,9 @@ use mathlib.Core.List.{List}
 use mathlib.Core.Logic.{◌≢◌}
 use mathlib.Core.Path.{◌≡◌, sym, ◌∙◌}
 use lib.ListN.{length}
-use Rattle.definitions.specs.Texts.{digitsOf}
-use Rattle.basics.proofs.Digits.{digits-within, digit-end}
-use Rattle.words.proofs.NumberReading.{ReadSoFar, Next, none_read, next, number-none, number-long, number-no, number-yes}
+use Rattle.definitions.specs.Texts.{digits_of}
+use Rattle.basics.proofs.Digits.{digits_within, digit_end}
+use Rattle.words.proofs.NumberReading.{ReadSoFar, Next, none_read, next, number_none, number-long, number_no, number-yes}
 use Rattle.words.proofs.read_number.Statement.{statement}
 use Rattle.words.proofs.read_number.Tie as tie
 
@@ -28,10 +28,10 @@ further c =
     next test.before.before.loop.invariant (sym test.before.digit_at.ensures ∙ test.if1.true) c.if2.false
 
 -- behind the loop all digits are taken
-all-taken : (c : tie.Else1 invariant-loop decreases-loop) → let l = c.before.before in l.loop.digits ≡ length (digitsOf (part l))
-all-taken c =
+all_taken : (c : tie.Else1 invariant-loop decreases-loop) → let l = c.before.before in l.loop.digits ≡ length (digits_of (part l))
+all_taken c =
     let l = c.before.before in
-    let few = digit-end (part l) l.loop.digits (sym c.before.digit_at.ensures ∙ c.if1.false) in
+    let few = digit_end (part l) l.loop.digits (sym c.before.digit_at.ensures ∙ c.if1.false) in
     let many = l.loop.invariant.digits in
     omega arith
 
@@ -71,25 +71,25 @@ loop-again : tie.Need-loop-preserved invariant-loop decreases-loop
 loop-again c = (further c.before).more
 
 returns-2 : tie.Need-returns-2 invariant-loop decreases-loop
-returns-2 c = number-none _ (sym (all-taken c.before) ∙ c.if3.true)
+returns-2 c = number_none _ (sym (all_taken c.before) ∙ c.if3.true)
 
 shared-slice-read-if4 : tie.Need-shared-slice-read-if4 invariant-loop decreases-loop
 shared-slice-read-if4 c =
     let l = c.before.before.before.before in
     let some : l.loop.digits ≢ 0 = c.before.if3.false in
-    let within : l.loop.digits ≤ length (digitsOf (part l)) = l.loop.invariant.digits in
-    let h : 0 < length (part l) = omega (arith, digits-within (part l)) in
+    let within : l.loop.digits ≤ length (digits_of (part l)) = l.loop.invariant.digits in
+    let h : 0 < length (part l) = omega (arith, digits_within (part l)) in
     h
 
 returns-3 : tie.Need-returns-3 invariant-loop decreases-loop
 returns-3 c =
     let e = c.before.before in
-    number-no e.before.before.before.loop.invariant (all-taken e.before) e.if3.false c.if4.true
+    number_no e.before.before.before.loop.invariant (all_taken e.before) e.if3.false c.if4.true
 
 returns-4 : tie.Need-returns-4 invariant-loop decreases-loop
 returns-4 c =
     let e = c.before.before in
-    number-yes e.before.before.before.loop.invariant (all-taken e.before) e.if3.false c.if4.false
+    number-yes e.before.before.before.loop.invariant (all_taken e.before) e.if3.false c.if4.false
 
 pub read-number-spec : {M : Type 1} → statement M
 read-number-spec =

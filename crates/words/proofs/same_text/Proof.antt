@@ -6,7 +6,7 @@ use mathlib.Core.List.{List}
 use mathlib.Core.Path.{◌≡◌, sym, ap}
 use borrow.Author.Count.{below_more}
 use lib.ListN.{length, get_or}
-use Rattle.words.proofs.Comparisons.{same-ne, same_at}
+use Rattle.words.proofs.Comparisons.{same_ne, same_at}
 use Rattle.words.proofs.same_text.Statement.{statement}
 use Rattle.words.proofs.same_text.Tie as tie
 
@@ -18,7 +18,7 @@ abbrev decreases-loop : tie.decreases-loop
 decreases-loop part text i₀ i = length text - i
 
 returns : tie.Need-returns invariant-loop decreases-loop
-returns c = sym (same-ne _ _ (λ e. omega (arith, ap length e)))
+returns c = sym (same_ne _ _ (λ e. omega (arith, ap length e)))
 
 loop-holds : tie.Need-loop-init invariant-loop decreases-loop
 loop-holds c = (omega arith, omega arith, λ k l. absurd (omega arith))
@@ -26,7 +26,7 @@ loop-holds c = (omega arith, omega arith, λ k l. absurd (omega arith))
 returns-2 : tie.Need-returns-2 invariant-loop decreases-loop
 returns-2 c =
     let args = c.before.before.before.before.before.before.args in
-    sym (same-ne args.part.now args.text.now
+    sym (same_ne args.part.now args.text.now
     (λ e. c.if2.true (ap (λ (l : List ℕ). get_or l c.before.before.before.before.loop.i 0) e)))
 
 loop-again : tie.Need-loop-preserved invariant-loop decreases-loop

@@ -1,7 +1,7 @@
 -- `wospinzo::ask_record` meets its contract: the question's answer as a number.
 use mathlib.Core.Path.{ap, ◌∙◌}
 use borrow.Author.Rules.{rules}
-use Rattle.answer_numbers.specs.Encoding.{insideNumber}
+use Rattle.answer_numbers.specs.Encoding.{inside_number}
 use Rattle.wospinzo.proofs.ask_record.Statement.{statement}
 use Rattle.wospinzo.proofs.ask_record.Tie as tie
 
@@ -11,4 +11,4 @@ ask-record-spec =
     (tie.spec
     (λ c κs. search rules)
     (λ c κs. search rules)
-    (λ c. c.inside-number.ensures ∙ ap insideNumber c.before.anybody-inside.ensures))
+    (λ c. c.inside-number.ensures ∙ ap inside_number c.before.anybody-inside.ensures))

@@ -3,7 +3,7 @@ use Prim.Native.Nat.{ℕ}
 use mathlib.Core.Path.{◌≡◌, ap, ◌∙◌}
 use borrow.Author.Rules.{rules}
 use Rattle.definitions.specs.declared.Watcher.{Watcher}
-use Rattle.answer_numbers.specs.Encoding.{watchNumber}
+use Rattle.answer_numbers.specs.Encoding.{watch_number}
 use Rattle.wospinzo.specs.declared.Started.{Started}
 use Rattle.wospinzo.proofs.start_record.Statement.{statement}
 use Rattle.wospinzo.proofs.start_record.Tie as tie
@@ -19,4 +19,4 @@ start-record-spec =
     (λ c κs. search rules)
     (λ c.
     let started = c.before.before.start.ensures in
-    same started.1 (c.before.watch-number.ensures ∙ ap watchNumber started.0)))
+    same started.1 (c.before.watch-number.ensures ∙ ap watch_number started.0)))

@@ -1,7 +1,7 @@
 -- `wospinzo::update_record` meets its contract: what the event changes, and its answer as a number.
 use mathlib.Core.Path.{ap, ◌∙◌}
 use borrow.Author.Rules.{rules}
-use Rattle.answer_numbers.specs.Encoding.{watchNumber}
+use Rattle.answer_numbers.specs.Encoding.{watch_number}
 use Rattle.wospinzo.proofs.update_record.Statement.{statement}
 use Rattle.wospinzo.proofs.update_record.Tie as tie
 
@@ -12,5 +12,5 @@ update-record-spec =
     (λ c κs. search rules)
     (λ c κs. search rules)
     (λ c.
-    let update = c.before.watch-event.ensures in
-    record { entry = update.entry; number = c.watch-number.ensures ∙ ap watchNumber update.reply; left = update.left }))
+    let update = c.before.watch_event.ensures in
+    record { entry = update.entry; number = c.watch-number.ensures ∙ ap watch_number update.reply; left = update.left }))

@@ -1,7 +1,7 @@
 -- `wospinzo::wospinzo_first_history` meets its contract: the first history's answer, whose value is small, as a number, and its output.
 use mathlib.Core.Path.{ap, ◌∙◌}
 use borrow.Author.Rules.{rules}
-use Rattle.answer_numbers.specs.Encoding.{countNumber}
+use Rattle.answer_numbers.specs.Encoding.{count_number}
 use Rattle.answer_numbers.proofs.Small.{first_small}
 use Rattle.wospinzo.proofs.wospinzo_first_history.Statement.{statement}
 use Rattle.wospinzo.proofs.wospinzo_first_history.Tie as tie
@@ -11,7 +11,7 @@ answer-number-requires c κs = let a = c.before.before.before.before.before.args
 
 returns : tie.Need-returns
 returns c =
-    let made = c.before.before.before.first-history.ensures in (c.answer-number.ensures ∙ ap countNumber made.reply, made.output)
+    let made = c.before.before.before.first-history.ensures in (c.answer-number.ensures ∙ ap count_number made.reply, made.output)
 
 pub wospinzo-first-history-spec : {M : Type 1} → statement M
 wospinzo-first-history-spec = tie.close (tie.spec (λ c κs. search rules) answer-number-requires (λ c. search rules) returns)

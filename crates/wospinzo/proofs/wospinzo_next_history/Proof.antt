@@ -1,7 +1,7 @@
 -- `wospinzo::wospinzo_next_history` meets its contract: the next history's answer, whose value is small, as a number, and its output.
 use mathlib.Core.Path.{ap, ◌∙◌}
 use borrow.Author.Rules.{rules}
-use Rattle.answer_numbers.specs.Encoding.{nextNumber}
+use Rattle.answer_numbers.specs.Encoding.{next_number}
 use Rattle.answer_numbers.proofs.Small.{next_small}
 use Rattle.wospinzo.proofs.wospinzo_next_history.Statement.{statement}
 use Rattle.wospinzo.proofs.wospinzo_next_history.Tie as tie
@@ -11,7 +11,7 @@ next-number-requires c κs = let a = c.before.before.before.before.before.before
 
 returns : tie.Need-returns
 returns c =
-    let made = c.before.before.before.next-history.ensures in (c.next-number.ensures ∙ ap nextNumber made.reply, made.output)
+    let made = c.before.before.before.next-history.ensures in (c.next-number.ensures ∙ ap next_number made.reply, made.output)
 
 pub wospinzo-next-history-spec : {M : Type 1} → statement M
 wospinzo-next-history-spec = tie.close (tie.spec (λ c κs. search rules) next-number-requires (λ c. search rules) returns)

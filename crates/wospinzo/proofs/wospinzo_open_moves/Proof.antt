@@ -1,17 +1,17 @@
 -- `wospinzo::wospinzo_open_moves` meets its contract: the open moves' answer, whose value is small, as a number, and its output.
 use mathlib.Core.Path.{ap, ◌∙◌}
 use borrow.Author.Rules.{rules}
-use Rattle.answer_numbers.specs.Encoding.{countNumber}
-use Rattle.answer_numbers.proofs.Small.{open-small}
+use Rattle.answer_numbers.specs.Encoding.{count_number}
+use Rattle.answer_numbers.proofs.Small.{open_small}
 use Rattle.wospinzo.proofs.wospinzo_open_moves.Statement.{statement}
 use Rattle.wospinzo.proofs.wospinzo_open_moves.Tie as tie
 
 answer-number-requires : tie.Need-answer-number-requires
-answer-number-requires c κs = (open-small _ _ _ _ c.before.before.open-moves.ensures.reply).0
+answer-number-requires c κs = (open_small _ _ _ _ c.before.before.open_moves.ensures.reply).0
 
 returns : tie.Need-returns
 returns c =
-    let made = c.before.before.before.open-moves.ensures in (c.answer-number.ensures ∙ ap countNumber made.reply, made.output)
+    let made = c.before.before.before.open_moves.ensures in (c.answer-number.ensures ∙ ap count_number made.reply, made.output)
 
 pub wospinzo-open-moves-spec : {M : Type 1} → statement M
 wospinzo-open-moves-spec = tie.close (tie.spec (λ c κs. search rules) answer-number-requires (λ c. search rules) returns)

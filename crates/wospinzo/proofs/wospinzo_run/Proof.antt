@@ -1,7 +1,7 @@
 -- `wospinzo::wospinzo_run` meets its contract: the run's answer, whose values are small, as a number, and its output.
 use mathlib.Core.Path.{ap, ◌∙◌}
 use borrow.Author.Rules.{rules}
-use Rattle.answer_numbers.specs.Encoding.{runNumber}
+use Rattle.answer_numbers.specs.Encoding.{run_number}
 use Rattle.answer_numbers.proofs.Small.{run_small}
 use Rattle.wospinzo.proofs.wospinzo_run.Statement.{statement}
 use Rattle.wospinzo.proofs.wospinzo_run.Tie as tie
@@ -11,7 +11,7 @@ running-number-requires c κs = let a = c.before.before.before.before.before.bef
 
 returns : tie.Need-returns
 returns c =
-    let made = c.before.before.before.run.ensures in (c.running-number.ensures ∙ ap runNumber made.reply, made.output)
+    let made = c.before.before.before.run.ensures in (c.running-number.ensures ∙ ap run_number made.reply, made.output)
 
 pub wospinzo-run-spec : {M : Type 1} → statement M
 wospinzo-run-spec = tie.close (tie.spec (λ c κs. search rules) running-number-requires (λ c. search rules) returns)

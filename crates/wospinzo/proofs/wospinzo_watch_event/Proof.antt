@@ -46,10 +46,10 @@ use Rattle.definitions.specs.PlainLock.{Pair}
 use Rattle.definitions.specs.declared.Watcher.{Watcher}
 use Rattle.definitions.specs.contracts.Watcher as T
 use Rattle.definitions.proofs.Watcher.TheLaws as T'
-use Rattle.lent_record.proofs.Lent.{Holds, typed, value-is, borrowed, restored}
-use Rattle.lent_record.proofs.Calls.{uint-owned, answered, load_field, says_both}
-use Rattle.lent_record.proofs.ArrayFields.{AreBytes, entries-out, entries-in}
-use Rattle.wospinzo.specs.Records.{renewedBy, Renews}
+use Rattle.lent_record.proofs.Lent.{Holds, typed, value_is, borrowed, restored}
+use Rattle.lent_record.proofs.Calls.{uint_owned, answered, load_field, says_both}
+use Rattle.lent_record.proofs.ArrayFields.{AreBytes, entries_out, entries_in}
+use Rattle.wospinzo.specs.Records.{renewed_by, Renews}
 use Rattle.wospinzo.specs.declared.Renewed.{Renewed}
 use Rattle.wospinzo.specs.contracts.Renewed as D
 use Rattle.wospinzo.proofs.Renewed.TheLaws as D'
@@ -98,8 +98,8 @@ record Fits (r : Renewed) : Type 0 where
   exclusive : r.exclusive < 2 ^ 8
   number : r.number < 2 ^ 64
 
-fits-of : (r : Renewed) (v : Val) → Is D.the_row r (v ∷ []) → Fits r
-fits-of r v is =
+fits_of : (r : Renewed) (v : Val) → Is D.the_row r (v ∷ []) → Fits r
+fits_of r v is =
     let each = LL.owed D.the_type D'.the_laws r (v ∷ []) is in
     record { at = each.0.1; place = each.1.0.1; shared = each.1.1.0.1; exclusive = each.1.1.1.0.1; number = each.1.1.1.1.0.1 }
 
@@ -107,19 +107,19 @@ fits-of r v is =
 abbrev entries : List ℕ → List ℕ
 entries ys = map (λ (place : ℕ). place) ys
 
-are-bytes : (h : Watcher) → Holds T.the_type T'.the_laws h → AreBytes 200 (entries h.places)
-are-bytes h is = (LL.owed T.the_type T'.the_laws h (vals h) is).1.1.1.0
+are_bytes : (h : Watcher) → Holds T.the_type T'.the_laws h → AreBytes 200 (entries h.places)
+are_bytes h is = (LL.owed T.the_type T'.the_laws h (vals h) is).1.1.1.0
 
 long_of : (h : Watcher) → Holds T.the_type T'.the_laws h → length h.places ≡ 200
-long_of h is = sym (length-map h.places (λ (place : ℕ). place)) ∙ (are-bytes h is).1.0.1
+long_of h is = sym (length-map h.places (λ (place : ℕ). place)) ∙ (are_bytes h is).1.0.1
 
 within : (h : Watcher) → Holds T.the_type T'.the_laws h → (r : Renewed) → r.at < 200 → r.at < length h.places
 within h is r l = subst (λ (n : ℕ). r.at < n) (sym (long_of h is)) l
 
 -- the facts of the record with the entry and the totals stored
-renewed-holds : (h : Watcher) → Holds T.the_type T'.the_laws h → (r : Renewed) → Fits r → AreBytes 200 (entries (renewedBy h r).places) → Holds T.the_type T'.the_laws (renewedBy h r)
-renewed-holds h is r fit are =
-    LL.owes T.the_type T'.the_laws (renewedBy h r) ((LL.owed T.the_type T'.the_laws h (vals h) is).0, ((refl, fit.shared), ((refl, fit.exclusive), (are, tt))))
+renewed_holds : (h : Watcher) → Holds T.the_type T'.the_laws h → (r : Renewed) → Fits r → AreBytes 200 (entries (renewed_by h r).places) → Holds T.the_type T'.the_laws (renewed_by h r)
+renewed_holds h is r fit are =
+    LL.owes T.the_type T'.the_laws (renewed_by h r) ((LL.owed T.the_type T'.the_laws h (vals h) is).0, ((refl, fit.shared), ((refl, fit.exclusive), (are, tt))))
 
 module _ {M : Type 1} {𝓤 : Ura M} (𝓛 : Logic 𝓤) (at_mem : Memory → SProp 𝓤) (run : Routine → Fun 𝓤)
     (κ : Lft) (q : Share) (b o : ℕ) (γ : GName) (h : Watcher) (t e : ℕ) (t-fits : t < 2 ^ 16) (e-fits : e < 2 ^ 16) where
@@ -135,22 +135,22 @@ module _ {M : Type 1} {𝓤 : Ura M} (𝓛 : Logic 𝓤) (at_mem : Memory → SP
   Post = (walk_of 𝓛 entry.ended stayed (entry.clauses 𝓛 at_mem run)).post (((κ, tt), (q, tt), tt, x, at), tt)
 
   exits : (r : Renewed) → r.number < 2 ^ 64 → Renews h (event t e) r
-      → ent 𝓤 (sep 𝓤 (A.obs γ (R.coded.code (renewedBy h r))) (sep 𝓤 (A.bor κ (Body (mem R) b o γ)) (A.lft κ q))) (Post (vint w64 r.number))
+      → ent 𝓤 (sep 𝓤 (A.obs γ (R.coded.code (renewed_by h r))) (sep 𝓤 (A.bor κ (Body (mem R) b o γ)) (A.lft κ q))) (Post (vint w64 r.number))
   exits r fits s =
-      qed 𝓛 (‵ (fobs γ (R.coded.code (renewedBy h r))) ∷ ‵ (fbor κ (Body (mem R) b o γ)) ∷ ‵ (flft κ q) ∷ []) ∵
+      qed 𝓛 (‵ (fobs γ (R.coded.code (renewed_by h r))) ∷ ‵ (fbor κ (Body (mem R) b o γ)) ∷ ‵ (flft κ q) ∷ []) ∵
       suffices ! _ (ends_at 𝓛 entry.ended stayed (entry.clauses 𝓛 at_mem run) (((κ, tt), (q, tt), tt, x, at), tt)
-      (vint w64 r.number) r.number (renewedBy h r, (tt, (tt, tt))) (tt, (tt, (tt, tt)))) $ says_both ! s.number s.left $
+      (vint w64 r.number) r.number (renewed_by h r, (tt, (tt, tt))) (tt, (tt, (tt, tt)))) $ says_both ! s.number s.left $
       nothing ! $ move ! (3 ∷ 0 ∷ []) $ join ! $ frame ! $ feq_i ! (List Val) (vptr b o ∷ []) (vptr b o ∷ []) refl $ fjoin3 ! $
       -- [what the reference owns]
-      nothing ! $ uint-owned ! w16 e e-fits $ fjoin ! $ uint-owned ! w16 t t-fits $ fjoin ! $ move ! (1 ∷ 0 ∷ []) $ fjoin ! $ frame ! $ uint-owned ! w64 r.number fits $ done !
+      nothing ! $ uint_owned ! w16 e e-fits $ fjoin ! $ uint_owned ! w16 t t-fits $ fjoin ! $ move ! (1 ∷ 0 ∷ []) $ fjoin ! $ frame ! $ uint_owned ! w64 r.number fits $ done !
 
   -- what `update_record`'s triple binds outside, and what it asks
-  abbrev to-callee : (Callee 𝓛 at_mem run).Ghost
-  to-callee = ((tt, tt, tt, passed 𝓛 at_mem run h t e, (vals h, (vint w16 t ∷ [], (vint w16 e ∷ [], tt)))), tt)
+  abbrev to_callee : (Callee 𝓛 at_mem run).Ghost
+  to_callee = ((tt, tt, tt, passed 𝓛 at_mem run h t e, (vals h, (vint w16 t ∷ [], (vint w16 e ∷ [], tt)))), tt)
 
-  goes-callee : Holds T.the_type T'.the_laws h → ent 𝓤 (emp 𝓤) ((Callee 𝓛 at_mem run).pre to-callee)
-  goes-callee is =
-      qed 𝓛 [] ∵ nothing ! $ uint-owned ! w16 e e-fits $ fjoin ! $ uint-owned ! w16 t t-fits $ fjoin ! $
+  goes_callee : Holds T.the_type T'.the_laws h → ent 𝓤 (emp 𝓤) ((Callee 𝓛 at_mem run).pre to_callee)
+  goes_callee is =
+      qed 𝓛 [] ∵ nothing ! $ uint_owned ! w16 e e-fits $ fjoin ! $ uint_owned ! w16 t t-fits $ fjoin ! $
       owned ! R (Is R) (LL.makes T.the_type T'.the_plain 𝓛) h (vals h) is $ fjoin ! $ nothing ! $ join ! $ frame ! $ done !
 
   module _ (C : Calls 𝓤 H) (Λ : Loops 𝓤 H) (fm : FmC 𝓤 H 𝓛.laws C) (known : Triple 𝓤 (C #wospinzo·update-record) (Callee 𝓛 at_mem run)) where
@@ -167,66 +167,66 @@ module _ {M : Type 1} {𝓤 : Ura M} (𝓛 : Logic 𝓤) (at_mem : Memory → SP
         --  _8 at 6; …; _7 at 8; …; _6 at 10; …; _5 at 12; …; _4 at 14; …; _3 at 16; …; _2 at 18; …; _1 at 20; …; _0 at 22; …]
         assigns ! (of_opd ! (load ! (from ! (hop ! (look ! 20 refl) (stop !))) (look_raw ! 0 refl))) (from ! (stop !))
         (init ! 10 refl (typed T.the_type T'.the_laws 𝓛 h (vals h) is).0) $
-        use0 𝓛 (raw ((Callee 𝓛 at_mem run).pre to-callee)) (goes-callee is) $
+        use0 𝓛 (raw ((Callee 𝓛 at_mem run).pre to_callee)) (goes_callee is) $
         -- [what `update_record` asks; the record's cell; and on; _8 at 7; …; each one further; …]
-        calls_at ! fm (Callee 𝓛 at_mem run) known to-callee (and_then ! (load ! (from ! (stop !)) (look ! 11 refl)) (and_then ! (load ! (from ! (stop !)) (look ! 19 refl))
+        calls_at ! fm (Callee 𝓛 at_mem run) known to_callee (and_then ! (load ! (from ! (stop !)) (look ! 11 refl)) (and_then ! (load ! (from ! (stop !)) (look ! 19 refl))
         (and_then ! (load ! (from ! (stop !)) (look ! 17 refl)) (no_more !)))) (λ v.
         answered ! tt D.the_row (Ensured 𝓛 at_mem run h t e) (Renews h (event t e)) (said_of 𝓛 at_mem run h t e) v (λ r s is'.
         -- [all as before the call]
         land ! (from ! (stop !)) (init ! 14 refl (typed D.the_type D'.the_laws 𝓛 r (v ∷ []) is').0) $
-        rewrite ! 14 (λ (u : Val). ‵ (fat full_share D'.mir l₄ 0 u)) (value-is D.the_type D'.the_laws r v is') refl $
-        assigns ! (of_opd ! (load_field ! 14 refl refl refl)) (from ! (stop !)) (init ! 12 refl (tt, record { fits = (fits-of r v is').at })) $
+        rewrite ! 14 (λ (u : Val). ‵ (fat full_share D'.mir l₄ 0 u)) (value_is D.the_type D'.the_laws r v is') refl $
+        assigns ! (of_opd ! (load_field ! 14 refl refl refl)) (from ! (stop !)) (init ! 12 refl (tt, record { fits = (fits_of r v is').at })) $
         -- the pointer to the entries, and to the entry
         assigns ! (addr ! (from ! (hop ! (look ! 20 refl) (fld ! refl (stop !))))) (from ! (stop !)) (init ! 8 refl (tt, tt)) $
         assigns ! (bin ! (load ! (from ! (stop !)) (look ! 8 refl)) (load ! (from ! (stop !)) (look ! 12 refl)) tt) (from ! (stop !)) (init ! 6 refl (tt, tt)) $
         rewrite ! 6 (λ (p : ℕ). ‵ (fat full_share ty_ptr l₈ 0 (vptr b p))) (sym (place_byte (o + 3) r.at)) refl $
-        entries-out ! 200 full_share (entries h.places) b (o + 3) _ (sub ! 3 refl (whole !)) (are-bytes h is) $
+        entries_out ! 200 full_share (entries h.places) b (o + 3) _ (sub ! 3 refl (whole !)) (are_bytes h is) $
         rewrite ! 0 (λ (ys : List ℕ). ‵ (row u8 full_share ys b (o + 3))) (map-id h.places) refl $
         elem_out ! u8 (Is u8) (shows 𝓛 u8) (uint_vals w8) (uint_Tells w8) full_share h.places r.at 0 b (o + 3) (within h is r s.entry) (λ _.
         -- [the entry; what it owns; the others; the way back to the record's cell; the open borrow; and on; _8 at 9; …; each three further; …]
         assigns ! (of_opd ! (load_field ! 17 refl refl refl)) (from ! (hop ! (look ! 9 refl) (stop !)))
-        (store ! 0 refl (tt, record { fits = (fits-of r v is').place })) $ move ! (1 ∷ []) $ drop ! $ uint-owned ! w8 r.place (fits-of r v is').place $ move ! (1 ∷ 0 ∷ []) $
+        (store ! 0 refl (tt, record { fits = (fits_of r v is').place })) $ move ! (1 ∷ []) $ drop ! $ uint_owned ! w8 r.place (fits_of r v is').place $ move ! (1 ∷ 0 ∷ []) $
         elem_put ! u8 full_share h.places r.at r.place (vint w8 r.place ∷ []) b (o + 3) (within h is r s.entry) $
-        rewrite ! 0 (λ (ys : List ℕ). ‵ (row u8 full_share ys b (o + 3))) (sym (map-id (renewedBy h r).places)) refl $
-        entries-in ! 200 full_share (entries (renewedBy h r).places) b (o + 3) _
-        (length-map (renewedBy h r).places (λ (place : ℕ). place) ∙ (length-set h.places r.at r.place ∙ long_of h is)) (λ are.
+        rewrite ! 0 (λ (ys : List ℕ). ‵ (row u8 full_share ys b (o + 3))) (sym (map-id (renewed_by h r).places)) refl $
+        entries_in ! 200 full_share (entries (renewed_by h r).places) b (o + 3) _
+        (length-map (renewed_by h r).places (λ (place : ℕ). place) ∙ (length-set h.places r.at r.place ∙ long_of h is)) (λ are.
         -- [the record's cell, with the entry stored; and all as before]
         assigns ! (of_opd ! (load_field ! 14 refl refl refl)) (from ! (hop ! (look ! 20 refl) (fld ! refl (stop !))))
-        (store_in ! 0 (sub ! 1 refl (whole !)) (tt, record { fits = (fits-of r v is').shared })) $
+        (store_in ! 0 (sub ! 1 refl (whole !)) (tt, record { fits = (fits_of r v is').shared })) $
         assigns ! (of_opd ! (load_field ! 14 refl refl refl)) (from ! (hop ! (look ! 20 refl) (fld ! refl (stop !))))
-        (store_in ! 0 (sub ! 2 refl (whole !)) (tt, record { fits = (fits-of r v is').exclusive })) $
-        assigns ! (of_opd ! (load_field ! 14 refl refl refl)) (from ! (stop !)) (init ! 22 refl (tt, record { fits = (fits-of r v is').number })) $
-        restored T.the_type T'.the_laws ! tt T'.the_plain (renewedBy h r) (renewed-holds h is r (fits-of r v is') are) b o $
+        (store_in ! 0 (sub ! 2 refl (whole !)) (tt, record { fits = (fits_of r v is').exclusive })) $
+        assigns ! (of_opd ! (load_field ! 14 refl refl refl)) (from ! (stop !)) (init ! 22 refl (tt, record { fits = (fits_of r v is').number })) $
+        restored T.the_type T'.the_laws ! tt T'.the_plain (renewed_by h r) (renewed_holds h is r (fits_of r v is') are) b o $
         -- [obs; the borrow; the token; true; what the numbers own; _8 at 5; …; _0 at 21; …]
         returns ! (look ! 21 refl) $ forget ! 5 refl $ forget ! 7 refl $ forget ! 9 refl $ forget ! 11 refl $ forget ! 13 refl $
         forget ! 15 refl $ forget ! 17 refl $ forget ! 19 refl $ forget ! 21 refl $
         move ! (21 ∷ 22 ∷ []) $ free1 ! $ move ! (19 ∷ 20 ∷ []) $ free1 ! $ move ! (17 ∷ 18 ∷ []) $ free1 ! $ move ! (15 ∷ 16 ∷ []) $ free1 ! $
         move ! (13 ∷ 14 ∷ []) $ free1 ! $ move ! (11 ∷ 12 ∷ []) $ free1 ! $ move ! (9 ∷ 10 ∷ []) $ free1 ! $ move ! (7 ∷ 8 ∷ []) $ free1 ! $ move ! (5 ∷ 6 ∷ []) $ free1 ! $ free0 ! $
-        keep ! (0 ∷ 1 ∷ 2 ∷ []) $ by ! (exits r (fits-of r v is').number s)))))))))))))))
+        keep ! (0 ∷ 1 ∷ 2 ∷ []) $ by ! (exits r (fits_of r v is').number s)))))))))))))))
 
 module _ {M : Type 1} {𝓤 : Ura M} (𝓛 : Logic 𝓤) (at_mem : Memory → SProp 𝓤) (run : Routine → Fun 𝓤) where
   open 𝓛 use {H}
 
-  entry-walks : (C : Calls 𝓤 H) (Λ : Loops 𝓤 H) → FmC 𝓤 H 𝓛.laws C → Triple 𝓤 (C #wospinzo·update-record) (Callee 𝓛 at_mem run)
+  entry_walks : (C : Calls 𝓤 H) (Λ : Loops 𝓤 H) → FmC 𝓤 H 𝓛.laws C → Triple 𝓤 (C #wospinzo·update-record) (Callee 𝓛 at_mem run)
       → Walks 𝓛 entry.ended stayed (WpFn 𝓤 H C Λ code.function) (entry.clauses 𝓛 at_mem run)
-  entry-walks C Λ fm known =
+  entry_walks C Λ fm known =
       walked 𝓛 entry.ended stayed (entry.clauses 𝓛 at_mem run) (WpFn 𝓤 H C Λ code.function) (λ κs. (mut_vals, (uint_vals w16, (uint_vals w16, tt))))
       (λ κs. (mut_Tells (named 0) κs.0 R, (uint_Tells w16, (uint_Tells w16, tt))))
       (λ κs qs bounds a _ are. via 𝓤 _ (fst∗ 𝓤 _ (emp 𝓤))
       (walk 𝓛 at_mem run κs.0 qs.0 a.0.ref_ptr.0 a.0.ref_ptr.1 a.0.ghost_name a.0.now a.1.0 a.1.1.0 are.1.0.1 are.1.1.0.1 C Λ fm known))
 
-entry-meets : {M : Type 1} {𝓤 : Ura M} (𝓛 : Logic 𝓤) (at_mem : Memory → SProp 𝓤) (run : Routine → Fun 𝓤) (𝓣 : Tables 𝓤 𝓛.H)
+entry_meets : {M : Type 1} {𝓤 : Ura M} (𝓛 : Logic 𝓤) (at_mem : Memory → SProp 𝓤) (run : Routine → Fun 𝓤) (𝓣 : Tables 𝓤 𝓛.H)
     → Triple 𝓤 (𝓣.C #wospinzo·update-record) (Callee 𝓛 at_mem run) → Meets 𝓛 entry.signature (WpFn 𝓤 𝓛.H 𝓣.C 𝓣.Λ code.function) (entry.spec 𝓛 at_mem run)
-entry-meets {𝓤 = 𝓤} 𝓛 at_mem run 𝓣 known =
+entry_meets {𝓤 = 𝓤} 𝓛 at_mem run 𝓣 known =
     walk_Meets 𝓛 entry.ended stayed
     (Goes-ref 𝓛 1 0 tt (plain (λ _. R)), (Goes-none 𝓛 1 (λ _. u16) yes (λ κs x f. refl), (Goes-none 𝓛 1 (λ _. u16) yes (λ κs x f. refl), tt)))
     (entry.clauses 𝓛 at_mem run) (WpFn 𝓤 𝓛.H 𝓣.C 𝓣.Λ code.function) (WpFn-mono 𝓤 𝓛.H 𝓛.laws 𝓣 code.function)
-    (entry-walks 𝓛 at_mem run 𝓣.C 𝓣.Λ (fm_of 𝓤 𝓛.H 𝓛.laws 𝓣) known)
+    (entry_walks 𝓛 at_mem run 𝓣.C 𝓣.Λ (fm_of 𝓤 𝓛.H 𝓛.laws 𝓣) known)
 
-pub wospinzo-watch-event-spec : {M : Type 1} → stated.statement M
+pub wospinzo_watch_event_spec : {M : Type 1} → stated.statement M
 unfolding code.routine tables_of
-wospinzo-watch-event-spec 𝓤 𝓛 𝓜 𝓡 =
+wospinzo_watch_event_spec 𝓤 𝓛 𝓜 𝓡 =
     entered 𝓤 𝓛.H (triple_of 𝓛 entry.signature (entry.spec 𝓛 𝓜.mem 𝓡.run))
     (tables 𝓤 𝓛.H 𝓜 𝓡 code.env).C (tables 𝓤 𝓛.H 𝓜 𝓡 code.env).Λ #wospinzo·wospinzo-watch-event code.function (code.unfolded 𝓤 𝓛.H 𝓜 𝓡)
-    (entry-meets 𝓛 𝓜.mem 𝓡.run (tables_of 𝓤 𝓛.H 𝓜 (tables 𝓤 𝓛.H 𝓜 𝓡 code.env))
+    (entry_meets 𝓛 𝓜.mem 𝓡.run (tables_of 𝓤 𝓛.H 𝓜 (tables 𝓤 𝓛.H 𝓜 𝓡 code.env))
     (cited 𝓤 𝓛.H (Callee 𝓛 𝓜.mem 𝓡.run) 𝓜 𝓡 code.env #wospinzo·update-record update-record-def.routine code.calls-wospinzo::update-record (update-record-thm.met 𝓤 𝓛 𝓜 𝓡)))

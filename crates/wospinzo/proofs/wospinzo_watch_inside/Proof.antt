@@ -36,10 +36,10 @@ use denote.Triple.Table.{entered, cited}
 use denote.Triple.Walked.{says, Stays, stay_none_ref, walk_of, Goes-none_ref, Walks, ends_at, walked, walk_Meets}
 use denote.Exit.{yes}
 use Rattle.definitions.specs.declared.Watcher.{Watcher}
-use Rattle.definitions.specs.Watch.{questionReply}
+use Rattle.definitions.specs.Watch.{question_reply}
 use Rattle.definitions.specs.contracts.Watcher as T
 use Rattle.definitions.proofs.Watcher.TheLaws as T'
-use Rattle.answer_numbers.specs.Encoding.{insideNumber}
+use Rattle.answer_numbers.specs.Encoding.{inside_number}
 use Rattle.lent_record.proofs.Lent.{Holds, typed, lent, returned}
 use Rattle.lent_record.proofs.Calls.{answered}
 use Rattle.wospinzo.specs.contracts.ask_record as asked
@@ -62,7 +62,7 @@ stayed = (stay_none_ref (0 ∷ []) tt (plain (λ _. R)) yes, tt)
 
 -- what `ask_record` ensures, at a record and an answer
 abbrev Said : Watcher → ℕ → Type 0
-Said h r = r ≡ insideNumber (questionReply h)
+Said h r = r ≡ inside_number (question_reply h)
 
 module _ {M : Type 1} {𝓤 : Ura M} (𝓛 : Logic 𝓤) (at_mem : Memory → SProp 𝓤) (run : Routine → Fun 𝓤) where
   -- the contract that the proof cites
@@ -100,11 +100,11 @@ module _ {M : Type 1} {𝓤 : Ura M} (𝓛 : Logic 𝓤) (at_mem : Memory → SP
       nothing ! $ move ! (1 ∷ 0 ∷ []) $ fjoin ! $ frame ! $ owned ! u64 (Is u64) (uint_Makes 𝓛 w64) r _ is $ done !
 
   -- what `ask_record`'s triple binds outside, and what it asks
-  abbrev to-asked : (Asked 𝓛 at_mem run).Ghost
-  to-asked = ((tt, tt, tt, (h, tt), (vals h, tt)), tt)
+  abbrev to_asked : (Asked 𝓛 at_mem run).Ghost
+  to_asked = ((tt, tt, tt, (h, tt), (vals h, tt)), tt)
 
-  goes-asked : Holds T.the_type T'.the_laws h → ent 𝓤 (emp 𝓤) ((Asked 𝓛 at_mem run).pre to-asked)
-  goes-asked is =
+  goes_asked : Holds T.the_type T'.the_laws h → ent 𝓤 (emp 𝓤) ((Asked 𝓛 at_mem run).pre to_asked)
+  goes_asked is =
       qed 𝓛 [] ∵ owned ! R (Is R) (LL.makes T.the_type T'.the_plain 𝓛) h (vals h) is $ nothing ! $ move ! (1 ∷ 0 ∷ []) $ fjoin ! $ nothing ! $ join ! $ frame ! $ done !
 
   module _ (C : Calls 𝓤 H) (Λ : Loops 𝓤 H) (fm : FmC 𝓤 H 𝓛.laws C) (known : Triple 𝓤 (C #wospinzo·ask-record) (Asked 𝓛 at_mem run)) where
@@ -118,9 +118,9 @@ module _ {M : Type 1} {𝓤 : Ura M} (𝓛 : Logic 𝓤) (at_mem : Memory → SP
         -- [a share of the record's cell; what shuts it; the fractured borrow; true; res; true; _2 at 6; …; _1 at 8; …; _0 at 10; …]
         assigns ! (of_opd ! (load ! (from ! (hop ! (look ! 7 refl) (stop !))) (look_raw ! 0 refl))) (from ! (stop !))
         (init ! 5 refl (typed T.the_type T'.the_laws 𝓛 h (vals h) is).0) $
-        returned T.the_type T'.the_laws ! tt T'.the_plain q' h is b o $ use0 𝓛 (raw ((Asked 𝓛 at_mem run).pre to-asked)) (goes-asked is) $
+        returned T.the_type T'.the_laws ! tt T'.the_plain q' h is b o $ use0 𝓛 (raw ((Asked 𝓛 at_mem run).pre to_asked)) (goes_asked is) $
         -- [what `ask_record` asks; the token; the fractured borrow; true; res; true; _2 at 6; …; _1 at 8; …; _0 at 10; …]
-        calls_at ! fm (Asked 𝓛 at_mem run) known to-asked (and_then ! (load ! (from ! (stop !)) (look ! 5 refl)) (no_more !)) (λ v.
+        calls_at ! fm (Asked 𝓛 at_mem run) known to_asked (and_then ! (load ! (from ! (stop !)) (look ! 5 refl)) (no_more !)) (λ v.
         answered ! tt u64 (Ensured 𝓛 at_mem run h) (Said h) (said_of 𝓛 at_mem run h) v (λ r s is'.
         -- [the token; the fractured borrow; true; res; true; _2 at 5; …; _1 at 7; …; _0 at 9; …]
         land ! (from ! (stop !)) (init ! 8 refl ((uint_Lawful 𝓛 w64).typed r _ is').0) $
@@ -130,23 +130,23 @@ module _ {M : Type 1} {𝓤 : Ura M} (𝓛 : Logic 𝓤) (at_mem : Memory → SP
 module _ {M : Type 1} {𝓤 : Ura M} (𝓛 : Logic 𝓤) (at_mem : Memory → SProp 𝓤) (run : Routine → Fun 𝓤) where
   open 𝓛 use {H}
 
-  entry-walks : (C : Calls 𝓤 H) (Λ : Loops 𝓤 H) → FmC 𝓤 H 𝓛.laws C → Triple 𝓤 (C #wospinzo·ask-record) (Asked 𝓛 at_mem run)
+  entry_walks : (C : Calls 𝓤 H) (Λ : Loops 𝓤 H) → FmC 𝓤 H 𝓛.laws C → Triple 𝓤 (C #wospinzo·ask-record) (Asked 𝓛 at_mem run)
       → Walks 𝓛 entry.ended stayed (WpFn 𝓤 H C Λ code.function) (entry.clauses 𝓛 at_mem run)
-  entry-walks C Λ fm known =
+  entry_walks C Λ fm known =
       walked 𝓛 entry.ended stayed (entry.clauses 𝓛 at_mem run) (WpFn 𝓤 H C Λ code.function) (λ κs. (shr_vals, tt)) (λ κs. (shr_Tells (named 0) κs.0 R, tt))
       (λ κs qs bounds a _ _. via 𝓤 _ (fst∗ 𝓤 _ (emp 𝓤)) (walk 𝓛 at_mem run κs.0 qs.0 a.0.ref_ptr.0 a.0.ref_ptr.1 0 a.0.now C Λ fm known))
 
-entry-meets : {M : Type 1} {𝓤 : Ura M} (𝓛 : Logic 𝓤) (at_mem : Memory → SProp 𝓤) (run : Routine → Fun 𝓤) (𝓣 : Tables 𝓤 𝓛.H)
+entry_meets : {M : Type 1} {𝓤 : Ura M} (𝓛 : Logic 𝓤) (at_mem : Memory → SProp 𝓤) (run : Routine → Fun 𝓤) (𝓣 : Tables 𝓤 𝓛.H)
     → Triple 𝓤 (𝓣.C #wospinzo·ask-record) (Asked 𝓛 at_mem run) → Meets 𝓛 entry.signature (WpFn 𝓤 𝓛.H 𝓣.C 𝓣.Λ code.function) (entry.spec 𝓛 at_mem run)
-entry-meets {𝓤 = 𝓤} 𝓛 at_mem run 𝓣 known =
+entry_meets {𝓤 = 𝓤} 𝓛 at_mem run 𝓣 known =
     walk_Meets 𝓛 entry.ended stayed (Goes-none_ref 𝓛 1 (0 ∷ []) tt (plain (λ _. R)) yes, tt)
     (entry.clauses 𝓛 at_mem run) (WpFn 𝓤 𝓛.H 𝓣.C 𝓣.Λ code.function) (WpFn-mono 𝓤 𝓛.H 𝓛.laws 𝓣 code.function)
-    (entry-walks 𝓛 at_mem run 𝓣.C 𝓣.Λ (fm_of 𝓤 𝓛.H 𝓛.laws 𝓣) known)
+    (entry_walks 𝓛 at_mem run 𝓣.C 𝓣.Λ (fm_of 𝓤 𝓛.H 𝓛.laws 𝓣) known)
 
-pub wospinzo-watch-inside-spec : {M : Type 1} → stated.statement M
+pub wospinzo_watch_inside_spec : {M : Type 1} → stated.statement M
 unfolding code.routine tables_of
-wospinzo-watch-inside-spec 𝓤 𝓛 𝓜 𝓡 =
+wospinzo_watch_inside_spec 𝓤 𝓛 𝓜 𝓡 =
     entered 𝓤 𝓛.H (triple_of 𝓛 entry.signature (entry.spec 𝓛 𝓜.mem 𝓡.run))
     (tables 𝓤 𝓛.H 𝓜 𝓡 code.env).C (tables 𝓤 𝓛.H 𝓜 𝓡 code.env).Λ #wospinzo·wospinzo-watch-inside code.function (code.unfolded 𝓤 𝓛.H 𝓜 𝓡)
-    (entry-meets 𝓛 𝓜.mem 𝓡.run (tables_of 𝓤 𝓛.H 𝓜 (tables 𝓤 𝓛.H 𝓜 𝓡 code.env))
+    (entry_meets 𝓛 𝓜.mem 𝓡.run (tables_of 𝓤 𝓛.H 𝓜 (tables 𝓤 𝓛.H 𝓜 𝓡 code.env))
     (cited 𝓤 𝓛.H (Asked 𝓛 𝓜.mem 𝓡.run) 𝓜 𝓡 code.env #wospinzo·ask-record asked-def.routine code.calls-wospinzo::ask-record (asked-thm.met 𝓤 𝓛 𝓜 𝓡)))

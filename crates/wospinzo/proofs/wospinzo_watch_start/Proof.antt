@@ -39,12 +39,12 @@ use denote.Triple.Table.{entered, cited}
 use denote.Triple.Walked.{Stays, stay_ref, stay_none, walk_of, Goes-none, Goes-ref, Walks, ends_at, walked, walk_Meets}
 use denote.Exit.{yes}
 use Rattle.definitions.specs.declared.Watcher.{Watcher}
-use Rattle.definitions.specs.Watch.{startReply, startRecord}
+use Rattle.definitions.specs.Watch.{start_reply, start_record}
 use Rattle.definitions.specs.contracts.Watcher as T
 use Rattle.definitions.proofs.Watcher.TheLaws as T'
-use Rattle.answer_numbers.specs.Encoding.{watchNumber}
-use Rattle.lent_record.proofs.Lent.{Holds, typed, value-is, borrowed, restored}
-use Rattle.lent_record.proofs.Calls.{uint-owned, answered, load_field, says_both}
+use Rattle.answer_numbers.specs.Encoding.{watch_number}
+use Rattle.lent_record.proofs.Lent.{Holds, typed, value_is, borrowed, restored}
+use Rattle.lent_record.proofs.Calls.{uint_owned, answered, load_field, says_both}
 use Rattle.wospinzo.specs.declared.Started.{Started}
 use Rattle.wospinzo.specs.contracts.Started as D
 use Rattle.wospinzo.proofs.Started.TheLaws as D'
@@ -68,7 +68,7 @@ stayed = (stay_none (λ _. u16) yes, (stay_ref (0 ∷ []) tt (plain (λ _. R)), 
 
 -- what `start_record` ensures
 abbrev Said : ℕ → Watcher → Started → Type 0
-Said n h r = r ≡ record { watcher = startRecord n h; number = watchNumber (startReply n) }
+Said n h r = r ≡ record { watcher = start_record n h; number = watch_number (start_reply n) }
 
 module _ {M : Type 1} {𝓤 : Ura M} (𝓛 : Logic 𝓤) (at_mem : Memory → SProp 𝓤) (run : Routine → Fun 𝓤) where
   -- the contract that the proof cites
@@ -114,15 +114,15 @@ module _ {M : Type 1} {𝓤 : Ura M} (𝓛 : Logic 𝓤) (at_mem : Memory → SP
       (vint w64 r.number) r.number (tt, (r.watcher, tt)) (tt, (tt, tt))) $ says_both ! (ap (λ (y : Started). y.number) s) (ap (λ (y : Started). y.watcher) s) $
       nothing ! $ move ! (3 ∷ 0 ∷ []) $ join ! $ frame ! $ feq_i ! (List Val) (vptr b o ∷ []) (vptr b o ∷ []) refl $ fjoin3 ! $
       -- [what the reference owns]
-      nothing ! $ move ! (1 ∷ 0 ∷ []) $ fjoin ! $ uint-owned ! w16 n n-fits $ fjoin ! $ frame ! $ uint-owned ! w64 r.number fits $ done !
+      nothing ! $ move ! (1 ∷ 0 ∷ []) $ fjoin ! $ uint_owned ! w16 n n-fits $ fjoin ! $ frame ! $ uint_owned ! w64 r.number fits $ done !
 
   -- what `start_record`'s triple binds outside, and what it asks
-  abbrev to-callee : (Callee 𝓛 at_mem run).Ghost
-  to-callee = ((tt, tt, tt, (n, (h, tt)), (vint w16 n ∷ [], (vals h, tt))), tt)
+  abbrev to_callee : (Callee 𝓛 at_mem run).Ghost
+  to_callee = ((tt, tt, tt, (n, (h, tt)), (vint w16 n ∷ [], (vals h, tt))), tt)
 
-  goes-callee : Holds T.the_type T'.the_laws h → ent 𝓤 (emp 𝓤) ((Callee 𝓛 at_mem run).pre to-callee)
-  goes-callee is =
-      qed 𝓛 [] ∵ owned ! R (Is R) (LL.makes T.the_type T'.the_plain 𝓛) h (vals h) is $ nothing ! $ move ! (1 ∷ 0 ∷ []) $ fjoin ! $ uint-owned ! w16 n n-fits $ fjoin ! $
+  goes_callee : Holds T.the_type T'.the_laws h → ent 𝓤 (emp 𝓤) ((Callee 𝓛 at_mem run).pre to_callee)
+  goes_callee is =
+      qed 𝓛 [] ∵ owned ! R (Is R) (LL.makes T.the_type T'.the_plain 𝓛) h (vals h) is $ nothing ! $ move ! (1 ∷ 0 ∷ []) $ fjoin ! $ uint_owned ! w16 n n-fits $ fjoin ! $
       nothing ! $ join ! $ frame ! $ done !
 
   module _ (C : Calls 𝓤 H) (Λ : Loops 𝓤 H) (fm : FmC 𝓤 H 𝓛.laws C) (known : Triple 𝓤 (C #wospinzo·start-record) (Callee 𝓛 at_mem run)) where
@@ -137,13 +137,13 @@ module _ {M : Type 1} {𝓤 : Ura M} (𝓛 : Logic 𝓤) (at_mem : Memory → SP
         -- [the record's cell; the open borrow; obs; auth; true; true; _4 at 6; …; _3 at 8; …; _2 at 10; …; _1 at 12; …; _0 at 14; …]
         assigns ! (of_opd ! (load ! (from ! (hop ! (look ! 10 refl) (stop !))) (look_raw ! 0 refl))) (from ! (stop !))
         (init ! 6 refl (typed T.the_type T'.the_laws 𝓛 h (vals h) is).0) $
-        use0 𝓛 (raw ((Callee 𝓛 at_mem run).pre to-callee)) (goes-callee is) $
+        use0 𝓛 (raw ((Callee 𝓛 at_mem run).pre to_callee)) (goes_callee is) $
         -- [what `start_record` asks; the record's cell; and on; _4 at 7; …; each one further; …]
-        calls_at ! fm (Callee 𝓛 at_mem run) known to-callee (and_then ! (load ! (from ! (stop !)) (look ! 13 refl)) (and_then ! (load ! (from ! (stop !)) (look ! 7 refl)) (no_more !))) (λ v.
+        calls_at ! fm (Callee 𝓛 at_mem run) known to_callee (and_then ! (load ! (from ! (stop !)) (look ! 13 refl)) (and_then ! (load ! (from ! (stop !)) (look ! 7 refl)) (no_more !))) (λ v.
         answered ! tt D.the_row (Ensured 𝓛 at_mem run n h) (Said n h) (said_of 𝓛 at_mem run n h) v (λ r s is'.
         -- [all as before the call]
         land ! (from ! (stop !)) (init ! 8 refl (typed D.the_type D'.the_laws 𝓛 r (v ∷ []) is').0) $
-        rewrite ! 8 (λ (u : Val). ‵ (fat full_share D'.mir l₃ 0 u)) (value-is D.the_type D'.the_laws r v is') refl $
+        rewrite ! 8 (λ (u : Val). ‵ (fat full_share D'.mir l₃ 0 u)) (value_is D.the_type D'.the_laws r v is') refl $
         assigns ! (of_opd ! (load_field ! 8 refl refl refl)) (from ! (hop ! (look ! 10 refl) (stop !)))
         (store_raw ! 0 refl (typed T.the_type T'.the_laws 𝓛 r.watcher (vals r.watcher) (left-holds r v is')).0) $
         assigns ! (of_opd ! (load_field ! 8 refl refl refl)) (from ! (stop !)) (init ! 14 refl (tt, record { fits = number_fits r v is' })) $
@@ -156,26 +156,26 @@ module _ {M : Type 1} {𝓤 : Ura M} (𝓛 : Logic 𝓤) (at_mem : Memory → SP
 module _ {M : Type 1} {𝓤 : Ura M} (𝓛 : Logic 𝓤) (at_mem : Memory → SProp 𝓤) (run : Routine → Fun 𝓤) where
   open 𝓛 use {H}
 
-  entry-walks : (C : Calls 𝓤 H) (Λ : Loops 𝓤 H) → FmC 𝓤 H 𝓛.laws C → Triple 𝓤 (C #wospinzo·start-record) (Callee 𝓛 at_mem run)
+  entry_walks : (C : Calls 𝓤 H) (Λ : Loops 𝓤 H) → FmC 𝓤 H 𝓛.laws C → Triple 𝓤 (C #wospinzo·start-record) (Callee 𝓛 at_mem run)
       → Walks 𝓛 entry.ended stayed (WpFn 𝓤 H C Λ code.function) (entry.clauses 𝓛 at_mem run)
-  entry-walks C Λ fm known =
+  entry_walks C Λ fm known =
       walked 𝓛 entry.ended stayed (entry.clauses 𝓛 at_mem run) (WpFn 𝓤 H C Λ code.function) (λ κs. (uint_vals w16, (mut_vals, tt)))
       (λ κs. (uint_Tells w16, (mut_Tells (named 0) κs.0 R, tt)))
       (λ κs qs bounds a _ are. via 𝓤 _ (fst∗ 𝓤 _ (emp 𝓤))
       (walk 𝓛 at_mem run κs.0 qs.0 a.0 are.0.1 a.1.0.ref_ptr.0 a.1.0.ref_ptr.1 a.1.0.ghost_name a.1.0.now C Λ fm known))
 
-entry-meets : {M : Type 1} {𝓤 : Ura M} (𝓛 : Logic 𝓤) (at_mem : Memory → SProp 𝓤) (run : Routine → Fun 𝓤) (𝓣 : Tables 𝓤 𝓛.H)
+entry_meets : {M : Type 1} {𝓤 : Ura M} (𝓛 : Logic 𝓤) (at_mem : Memory → SProp 𝓤) (run : Routine → Fun 𝓤) (𝓣 : Tables 𝓤 𝓛.H)
     → Triple 𝓤 (𝓣.C #wospinzo·start-record) (Callee 𝓛 at_mem run) → Meets 𝓛 entry.signature (WpFn 𝓤 𝓛.H 𝓣.C 𝓣.Λ code.function) (entry.spec 𝓛 at_mem run)
-entry-meets {𝓤 = 𝓤} 𝓛 at_mem run 𝓣 known =
+entry_meets {𝓤 = 𝓤} 𝓛 at_mem run 𝓣 known =
     walk_Meets 𝓛 entry.ended stayed
     (Goes-none 𝓛 1 (λ _. u16) yes (λ κs x f. refl), (Goes-ref 𝓛 1 0 tt (plain (λ _. R)), tt))
     (entry.clauses 𝓛 at_mem run) (WpFn 𝓤 𝓛.H 𝓣.C 𝓣.Λ code.function) (WpFn-mono 𝓤 𝓛.H 𝓛.laws 𝓣 code.function)
-    (entry-walks 𝓛 at_mem run 𝓣.C 𝓣.Λ (fm_of 𝓤 𝓛.H 𝓛.laws 𝓣) known)
+    (entry_walks 𝓛 at_mem run 𝓣.C 𝓣.Λ (fm_of 𝓤 𝓛.H 𝓛.laws 𝓣) known)
 
-pub wospinzo-watch-start-spec : {M : Type 1} → stated.statement M
+pub wospinzo_watch_start_spec : {M : Type 1} → stated.statement M
 unfolding code.routine tables_of
-wospinzo-watch-start-spec 𝓤 𝓛 𝓜 𝓡 =
+wospinzo_watch_start_spec 𝓤 𝓛 𝓜 𝓡 =
     entered 𝓤 𝓛.H (triple_of 𝓛 entry.signature (entry.spec 𝓛 𝓜.mem 𝓡.run))
     (tables 𝓤 𝓛.H 𝓜 𝓡 code.env).C (tables 𝓤 𝓛.H 𝓜 𝓡 code.env).Λ #wospinzo·wospinzo-watch-start code.function (code.unfolded 𝓤 𝓛.H 𝓜 𝓡)
-    (entry-meets 𝓛 𝓜.mem 𝓡.run (tables_of 𝓤 𝓛.H 𝓜 (tables 𝓤 𝓛.H 𝓜 𝓡 code.env))
+    (entry_meets 𝓛 𝓜.mem 𝓡.run (tables_of 𝓤 𝓛.H 𝓜 (tables 𝓤 𝓛.H 𝓜 𝓡 code.env))
     (cited 𝓤 𝓛.H (Callee 𝓛 𝓜.mem 𝓡.run) 𝓜 𝓡 code.env #wospinzo·start-record start-record-def.routine code.calls-wospinzo::start-record (start-record-thm.met 𝓤 𝓛 𝓜 𝓡)))

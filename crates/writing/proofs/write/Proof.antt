@@ -4,13 +4,13 @@ use mathlib.Core.Bool.{true}
 use mathlib.Core.Path.{◌≡◌, sym, ◌∙◌}
 use borrow.Author.Rules.{rules}
 use borrow.Author.Tests.{not-true, not-false}
-use Rattle.definitions.specs.Table.{countFits}
-use Rattle.writing.proofs.EntryLaws.{bad-count, bad-length, bad-triple, same_count, too_long, too_many, no-room-left, written}
+use Rattle.definitions.specs.Table.{count_fits}
+use Rattle.writing.proofs.EntryLaws.{bad-count, bad-length, bad_triple, same_count, too_long, too_many, no_room_left, written}
 use Rattle.writing.proofs.write.Statement.{statement}
 use Rattle.writing.proofs.write.Tie as tie
 
 -- N fits where the list is looked at
-counts : (c : tie.Else1) → countFits c.before.before.before.before.args.threads ≡ true
+counts : (c : tie.Else1) → count_fits c.before.before.before.before.args.threads ≡ true
 counts c = sym c.before.count_fits.ensures ∙ not-false _ c.if1.false
 
 returns : tie.Need-returns
@@ -23,7 +23,7 @@ returns-3 : tie.Need-returns-3
 returns-3 c =
     let p = c.before.before in
     let e = p.before in
-    bad-triple _ _ _ (counts e.before) e.if2.false _ p.test-triples.ensures _ _ c.enum_told.given.1
+    bad_triple _ _ _ (counts e.before) e.if2.false _ p.test-triples.ensures _ _ c.enum_told.given.1
 
 returns-4 : tie.Need-returns-4
 returns-4 c =
@@ -54,7 +54,7 @@ returns-6 c =
     let k = l.before.before in
     let p = k.before.before.before in
     let e = p.before in
-    no-room-left _ _ _ (counts e.before) e.if2.false _ p.test-triples.ensures _ k.before.tested.given.1
+    no_room_left _ _ _ (counts e.before) e.if2.false _ p.test-triples.ensures _ k.before.tested.given.1
     (omega (arith, c.before.if4.false, l.script-length.ensures)) (omega (arith, c.if5.true, l.script-length.ensures))
 
 returns-7 : tie.Need-returns-7

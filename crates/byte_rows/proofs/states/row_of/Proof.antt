@@ -4,9 +4,9 @@ use Prim.Native.Nat.{ℕ, ◌≤◌, ◌/◌}
 use native.Mathlib.Omega.{arith}
 use mathlib.Core.Path.{◌≡◌, refl, sym, ap, ◌∙◌}
 use borrow.Author.Tests.{lt-leb}
-use Rattle.definitions.specs.Bounds.{lastPhase}
+use Rattle.definitions.specs.Bounds.{last_phase}
 use Rattle.definitions.specs.Phases.{rows}
-use Rattle.rows.specs.Rows.{oneBad, rowFor, row_at}
+use Rattle.rows.specs.Rows.{one_bad, row_for, row_at}
 use Rattle.basics.proofs.Matches.{above}
 use Rattle.byte_rows.proofs.states.row_of.Statement.{statement}
 use Rattle.byte_rows.proofs.states.row_of.Tie as tie
@@ -16,12 +16,12 @@ at : {state row : ℕ} (k : ℕ) → state ≡ k → row ≡ row_at k → row �
 at k e h = h ∙ ap row_at (sym e)
 
 -- a number that is no state
-past : (state : ℕ) → 128 ≤ state → oneBad ≡ row_at state
-unfolding row_at rowFor
-past state h = simp (lt-leb (state / 4) lastPhase (omega arith))
+past : (state : ℕ) → 128 ≤ state → one_bad ≡ row_at state
+unfolding row_at row_for
+past state h = simp (lt-leb (state / 4) last_phase (omega arith))
 
 pub row-of-spec : {M : Type 1} → statement M
-unfolding row_at rowFor rows
+unfolding row_at row_for rows
 row-of-spec =
     tie.close
     (tie.spec

@@ -14,9 +14,9 @@ choose_spec =
     (λ c κs. search rules)
     (λ c.
     let start = c.before.before.before.before in
-    nobody (table_of start.args.table.now) start.requires.is-sound _ _ start.requires.counted.count c.before.lowest-ready.ensures c.if1.true)
+    nobody (table_of start.args.table.now) start.requires.is_sound _ _ start.requires.counted.count c.before.lowest-ready.ensures c.if1.true)
     (λ c κs. search rules)
     (λ c.
     let start = c.before.before.before.before.before in
     c.request-for.ensures
-    ∙ makes (table_of start.args.table.now) start.requires.is-sound _ _ start.requires.counted.count c.before.before.lowest-ready.ensures c.before.if1.false))
+    ∙ makes (table_of start.args.table.now) start.requires.is_sound _ _ start.requires.counted.count c.before.before.lowest-ready.ensures c.before.if1.false))

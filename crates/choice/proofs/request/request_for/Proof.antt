@@ -2,10 +2,10 @@
 use native.Mathlib.Omega.{arith}
 use mathlib.Core.Path.{◌≡◌, ap, ◌∙◌}
 use borrow.Author.Rules.{rules}
-use Rattle.definitions.specs.Dispatch.{targetFor}
+use Rattle.definitions.specs.Dispatch.{target_for}
 use Rattle.definitions.specs.Table.{table_of}
 use Rattle.definitions.specs.declared.Task.{Task}
-use Rattle.dispatching.specs.Ready.{moveBy}
+use Rattle.dispatching.specs.Ready.{move_by}
 use Rattle.choice.specs.declared.request.Choice.TheVariants.{Makes}
 use Rattle.choice.proofs.ChoiceLaws.{target-most}
 use Rattle.choice.proofs.request.request_for.Statement.{statement}
@@ -19,8 +19,8 @@ module _ (c : tie.After-target-in) where
   read : c.before.before.read-task.result.phase ≡ (table_of start.args.table.now).phase start.args.thread
   read = ap (λ (t : Task). t.phase) c.before.before.read-task.ensures
 
-  target_is : c.target-in.result ≡ targetFor (table_of start.args.table.now) start.args.thread
-  target_is = c.target-in.ensures start.args.thread read
+  target_is : c.target_in.result ≡ target_for (table_of start.args.table.now) start.args.thread
+  target_is = c.target_in.ensures start.args.thread read
 
 pub request-for-spec : {M : Type 1} → statement M
 request-for-spec =
@@ -34,5 +34,5 @@ request-for-spec =
     let most = target-most (table_of (start c).args.table.now) (start c).args.thread _ (target_is c) in
     omega (arith, (start c).requires.0.size))
     (λ c.
-    let mv-is = c.before.Move-in.ensures ∙ ap moveBy (read c) in
+    let mv-is = c.before.Move-in.ensures ∙ ap move_by (read c) in
     λ i. Makes (start c).args.thread (mv-is i) (target_is c i)))

@@ -28,11 +28,11 @@ module _ (c : tie.After-is-ready invariant-loop decreases-loop) where
   abbrev start : tie.Start invariant-loop decreases-loop
   start = turn.before.before.before
 
-  abbrev isReady : ℕ → Bool
-  isReady = ready (table_of start.args.table.now)
+  abbrev is_ready : ℕ → Bool
+  is_ready = ready (table_of start.args.table.now)
 
-  bit_is : c.is-ready.result ≡ isReady thread
-  bit_is = c.is-ready.ensures ∙ ready_read start.args.table.now _ _ start.pre thread turn.loop-test.taken c.before.read-task.ensures
+  bit_is : c.is_ready.result ≡ is_ready thread
+  bit_is = c.is_ready.ensures ∙ ready_read start.args.table.now _ _ start.pre thread turn.loop-test.taken c.before.read-task.ensures
 
 pub lowest-ready-spec : {M : Type 1} → statement M
 lowest-ready-spec =
@@ -49,10 +49,10 @@ lowest-ready-spec =
     phase-fits start.args.table.now _ _ start.requires _ c.before.loop-test.true c.read-task.ensures)
     (λ c.
     let asked = c.before in
-    found_here _ (isReady asked) _ (thread asked) (turn asked).before.loop.invariant (turn asked).loop-test.true (subst T (bit_is asked) (true-T _ c.if1.true)))
+    found_here _ (is_ready asked) _ (thread asked) (turn asked).before.loop.invariant (turn asked).loop-test.true (subst T (bit_is asked) (true-T _ c.if1.true)))
     (λ c. omega (arith, (turn c.before).loop-test.taken))
     (λ c. omega arith)
     (λ c.
     let asked = c.before in
-    one_further _ (isReady asked) (thread asked) (turn asked).before.loop.invariant (subst (λ (b : Bool). T (not b)) (bit_is asked) (false-T _ c.if1.false)))
+    one_further _ (is_ready asked) (thread asked) (turn asked).before.loop.invariant (subst (λ (b : Bool). T (not b)) (bit_is asked) (false-T _ c.if1.false)))
     (λ c. found_none _ _ _ _ c.before.loop.invariant c.loop-test.false))

@@ -1,7 +1,7 @@
 -- `take_turn` meets its contract: it waits where nobody was chosen, and else makes the request that was.
 use mathlib.Core.Path.{sym, ◌∙◌}
 use borrow.Author.Rules.{rules}
-use Rattle.dispatch.proofs.TurnLaws.{nobody-turn, made-turn}
+use Rattle.dispatch.proofs.TurnLaws.{nobody_turn, made-turn}
 use Rattle.dispatch.proofs.turn.take_turn.Statement.{statement}
 use Rattle.dispatch.proofs.turn.take_turn.Tie as tie
 
@@ -20,7 +20,7 @@ take-turn-spec =
     (λ c. search rules)
     (λ c.
     let called = c.before.before in
-    nobody-turn _ _ called.before.before.before.requires.tested (sym called.choose.ensures ∙ c.enum_told.given.1))
+    nobody_turn _ _ called.before.before.before.requires.tested (sym called.choose.ensures ∙ c.enum_told.given.1))
     (λ c. search rules)
     (λ c.
     let chosen = c.before.before.before.before.before.before in

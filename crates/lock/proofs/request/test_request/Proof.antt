@@ -5,24 +5,24 @@ use mathlib.Core.Path.{◌≡◌, refl, subst, ap, ◌∙◌}
 use borrow.Author.Rules.{rules}
 use borrow.Author.Tests.{lt-ltb, le-ltb}
 use Rattle.definitions.specs.Answers.{answered}
-use Rattle.definitions.specs.Bounds.{lastPhase}
-use Rattle.definitions.specs.Moves.{requestTests}
+use Rattle.definitions.specs.Bounds.{last_phase}
+use Rattle.definitions.specs.Moves.{request_tests}
 use Rattle.definitions.specs.Table.{table_of}
 use Rattle.definitions.specs.declared.Head.{Head}
 use Rattle.definitions.specs.declared.Refusal.TheVariants.{NoThread}
 use Rattle.definitions.specs.declared.Request.{Request}
 use Rattle.definitions.specs.declared.Task.{Task}
-use Rattle.requests.specs.RequestTests.{testedReply, laterTests}
+use Rattle.requests.specs.RequestTests.{tested_reply, later_tests}
 use Rattle.requests.specs.declared.Tested.{Tested}
 use Rattle.requests.specs.declared.Tested.TheVariants.{Refused}
 use Rattle.theory.specs.Tables.{SoundBytes, head_of, task_of}
-use Rattle.theory.proofs.Bytes.{sized-e}
-use Rattle.theory.proofs.Soundness.{task-fits}
+use Rattle.theory.proofs.Bytes.{sized_e}
+use Rattle.theory.proofs.Soundness.{task_fits}
 use Rattle.lock.proofs.request.test_request.Statement.{statement}
 use Rattle.lock.proofs.request.test_request.Tie as tie
 
 module _ (bytes : List ℕ) (r : Request) (head : Head) (e : head ≡ head_of (table_of bytes)) where
-  turned_down : head.threads ≤ r.thread → testedReply (Refused NoThread) ≡ answered (requestTests (table_of bytes) r) tt
+  turned_down : head.threads ≤ r.thread → tested_reply (Refused NoThread) ≡ answered (request_tests (table_of bytes) r) tt
   unfolding answered
   turned_down l = rw (le-ltb r.thread (table_of bytes).threads (subst (λ (x : Head). x.threads ≤ r.thread) e l))
 
@@ -31,18 +31,18 @@ module _ (bytes : List ℕ) (r : Request) (head : Head) (e : head ≡ head_of (t
     below = subst (λ (x : Head). r.thread < x.threads) e l
 
     module _ (mover : Task) (f : mover ≡ task_of (table_of bytes) r.thread) where
-      phase-fits : SoundBytes bytes → mover.phase ≤ lastPhase
-      phase-fits h = task-fits (table_of bytes) h.is-sound r.thread below f
+      phase-fits : SoundBytes bytes → mover.phase ≤ last_phase
+      phase-fits h = task_fits (table_of bytes) h.is_sound r.thread below f
 
-      later : (x : Tested) → testedReply x ≡ answered (laterTests head mover r) tt → testedReply x ≡ answered (requestTests (table_of bytes) r) tt
+      later : (x : Tested) → tested_reply x ≡ answered (later_tests head mover r) tt → tested_reply x ≡ answered (request_tests (table_of bytes) r) tt
       unfolding answered
       later x q =
           q
-          ∙ (ap (λ (y : Head). answered (laterTests y mover r) tt) e
-          ∙ (ap (λ (y : Task). answered (laterTests (head_of (table_of bytes)) y r) tt) f ∙ rw (lt-ltb r.thread (table_of bytes).threads below) refl))
+          ∙ (ap (λ (y : Head). answered (later_tests y mover r) tt) e
+          ∙ (ap (λ (y : Task). answered (later_tests (head_of (table_of bytes)) y r) tt) f ∙ rw (lt-ltb r.thread (table_of bytes).threads below) refl))
 
 read-head-requires : tie.Need-read-head-requires
-read-head-requires c κs = sized-e _ c.before.requires.is-sized
+read-head-requires c κs = sized_e _ c.before.requires.is_sized
 
 returns : tie.Need-returns
 returns c =
@@ -54,7 +54,7 @@ read-task-requires : tie.Need-read-task-requires
 read-task-requires c κs =
     let read = c.before.before.before in
     let start = read.before.before in
-    (sized-e _ start.requires.is-sized, below start.args.table.now start.args.request read.read_head.result read.read_head.ensures c.if1.false)
+    (sized_e _ start.requires.is_sized, below start.args.table.now start.args.request read.read_head.result read.read_head.ensures c.if1.false)
 
 test-move-requires : tie.Need-test-move-requires
 test-move-requires c κs =

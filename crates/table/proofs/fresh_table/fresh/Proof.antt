@@ -9,10 +9,10 @@ use borrow.Author.Tests.{not-true, not-false}
 use lib.Dec.{leb, leb→le}
 use lib.ListN.{length}
 use Rattle.definitions.specs.Answers.{accepted, refused, test, filled}
-use Rattle.definitions.specs.Bounds.{mostThreads}
-use Rattle.definitions.specs.Table.{countFits, size, fresh, freshEntry}
+use Rattle.definitions.specs.Bounds.{most_threads}
+use Rattle.definitions.specs.Table.{count_fits, size, fresh, fresh_entry}
 use Rattle.basics.specs.Outputs.{Delivered}
-use Rattle.basics.proofs.Outputs.{turned_down, no_room, whole, delivered-as}
+use Rattle.basics.proofs.Outputs.{turned_down, no_room, whole, delivered_as}
 use Rattle.basics.proofs.Replies.{failed, pass, no_test}
 use Rattle.basics.proofs.Tests.{and_r, true-T, false-T}
 use Rattle.theory.proofs.Lengths.{fresh-length}
@@ -20,19 +20,19 @@ use Rattle.table.proofs.fresh_table.fresh.Statement.{statement}
 use Rattle.table.proofs.fresh_table.fresh.Tie as tie
 
 module _ (n : ℕ) (out : List ℕ) where
-  bad-size : countFits n ≡ false → Delivered (freshEntry n) out out (refused 1 0)
-  bad-size e = turned_down (freshEntry n) out 0 1 0 (failed (test 1 (countFits n)) [] 0 (false-T (countFits n) e))
+  bad-size : count_fits n ≡ false → Delivered (fresh_entry n) out out (refused 1 0)
+  bad-size e = turned_down (fresh_entry n) out 0 1 0 (failed (test 1 (count_fits n)) [] 0 (false-T (count_fits n) e))
 
-  module _ (fits : countFits n ≡ true) where
-    high : n ≤ mostThreads
-    high = leb→le n mostThreads (and_r (leb 1 n) (leb n mostThreads) (true-T (countFits n) fits))
+  module _ (fits : count_fits n ≡ true) where
+    high : n ≤ most_threads
+    high = leb→le n most_threads (and_r (leb 1 n) (leb n most_threads) (true-T (count_fits n) fits))
 
-    tight : length out < size n → Delivered (freshEntry n) out out (refused 12 0)
-    tight l = no_room (freshEntry n) out (pass _ [] (true-T (countFits n) fits) no_test) (omega (arith, fresh-length n))
+    tight : length out < size n → Delivered (fresh_entry n) out out (refused 12 0)
+    tight l = no_room (fresh_entry n) out (pass _ [] (true-T (count_fits n) fits) no_test) (omega (arith, fresh-length n))
 
-    written : size n ≤ length out → Delivered (freshEntry n) out (filled out (fresh n)) (accepted (size n))
+    written : size n ≤ length out → Delivered (fresh_entry n) out (filled out (fresh n)) (accepted (size n))
     written l =
-        delivered-as (whole (freshEntry n) out (pass _ [] (true-T (countFits n) fits) no_test) (omega (arith, fresh-length n)))
+        delivered_as (whole (fresh_entry n) out (pass _ [] (true-T (count_fits n) fits) no_test) (omega (arith, fresh-length n)))
         refl (ap accepted (sym (fresh-length n)))
 
 returns : tie.Need-returns
@@ -41,7 +41,7 @@ returns c =
     bad-size a.threads a.out.now (sym c.before.count_fits.ensures ∙ not-true _ c.if1.true)
 
 -- the count fits
-fits : (c : tie.Else1) → countFits c.before.before.before.args.threads ≡ true
+fits : (c : tie.Else1) → count_fits c.before.before.before.args.threads ≡ true
 fits c = sym c.before.count_fits.ensures ∙ not-false _ c.if1.false
 
 returns-2 : tie.Need-returns-2
@@ -60,7 +60,7 @@ returns-3 : tie.Need-returns-3
 returns-3 c =
     let left = c.before.before.before.before.before.before in
     let a = left.before.before.before.args in
-    delivered-as (written a.threads a.out.now (fits left) (omega arith))
+    delivered_as (written a.threads a.out.now (fits left) (omega arith))
     c.before.before.write-fresh.ensures (ap accepted c.before.before.before.before.before.type_size.ensures)
 
 pub fresh-spec : {M : Type 1} → statement M
