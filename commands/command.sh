@@ -1,5 +1,5 @@
-# What ./plan, ./draw and ./histories share: building the command where it is out of date, and opening the input, which the
-# last one has not. They set `top`, the repository, and `name`, the command, and define `usage` before they read this file.
+# What ./plan and ./draw share: opening the input, and building the command where it is out of date. They set `top`, the
+# repository, and `name`, the command, and define `usage` before they read this file.
 archive=$top/target/staticlib/libwospinzo.a
 binary=$top/target/cargo/release/$name
 
@@ -45,7 +45,7 @@ build_binary() {
         export CARGO_TARGET_DIR="$top/target/cargo"
         cd "$top" && exec cargo build --offline --release --manifest-path commands/Cargo.toml 9>&-
     ) </dev/null >"$top/target/log/commands.out" 2>&1 || fail 3 'the command could not be built: see target/log/commands.out'
-    touch "$top/target/cargo/release/plan" "$top/target/cargo/release/draw" "$top/target/cargo/release/histories"
+    touch "$top/target/cargo/release/plan" "$top/target/cargo/release/draw"
 }
 
 # One build at a time, as the commands and ./run may stand in one pipe.

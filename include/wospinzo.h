@@ -47,13 +47,12 @@
  * Answers: every function but wospinzo_version answers a number of 64 bits,
  * which the functions below take apart. Its low byte is 0 where the request
  * was accepted, else the number of the refusal, the first that fits in the
- * order of their numbers, but for 13, which is tested after 1 and before 9, for
- * 14, which is tested after 8 and before 9, and for wospinzo_write_script and
- * wospinzo_read_script, which have an order of their own. Of an accepted request
- * the next 32 bits are the value, what the function says it answers, and the 24
- * above them say how many retries were made: of a move 1 or 0, of a run how many
- * of its moves were retries, and 0 of every other function. Of a refusal the rest
- * is its place, which is
+ * order of their numbers, but for 13, which is tested after 1 and before 9, and
+ * for wospinzo_write_script and wospinzo_read_script, which have an order of
+ * their own. Of an accepted request the next 32 bits are the value, what the
+ * function says it answers, and the 24 above them say how many retries were
+ * made: of a move 1 or 0, of a run how many of its moves were retries, and 0 of
+ * every other function. Of a refusal the rest is its place, which is
  *   of a history        the index of the first bad pair, for 9, 10 and 11
  *   of a list of moves  the index of the first bad triple, for 3, 4 and 5; the
  *                       largest that an answer holds is 2^55 - 1, which stands
@@ -78,8 +77,8 @@ extern "C" {
 /* The version of this header; wospinzo_version answers that of the archive.
  * docs/CHANGELOG.md says what a version promises. */
 #define WOSPINZO_VERSION_MAJOR 1
-#define WOSPINZO_VERSION_MINOR 8
-#define WOSPINZO_VERSION_PATCH 0
+#define WOSPINZO_VERSION_MINOR 7
+#define WOSPINZO_VERSION_PATCH 1
 #define WOSPINZO_VERSION \
     (65536 * WOSPINZO_VERSION_MAJOR + 256 * WOSPINZO_VERSION_MINOR + WOSPINZO_VERSION_PATCH)
 
@@ -106,12 +105,6 @@ extern "C" {
 /* The longest history and the longest script, in bytes. */
 #define WOSPINZO_MAX_HISTORY 60000
 #define WOSPINZO_MAX_SCRIPT 30000
-/* The histories that wospinzo_first_history and wospinzo_next_history go
- * through: for 1 to so many threads, of 1 to so many events; and bytes in which
- * each of them fits. */
-#define WOSPINZO_MAX_LISTED_THREADS 3
-#define WOSPINZO_MAX_LISTED_EVENTS 6
-#define WOSPINZO_LISTED_ROOM 12
 /* The most moves that n threads can make one after the other without a call and
  * without a retry: N x (3N + 5), which some tables come to. */
 #define WOSPINZO_MAX_PROGRESS(n) ((n) * (3ul * (n) + 5ul))
@@ -201,28 +194,25 @@ enum wospinzo_node {
 };
 
 /* The refusals. A request is tested for them in the order of their numbers, but
- * for 13, which is tested after 1 and before 9, for 14, which is tested after 8
- * and before 9, and for the two functions that write and read a script, which say
- * their order. */
+ * for 13, which is tested after 1 and before 9, and for the two functions that
+ * write and read a script, which say their order. */
 enum wospinzo_refusal_number {
     WOSPINZO_ACCEPTED = 0,
-    WOSPINZO_BAD_SIZE = 1,      /* N is 0 or above 200, or the table isn't 3 + 3N bytes */
-    WOSPINZO_UNSOUND = 2,       /* the table isn't sound: no list of moves leaves it from a fresh table */
-    WOSPINZO_NO_THREAD = 3,     /* the thread number isn't below N */
-    WOSPINZO_NO_MOVE = 4,       /* the move is above 6 */
-    WOSPINZO_BAD_TARGET = 5,    /* set or clear: not below N; another move: not 0 */
-    WOSPINZO_NOT_IN_PHASE = 6,  /* the thread's phase has no such move */
-    WOSPINZO_MUTEX_HELD = 7,    /* go in phase 9, or hold in 4, while the mutex is 1: try again later */
-    WOSPINZO_BAD_FORM = 8,      /* a history of odd length or too long; a script too long; the form of a
-                                 * line that is read; a list that isn't whole triples, or whose script
-                                 * would be too long */
-    WOSPINZO_UNKNOWN_PAIR = 9,  /* the event isn't 1 to 8, or its thread isn't below N */
-    WOSPINZO_NOT_NEXT = 10,     /* the event isn't its thread's next */
-    WOSPINZO_OCCUPIED = 11,     /* the section that must be empty isn't */
-    WOSPINZO_NO_ROOM = 12,      /* the output is shorter than what would be written */
-    WOSPINZO_INCONSISTENT = 13, /* the watcher's record isn't consistent: no watch could have left it */
-    WOSPINZO_NOT_LISTED = 14    /* the number of events isn't 1 to 6, or N is 4 to 200: such histories
-                                 * are not listed */
+    WOSPINZO_BAD_SIZE = 1,     /* N is 0 or above 200, or the table isn't 3 + 3N bytes */
+    WOSPINZO_UNSOUND = 2,      /* the table isn't sound: no list of moves leaves it from a fresh table */
+    WOSPINZO_NO_THREAD = 3,    /* the thread number isn't below N */
+    WOSPINZO_NO_MOVE = 4,      /* the move is above 6 */
+    WOSPINZO_BAD_TARGET = 5,   /* set or clear: not below N; another move: not 0 */
+    WOSPINZO_NOT_IN_PHASE = 6, /* the thread's phase has no such move */
+    WOSPINZO_MUTEX_HELD = 7,   /* go in phase 9, or hold in 4, while the mutex is 1: try again later */
+    WOSPINZO_BAD_FORM = 8,     /* a history of odd length or too long; a script too long; the form of a
+                                * line that is read; a list that isn't whole triples, or whose script
+                                * would be too long */
+    WOSPINZO_UNKNOWN_PAIR = 9, /* the event isn't 1 to 8, or its thread isn't below N */
+    WOSPINZO_NOT_NEXT = 10,    /* the event isn't its thread's next */
+    WOSPINZO_OCCUPIED = 11,    /* the section that must be empty isn't */
+    WOSPINZO_NO_ROOM = 12,     /* the output is shorter than what would be written */
+    WOSPINZO_INCONSISTENT = 13 /* the watcher's record isn't consistent: no watch could have left it */
 };
 
 /*
@@ -317,14 +307,6 @@ static inline uint16_t wospinzo_turn_target(uint64_t answer)
     return (uint16_t)(wospinzo_dispatched(answer) ? (answer >> 32) & 255u : 0u);
 }
 
-/* Of an answer of wospinzo_next_history: 1 where the given history was the last
- * one, so that nothing was written, else 0. A refusal does not say that, although
- * its value may be 0. */
-static inline int wospinzo_was_last(uint64_t answer)
-{
-    return answer == 0;
-}
-
 /* Of an answer of wospinzo_watch_inside: 1 where nobody is inside, else 0. A
  * refusal says nothing of who is inside, although its value is 0. */
 static inline int wospinzo_nobody_inside(uint64_t answer)
@@ -380,9 +362,8 @@ static inline unsigned wospinzo_forbidden(const uint8_t *table, uint16_t thread)
 }
 
 /* Of this header: the largest table, that an answer's parts fit, the longest
- * plan, the limits on moves and turns, the rooms for a script's moves and for a
- * history that is listed, and the layout of a watcher's record. Its size is odd,
- * so that its alignment is 1. */
+ * plan, the limits on moves and turns, the room for a script's moves, and the
+ * layout of a watcher's record. Its size is odd, so that its alignment is 1. */
 #if defined(__cplusplus)
 #define WOSPINZO_ASSERT(name, condition) static_assert(condition, "wospinzo.h: " #name)
 #elif defined(__STDC_VERSION__) && __STDC_VERSION__ >= 201112L
@@ -399,7 +380,6 @@ WOSPINZO_ASSERT(plan, WOSPINZO_PLAN_SIZE(WOSPINZO_MAX_PLAN_MOVES) == WOSPINZO_MA
 WOSPINZO_ASSERT(progress, WOSPINZO_MAX_PROGRESS(WOSPINZO_MAX_THREADS) == 121000);
 WOSPINZO_ASSERT(turns, WOSPINZO_MOST_TURNS(1) == 4 && WOSPINZO_MOST_TURNS(WOSPINZO_MAX_THREADS) == 1198);
 WOSPINZO_ASSERT(room, WOSPINZO_READ_ROOM == (WOSPINZO_MAX_SCRIPT - 12) / 9 * 3);
-WOSPINZO_ASSERT(listed, WOSPINZO_LISTED_ROOM == 2 * WOSPINZO_MAX_LISTED_EVENTS);
 WOSPINZO_ASSERT(watcher, sizeof(wospinzo_watcher) == WOSPINZO_WATCHER_SIZE);
 WOSPINZO_ASSERT(places, offsetof(wospinzo_watcher, places) == 3);
 #undef WOSPINZO_ASSERT
@@ -505,37 +485,6 @@ uint64_t wospinzo_open_moves(const uint8_t *table, size_t table_len, uint16_t th
  */
 WOSPINZO_USE_ANSWER
 uint64_t wospinzo_check(uint16_t threads, const uint8_t *history, size_t history_len);
-
-/*
- * Writes the first permitted history of so many events, in the order of their
- * bytes: of two histories of a length that one comes first which has the smaller
- * byte where they first differ. Permitted are those that wospinzo_check accepts.
- * Answers the number of bytes written, 2 * events; WOSPINZO_LISTED_ROOM always
- * suffices.
- * Refusals: 1; 14 where `events` isn't 1 to WOSPINZO_MAX_LISTED_EVENTS or
- * `threads` is above WOSPINZO_MAX_LISTED_THREADS; 12.
- */
-WOSPINZO_USE_ANSWER
-uint64_t wospinzo_first_history(uint16_t threads, uint16_t events, uint8_t *out, size_t out_len);
-
-/*
- * Writes the next permitted history after a given one: of those of its length
- * that come after it, the first in the order of their bytes. Going on from
- * wospinzo_first_history until the given one was the last meets each permitted
- * history of that length, none twice and nothing else. Any permitted history of
- * that length may be given, and nothing is kept between calls. `history` and
- * `out` must not overlap: two buffers, in turn.
- * Answers the number of bytes written, those of the given history; or 0 where
- * that was the last one (wospinzo_was_last): then nothing is written, and no room
- * is needed.
- * Refusals, in this order: 1; 8; 14 where the history doesn't have 1 to
- * WOSPINZO_MAX_LISTED_EVENTS events, an empty one too, or `threads` is above
- * WOSPINZO_MAX_LISTED_THREADS; for its first bad pair 9, 10 or 11 with the index
- * as place; 12.
- */
-WOSPINZO_USE_ANSWER
-uint64_t wospinzo_next_history(uint16_t threads, const uint8_t *history, size_t history_len,
-                               uint8_t *out, size_t out_len);
 
 /*
  * Counts the moves of the plan for a history without making the plan, so that

@@ -1,6 +1,4 @@
-//! Events in the spelling of a run's output.
-
-use std::fmt;
+//! Reading events in the spelling of a run's output.
 
 use wospinzo::{Event, MAX_HISTORY};
 
@@ -23,13 +21,6 @@ impl ThreadEvent {
     /// thread either.
     fn pair(self) -> [u8; 2] {
         [self.thread.min(255) as u8, self.event as u8]
-    }
-}
-
-/// The event as a run prints it, without the line feed.
-impl fmt::Display for ThreadEvent {
-    fn fmt(&self, f: &mut fmt::Formatter) -> fmt::Result {
-        write!(f, "(event {} ({}))", self.thread, self.event)
     }
 }
 
@@ -130,7 +121,6 @@ mod tests {
             let line = format!("(event 17 ({event}))\n");
             let read = read(line.as_bytes());
             assert_eq!(read, Ok(vec![ThreadEvent { thread: 17, event }]));
-            assert_eq!(format!("{}\n", read.unwrap()[0]), line);
         }
     }
 

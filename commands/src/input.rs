@@ -37,14 +37,9 @@ pub fn usage(words: &str) -> ExitCode {
     ExitCode::from(USAGE)
 }
 
-/// The number that a word names, none where it is no number. One above 16 bits
-/// becomes the largest, which is too large as well, of threads and of events.
-pub fn number_of(word: &str) -> Option<u16> {
-    let digits = !word.is_empty() && word.bytes().all(|byte| byte.is_ascii_digit());
-    digits.then(|| word.parse().unwrap_or(u16::MAX))
-}
-
 /// Reads, does the work, writes what came of it, and answers how it ended.
+///
+/// Nothing is written where the work fails.
 pub fn filter(
     command: &str,
     limit: usize,
@@ -53,37 +48,12 @@ pub fn filter(
     let Ok(bytes) = read_at_most(limit) else {
         return fail(command, "standard input could not be read");
     };
-    finish(command, work(&bytes))
-}
-
-/// Writes what came of the work, and answers how it ended.
-///
-/// Nothing is written where the work failed.
-pub fn finish(command: &str, done: Result<Vec<u8>, String>) -> ExitCode {
-    let output = match done {
+    let output = match work(&bytes) {
         Ok(output) => output,
         Err(message) => return fail(command, &message),
     };
     match write_all(&output) {
         Ok(()) => ExitCode::SUCCESS,
         Err(_) => fail(command, "the output could not be written"),
-    }
-}
-
-#[cfg(test)]
-mod tests {
-    use super::*;
-
-    #[test]
-    fn numbers_are_digits_alone() {
-        assert_eq!(
-            ["0", "6", "007"].map(number_of),
-            [Some(0), Some(6), Some(7)]
-        );
-        assert_eq!(
-            ["65536", "99999999999999999999"].map(number_of),
-            [Some(u16::MAX); 2]
-        );
-        assert_eq!(["", "-1", "+1", "two", "1 "].map(number_of), [None; 5]);
     }
 }

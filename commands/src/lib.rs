@@ -1,23 +1,16 @@
-//! What the commands `plan`, `draw` and `histories` do between reading and
-//! writing.
+//! What the commands `plan` and `draw` do between reading and writing.
 //!
 //! `plan` takes events and gives the script of their plan; `draw` takes a script
-//! and gives a picture of its run; `histories` gives every short history as
-//! events. Every judgement is the archive's: these modules hand it the input, put
-//! its refusals into words, and draw or spell what it answers.
+//! and gives a picture of its run. Every judgement is the archive's: these
+//! modules hand it the input, put its refusals into words, and draw what it
+//! answers.
 
 pub mod input;
 
-// plan and histories
-pub mod events;
-pub mod refused;
-
 // plan
+pub mod events;
 pub mod explain;
 pub mod planning;
-
-// histories
-pub mod listing;
 
 // draw: the run
 pub mod lines;

@@ -1,14 +1,55 @@
 //! From events to the script of their plan.
 
+use std::fmt;
+
 use wospinzo::{check, plan, plan_length, plan_size, write_script, Refusal, Rejected, MAX_SCRIPT};
 
 use crate::events::{self, ThreadEvent};
 use crate::explain::explain;
-use crate::refused::Refused;
+
+/// Why there is no script: the refusal, the line of the events where it has one,
+/// and the reason.
+#[derive(Debug, PartialEq, Eq)]
+pub struct Refused {
+    pub refusal: Refusal,
+    /// From 1.
+    pub line: Option<usize>,
+    pub reason: String,
+}
+
+impl Refused {
+    fn whole(refusal: Refusal, reason: String) -> Refused {
+        Refused {
+            refusal,
+            line: None,
+            reason,
+        }
+    }
+}
+
+impl fmt::Display for Refused {
+    fn fmt(&self, f: &mut fmt::Formatter) -> fmt::Result {
+        write!(f, "refused {}", self.refusal as u8)?;
+        if let Some(line) = self.line {
+            write!(f, ", line {line}")?;
+        }
+        write!(f, ": {}", self.reason)
+    }
+}
+
+/// The number of threads that a word names, none where it is no number. One
+/// above 16 bits becomes the largest, which is too large as well.
+pub fn threads_of(word: &str) -> Option<u16> {
+    let digits = !word.is_empty() && word.bytes().all(|byte| byte.is_ascii_digit());
+    digits.then(|| word.parse().unwrap_or(u16::MAX))
+}
 
 /// The script that shows the events of a file, with so many threads.
 pub fn script(threads: u16, file: &[u8]) -> Result<Vec<u8>, Refused> {
-    check(threads, &[]).map_err(|rejected| Refused::whole(rejected.refusal))?;
+    check(threads, &[]).map_err(|rejected| {
+        let reason = "the number of threads must be 1 to 200".to_string();
+        Refused::whole(rejected.refusal, reason)
+    })?;
     let events = events::read(file).map_err(|bad| Refused {
         refusal: Refusal::BadForm,
         line: Some(bad.line),
@@ -45,16 +86,13 @@ fn refused_history(threads: u16, rejected: Rejected, events: &[ThreadEvent]) -> 
 }
 
 fn refused_script(rejected: Rejected, events: usize) -> Refused {
-    let whole = Refused::whole(rejected.refusal);
-    match rejected.refusal {
-        Refusal::BadForm => Refused {
-            reason: format!(
-                "the script of these {events} events would be longer than a script may be, 30,000 bytes"
-            ),
-            ..whole
-        },
-        _ => whole,
-    }
+    let reason = match rejected.refusal {
+        Refusal::BadForm => format!(
+            "the script of these {events} events would be longer than a script may be, 30,000 bytes"
+        ),
+        other => other.to_string(),
+    };
+    Refused::whole(rejected.refusal, reason)
 }
 
 #[cfg(test)]
@@ -79,10 +117,12 @@ mod tests {
 
     #[test]
     fn the_number_of_threads_comes_first() {
-        for threads in [0, 201, u16::MAX] {
+        for word in ["0", "201", "65536", "99999999999999999999"] {
+            let threads = threads_of(word).unwrap();
             let refused = script(threads, b"(event)\n").unwrap_err();
             assert_eq!((refused.refusal, refused.line), (Refusal::BadSize, None));
         }
+        assert_eq!(["", "-1", "two", "1 "].map(threads_of), [None; 4]);
     }
 
     /// Rounds of a reader, and the bytes of their script: seven moves a round.

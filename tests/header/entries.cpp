@@ -56,64 +56,6 @@ static bool plans()
     return good && wospinzo_refusal(bad_pair) == WOSPINZO_NOT_NEXT && wospinzo_value(bad_pair) == 1;
 }
 
-// Whether one history comes before another of the same length, by their bytes.
-static bool comes_before(const uint8_t *one, const uint8_t *other, size_t length)
-{
-    size_t same = 0;
-
-    while (same < length && one[same] == other[same])
-        same++;
-    return same < length && one[same] < other[same];
-}
-
-// How many histories are met from the first to the last one; 0 where one isn't permitted, has another length or doesn't come after
-// the one before it.
-static unsigned met(uint16_t threads, uint16_t events)
-{
-    uint8_t buffers[2][WOSPINZO_LISTED_ROOM];
-    const size_t length = 2u * events;
-    unsigned count = 0;
-
-    uint64_t answer = wospinzo_first_history(threads, events, buffers[0], length);
-    while (!wospinzo_was_last(answer)) {
-        const uint8_t *here = buffers[count % 2];
-        bool good = wospinzo_accepted(answer) && wospinzo_value(answer) == length;
-        good = good && wospinzo_value(wospinzo_check(threads, here, length)) == events;
-        if (!good || (count > 0 && !comes_before(buffers[(count + 1) % 2], here, length)))
-            return 0;
-        count++;
-        answer = wospinzo_next_history(threads, here, length, buffers[count % 2], length);
-    }
-    return count;
-}
-
-// All short histories: how many there are, that the last one needs no room, and each refusal, which doesn't say that it was the last.
-static bool histories()
-{
-    const unsigned counts[WOSPINZO_MAX_LISTED_THREADS][WOSPINZO_MAX_LISTED_EVENTS] = {
-        {2, 2, 2, 2, 4, 4}, {4, 12, 28, 42, 92, 232}, {6, 30, 126, 408, 924, 3078}};
-    const uint8_t last[] = {1, 5, 1, 6}, bad[] = {0, 1, 0, 3}, longer[14] = {};
-    uint8_t out[WOSPINZO_LISTED_ROOM];
-
-    bool good = true;
-    for (uint16_t threads = 1; threads <= WOSPINZO_MAX_LISTED_THREADS; threads++)
-        for (uint16_t events = 1; events <= WOSPINZO_MAX_LISTED_EVENTS; events++)
-            good = good && met(threads, events) == counts[threads - 1][events - 1];
-    good = good && wospinzo_was_last(wospinzo_next_history(2, last, sizeof last, out, 0));
-    good = good && !wospinzo_was_last(wospinzo_next_history(3, last, sizeof last, out, sizeof out));
-    const uint64_t no_room = wospinzo_next_history(3, last, sizeof last, out, sizeof last - 1);
-    good = good && no_room == WOSPINZO_NO_ROOM && !wospinzo_was_last(no_room);
-    const uint64_t bad_pair = wospinzo_next_history(2, bad, sizeof bad, out, 0);
-    good = good && wospinzo_refusal(bad_pair) == WOSPINZO_NOT_NEXT && wospinzo_value(bad_pair) == 1 && !wospinzo_was_last(bad_pair);
-    good = good && wospinzo_next_history(2, last, 0, out, 0) == WOSPINZO_NOT_LISTED;
-    good = good && wospinzo_next_history(2, longer, sizeof longer, out, 0) == WOSPINZO_NOT_LISTED;
-    good = good && wospinzo_next_history(2, bad, 3, out, 0) == WOSPINZO_BAD_FORM;
-    good = good && wospinzo_first_history(1, WOSPINZO_MAX_LISTED_EVENTS + 1, out, 0) == WOSPINZO_NOT_LISTED;
-    good = good && wospinzo_first_history(WOSPINZO_MAX_LISTED_THREADS + 1, 1, out, 0) == WOSPINZO_NOT_LISTED;
-    good = good && wospinzo_first_history(WOSPINZO_MAX_THREADS + 1, 0, out, 0) == WOSPINZO_BAD_SIZE;
-    return good && wospinzo_first_history(1, 1, out, 1) == WOSPINZO_NO_ROOM;
-}
-
 // A plan written as a script, and read back: each part of the answer, and a refusal's place.
 static bool scripts()
 {
@@ -259,5 +201,5 @@ int main()
     const uint64_t ran = wospinzo_run(script, sizeof script, out, sizeof out);
     good = good && wospinzo_value(ran) == 10 && wospinzo_run_retries(ran) == 0;
     good = good && wospinzo_refusal(wospinzo_check(201, history, sizeof history)) == WOSPINZO_BAD_SIZE;
-    return good && watches() && plans() && histories() && scripts() && retries() && runs() && turns() && last_of_200() ? 0 : 1;
+    return good && watches() && plans() && scripts() && retries() && runs() && turns() && last_of_200() ? 0 : 1;
 }

@@ -18,8 +18,6 @@ static uint8_t stack[STACK];
 static uint8_t table[WOSPINZO_MAX_TABLE_SIZE];
 static wospinzo_watcher watcher;
 static uint8_t history[WOSPINZO_MAX_HISTORY];
-/* A history of the largest size that is listed, and not the last one. */
-static const uint8_t listed[WOSPINZO_LISTED_ROOM] = {0, 1, 0, 2, 0, 3, 0, 4, 0, 5, 0, 6};
 static uint8_t script[WOSPINZO_MAX_SCRIPT];
 static uint8_t triples[WOSPINZO_READ_ROOM];
 static size_t triples_len;
@@ -35,8 +33,6 @@ static void dispatch(void) { answer = wospinzo_dispatch(table, sizeof table); }
 static void nodes(void) { answer = wospinzo_nodes(table, sizeof table, out, sizeof out); }
 static void open_moves(void) { answer = wospinzo_open_moves(table, sizeof table, 199, out, sizeof out); }
 static void check(void) { answer = wospinzo_check(WOSPINZO_MAX_THREADS, history, sizeof history); }
-static void first_history(void) { answer = wospinzo_first_history(WOSPINZO_MAX_LISTED_THREADS, WOSPINZO_MAX_LISTED_EVENTS, out, sizeof out); }
-static void next_history(void) { answer = wospinzo_next_history(WOSPINZO_MAX_LISTED_THREADS, listed, sizeof listed, out, sizeof out); }
 static void plan_length(void) { answer = wospinzo_plan_length(WOSPINZO_MAX_THREADS, history, sizeof history); }
 static void plan(void) { answer = wospinzo_plan(WOSPINZO_MAX_THREADS, history, sizeof history, out, sizeof out); }
 static void run(void) { answer = wospinzo_run(script, sizeof script, out, WOSPINZO_RUN_ROOM); }
@@ -139,8 +135,6 @@ int main(void)
         {"wospinzo_nodes", nodes, WOSPINZO_STACK},
         {"wospinzo_open_moves", open_moves, WOSPINZO_STACK},
         {"wospinzo_check", check, WOSPINZO_STACK},
-        {"wospinzo_first_history", first_history, WOSPINZO_STACK},
-        {"wospinzo_next_history", next_history, WOSPINZO_STACK},
         {"wospinzo_plan_length", plan_length, WOSPINZO_STACK},
         {"wospinzo_plan", plan, WOSPINZO_STACK},
         {"wospinzo_run", run, WOSPINZO_RUN_STACK},

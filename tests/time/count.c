@@ -290,55 +290,6 @@ static void histories(uint16_t n, size_t events)
     COUNT(WOSPINZO_ACCEPTED, wospinzo_plan(n, history, 2 * events, out, sizeof out), "plan %u %zu %zu exclusive", n, events, events / 4 * (3u * n + 6u));
 }
 
-/* The history in `history` with its last pair bad, where the next one is asked for; what was there is put back. */
-static void bad_end(unsigned expected, uint16_t n, size_t events, uint8_t thread, uint8_t event)
-{
-    uint8_t *last = history + 2 * (events - 1), was[2];
-
-    memcpy(was, last, 2);
-    last[0] = thread;
-    last[1] = event;
-    COUNT(expected, wospinzo_next_history(n, history, 2 * events, out, sizeof out), "next_history %u %zu the last pair is refused by %u", n,
-          events, expected);
-    memcpy(last, was, 2);
-}
-
-/* Every short history: the first one, and the next one after each, the last one too; with no room; and each with its last pair bad. */
-static void listed(uint16_t n, size_t events)
-{
-    size_t length = 2 * events;
-
-    COUNT(WOSPINZO_ACCEPTED, wospinzo_first_history(n, (uint16_t)events, history, sizeof history), "first_history %u %zu", n, events);
-    COUNT(WOSPINZO_NO_ROOM, wospinzo_first_history(n, (uint16_t)events, out, length - 1), "first_history %u %zu refused by 12", n, events);
-    COUNT(WOSPINZO_NO_ROOM, wospinzo_next_history(n, history, length, out, length - 1), "next_history %u %zu refused by 12", n, events);
-    COUNT(WOSPINZO_BAD_FORM, wospinzo_next_history(n, history, length - 1, out, sizeof out), "next_history %u %zu refused by 8", n, events);
-    COUNT(WOSPINZO_BAD_SIZE, wospinzo_next_history(0, history, length, out, sizeof out), "next_history 0 %zu refused by 1", events);
-    do {
-        bad_end(WOSPINZO_UNKNOWN_PAIR, n, events, (uint8_t)n, 1);
-        bad_end(WOSPINZO_UNKNOWN_PAIR, n, events, 0, 9);
-        COUNT(WOSPINZO_ACCEPTED, wospinzo_next_history(n, history, length, out, sizeof out), "next_history %u %zu after a permitted one", n,
-              events);
-        memcpy(history, out, length);
-    } while (!wospinzo_was_last(answer));
-}
-
-/* Every length for each number of threads, and what is refused by 1 and 14. */
-static void all_listed(void)
-{
-    uint16_t n;
-    size_t events;
-
-    for (n = 1; n <= WOSPINZO_MAX_LISTED_THREADS; n++)
-        for (events = 1; events <= WOSPINZO_MAX_LISTED_EVENTS; events++) listed(n, events);
-    COUNT(WOSPINZO_BAD_SIZE, wospinzo_first_history(0, 1, out, sizeof out), "first_history 0 1 refused by 1");
-    COUNT(WOSPINZO_NOT_LISTED, wospinzo_first_history(n, 1, out, sizeof out), "first_history %u 1 refused by 14", n);
-    COUNT(WOSPINZO_NOT_LISTED, wospinzo_first_history(1, 0, out, sizeof out), "first_history 1 0 refused by 14");
-    COUNT(WOSPINZO_NOT_LISTED, wospinzo_next_history(n, history, 2, out, sizeof out), "next_history %u 1 refused by 14", n);
-    COUNT(WOSPINZO_NOT_LISTED, wospinzo_next_history(1, history, 0, out, sizeof out), "next_history 1 0 refused by 14");
-    COUNT(WOSPINZO_NOT_LISTED, wospinzo_next_history(1, history, sizeof history, out, sizeof out), "next_history 1 %zu refused by 14",
-          sizeof history / 2);
-}
-
 /* A script that repeats a text behind its first lines, as often as it fits. Answers its length. */
 static size_t repeated(const char *first, const char *text, size_t most)
 {
@@ -609,7 +560,6 @@ int main(void)
           "read_script %u 0 too long", WOSPINZO_MAX_SCRIPT + 1);
     COUNT(WOSPINZO_BAD_SIZE, wospinzo_read_script((const uint8_t *)"(threads 0)\n", 12, triples, sizeof triples), "read_script 12 0 refused by 1");
     long_list();
-    all_listed();
     for (i = 0; i < sizeof counts / sizeof *counts; i++) turns(counts[i]);
     return failures != 0;
 }

@@ -18,14 +18,13 @@ TOP = Path(__file__).resolve().parent.parent.parent
 sys.path.insert(0, str(TOP / "tests" / "archive"))
 import archive  # noqa: E402
 
-NAMES = {"version": "", "fresh": "N", "move": "N", "dispatch": "N", "nodes": "N", "open_moves": "N", "check": "NE",
-         "first_history": "NE", "next_history": "NE", "plan_length": "NE", "plan": "NEM",
+NAMES = {"version": "", "fresh": "N", "move": "N", "dispatch": "N", "nodes": "N", "open_moves": "N", "check": "NE", "plan_length": "NE", "plan": "NEM",
          "run": "B", "write_script": "MB", "read_script": "BM", "watch_start": "N", "watch_event": "N", "watch_inside": "N"}
 # A formula may be above the largest count by this share, or by this many instructions.
 SHARE, LOOSE = 0.12, 40
-# Those that are the same instructions, or nearly the same, for each task or event of the input that takes most, so that the
-# formula is held to the largest input too.
-EVEN = {"move", "dispatch", "nodes", "open_moves", "check", "first_history", "next_history", "plan_length"}
+# Those that are the same instructions for each task or event of the input that takes most, so that the formula is held to the
+# largest input too.
+EVEN = {"move", "dispatch", "nodes", "open_moves", "check", "plan_length"}
 
 
 def own(text, names):

@@ -9,7 +9,7 @@ fn main() -> ExitCode {
     let mut words = env::args_os().skip(1);
     let threads = words
         .next()
-        .and_then(|word| input::number_of(word.to_str()?));
+        .and_then(|word| planning::threads_of(word.to_str()?));
     let (Some(threads), None) = (threads, words.next()) else {
         return input::usage("plan N, with events on standard input");
     };

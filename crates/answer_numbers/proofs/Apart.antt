@@ -13,18 +13,16 @@ use Rattle.definitions.specs.Dispatch.{DispatchAnswer, made, waiting, event_seen
 use Rattle.definitions.specs.Moves.{ask}
 use Rattle.definitions.specs.Run.{RunCounts}
 use Rattle.definitions.specs.Scripts.{Listed}
-use Rattle.definitions.specs.ShortHistories.{NextAnswer, written, last}
 use Rattle.definitions.specs.declared.Event.{Event}
 use Rattle.definitions.specs.declared.Event.TheVariants.{EnterSharedCall, EnterSharedReturn, LeaveSharedCall, LeaveSharedReturn}
 use Rattle.definitions.specs.declared.Event.TheVariants.{EnterExclusiveCall, EnterExclusiveReturn, LeaveExclusiveCall, LeaveExclusiveReturn}
 use Rattle.definitions.specs.declared.MoveEvent.{MoveEvent}
 use Rattle.definitions.specs.declared.MoveEvent.TheVariants as event
 use Rattle.definitions.specs.declared.Refusal.{Refusal}
-use Rattle.definitions.specs.declared.Refusal.TheVariants.{BadSize, Unsound, NoThread, NoMove, BadTarget, NotInPhase, MutexHeld}
-use Rattle.definitions.specs.declared.Refusal.TheVariants.{BadForm, UnknownPair, NotNext, Occupied, NoRoom, Inconsistent, NotListed}
+use Rattle.definitions.specs.declared.Refusal.TheVariants.{BadSize, Unsound, NoThread, NoMove, BadTarget, NotInPhase, MutexHeld, BadForm, UnknownPair, NotNext, Occupied, NoRoom, Inconsistent}
 use Rattle.definitions.specs.declared.Request.{Request}
 use Rattle.basics.proofs.Tests.{below?}
-use Rattle.answer_numbers.specs.Encoding.{encoded, retry_unit, made_mark, seen_value, move_value, run_value, turn_value, inside_value, listed_value, next_value, Below}
+use Rattle.answer_numbers.specs.Encoding.{encoded, retry_unit, made_mark, seen_value, move_value, run_value, turn_value, inside_value, listed_value, Below}
 
 -- ---- one law
 
@@ -63,7 +61,6 @@ numbers NotNext = (lit≤ tt, lit≤ tt)
 numbers Occupied = (lit≤ tt, lit≤ tt)
 numbers NoRoom = (lit≤ tt, lit≤ tt)
 numbers Inconsistent = (lit≤ tt, lit≤ tt)
-numbers NotListed = (lit≤ tt, lit≤ tt)
 
 codes : (e : Event) → (1 ≤ code_of e) × (code_of e ≤ 8)
 codes EnterSharedCall = (lit≤ tt, lit≤ tt)
@@ -112,21 +109,6 @@ listed-tells a b f g e = let t = both_told 256 a.threads b.threads a.bytes b.byt
 
 pub run-tells : (a b : RunCounts) → a.bytes < retry_unit → b.bytes < retry_unit → run_value a ≡ run_value b → a ≡ b
 run-tells a b f g e = let t = both_told retry_unit a.bytes b.bytes a.retries b.retries f g e in λ i. record { bytes = t.0 i; retries = t.1 i }
-
--- the answer where the next history is asked for: bytes that are written are above 0
-abbrev pub NextFits : NextAnswer → Type 0
-NextFits (written bytes) = (1 ≤ bytes) × (bytes < retry_unit)
-NextFits last = Unit {0}
-
-pub next-tells : (a b : NextAnswer) → NextFits a → NextFits b → next_value a ≡ next_value b → a ≡ b
-next-tells (written k) (written m) f g e = ap written e
-next-tells (written k) last f g e = absurd (omega arith)
-next-tells last (written m) f g e = absurd (omega arith)
-next-tells last last f g e = refl
-
-pub next_low : (a : NextAnswer) → NextFits a → next_value a < retry_unit
-next_low (written bytes) f = f.1
-next_low last f = omega arith
 
 -- what is seen of a move: an event has a code from 1 to 8
 abbrev pub SeenFits : Seen → Type 0

@@ -8,36 +8,32 @@ use mathlib.Core.Path.{◌≡◌, refl, sym, subst, ap}
 use lib.Dec.{T, leb, eqb, leb→le, le→leb}
 use lib.ListN.{length, drop, length-append, length-drop}
 use Rattle.definitions.specs.Answers.{Test, test, Reply, accepted, refused, answered, passes_all, Delivery, room_test, delivery_reply}
-use Rattle.definitions.specs.Bounds.{most_threads, most_history, most_script, most_listed_events, most_listed_threads}
+use Rattle.definitions.specs.Bounds.{most_threads, most_history, most_script}
 use Rattle.definitions.specs.Chains.{requests_of}
 use Rattle.definitions.specs.Forms.{Form, threads, request, note, bad, line_form, first_form, first_tests, threads_first, line_tests}
 use Rattle.definitions.specs.Moves.{number_tests}
 use Rattle.definitions.specs.Nodes.{nodes_of, nodes_entry}
 use Rattle.definitions.specs.OpenMoves.{open_entry}
 use Rattle.definitions.specs.Phases.{node_of}
-use Rattle.definitions.specs.PlainLock.{Pair, pairs_of, history_bytes, tests_of, form_tests, pairs_tests, check_tests, check_reply}
+use Rattle.definitions.specs.PlainLock.{Pair, pairs_of, tests_of, check_tests, check_reply}
 use Rattle.definitions.specs.Plan.{plan_of, plan, plan_entry, plan_length_reply}
 use Rattle.definitions.specs.Run.{run_entry}
 use Rattle.definitions.specs.Scripts.{script_of, triples_tests, write_tests, write_entry, lines_tests, script_tests, threads_of_lines, Listed, read_entry}
-use Rattle.definitions.specs.ShortHistories.{histories_after, is_listed, first_history_tests, first_entry, next_answer, next_entry}
 use Rattle.definitions.specs.Sound.{table_tests}
 use Rattle.definitions.specs.Table.{sized, fresh_entry, table_of}
 use Rattle.definitions.specs.Texts.{Line, lines_of}
-use Rattle.definitions.specs.Threads.{gather, between}
+use Rattle.definitions.specs.Threads.{gather}
 use Rattle.definitions.specs.declared.Request.{Request}
-use Rattle.answer_numbers.specs.Encoding.{retry_unit, run_value, count_value, listed_value, next_value, value_of, value_in, value_bound, held_place, held}
-use Rattle.answer_numbers.proofs.Apart.{Fits, NextFits}
+use Rattle.answer_numbers.specs.Encoding.{retry_unit, run_value, count_value, listed_value, value_of, value_in, value_bound, held_place, held}
+use Rattle.answer_numbers.proofs.Apart.{Fits}
 use Rattle.basics.proofs.Lists.{length-list_of, Each}
 use Rattle.basics.proofs.Replies.{peel, pass}
 use Rattle.basics.proofs.TestLists.{passes_append, passes-split}
 use Rattle.basics.proofs.Tests.{and_l, and_r, cond_yes, cond_either}
 use Rattle.history.proofs.CheckLaws.{tests_e}
-use Rattle.orders.proofs.HistoryBytes.{bytes-long}
 use Rattle.runs.proofs.Lines.{lines-count, read-few}
 use Rattle.runs.proofs.RetriesCounted.{retries-few}
 use Rattle.runs.proofs.Suffices.{suffices}
-use Rattle.succession.proofs.AllListed.{next-least}
-use Rattle.succession.proofs.Successors.{first-long}
 use Rattle.theory.proofs.Bytes.{sized_e}
 use Rattle.theory.proofs.Lengths.{pairs-length, fresh-length}
 use Rattle.theory.proofs.OpenMovesExact.{open_short}
@@ -144,18 +140,15 @@ open_small bytes thread =
 -- ---- check and plan
 
 -- a history that passed test 8 has at most 60,000 bytes, so that its pairs' places are small
-pairs_fit : (n : ℕ) (bytes : List ℕ) → T (eqb (length bytes % 2) 0 && leb (length bytes) most_history) → TestsFit value_bound (pairs_tests n bytes)
+check-fits : (n : ℕ) (bytes : List ℕ) → TestsFit value_bound (check_tests n bytes)
 unfolding tests_of
-pairs_fit n bytes q = fits-gather value_bound (tests_of n (pairs_of bytes)) (length (pairs_of bytes)) pair
+check-fits n bytes = (omega arith, λ p. (omega arith, λ q. fits-gather value_bound (tests_of n (pairs_of bytes)) (length (pairs_of bytes)) (pair q)))
   where
-    pair : (k : ℕ) → k < length (pairs_of bytes) → TestsFit value_bound (tests_of n (pairs_of bytes) k)
-    pair k l =
+    pair : T (eqb (length bytes % 2) 0 && leb (length bytes) most_history) → (k : ℕ) → k < length (pairs_of bytes) → TestsFit value_bound (tests_of n (pairs_of bytes) k)
+    pair q k l =
         let short = leb→le (length bytes) most_history (and_r (eqb (length bytes % 2) 0) (leb (length bytes) most_history) q) in
         let below : k < value_bound = omega (arith, pairs-length bytes) in
         each_fits value_bound (tests_of n (pairs_of bytes) k) (omega arith)
-
-check-fits : (n : ℕ) (bytes : List ℕ) → TestsFit value_bound (check_tests n bytes)
-check-fits n bytes = (omega arith, λ p. (omega arith, λ q. pairs_fit n bytes q))
 
 -- what the check shows of a history
 checked : (n : ℕ) (bytes : List ℕ) → T (passes_all (check_tests n bytes)) → (n ≤ most_threads) × (length (pairs_of bytes) ≤ most_history / 2)
@@ -185,37 +178,6 @@ length_small n bytes r e =
 pub plan_small : (n : ℕ) (bytes : List ℕ) → SmallReply (plan_entry n bytes)
 plan_small n bytes =
     small_delivery (plan_entry n bytes) (check-fits n bytes) (plan-short n bytes)
-
--- ---- short histories
-
--- what passes test 14 has at most six events
-listed-most : (n events : ℕ) → T (is_listed n events) → (1 ≤ events) × (events ≤ most_listed_events)
-listed-most n events t =
-    let b = and_l (between 1 most_listed_events events) (leb n most_listed_threads) t in
-    (leb→le 1 events (and_l (leb 1 events) (leb events most_listed_events) b), leb→le events most_listed_events (and_r (leb 1 events) (leb events most_listed_events) b))
-
-pub first_small : (n events : ℕ) → SmallReply (first_entry n events)
-first_small n events =
-    small_delivery (first_entry n events) (each_fits value_bound (first_history_tests n events) (omega arith))
-    (λ p.
-    let a = peel _ _ p in
-    let least = leb→le 1 n (and_l (leb 1 n) (leb n most_threads) a.0) in
-    omega (arith, first-long n events least, (listed-most n events (peel _ [] a.1).0).1))
-
-pub next_small : (n : ℕ) (bytes : List ℕ) → SmallValue next_value NextFits (next_entry n bytes)
-next_small n bytes =
-    small_value next_value NextFits (next_entry n bytes)
-    (omega arith, λ p. (omega arith, λ q. (omega arith, λ r. pairs_fit n bytes q)))
-    (λ t.
-    let l = listed-most n (length (pairs_of bytes)) (peel _ _ (passes-split (form_tests n bytes) _ t).1).0 in
-    by (histories_after n (pairs_of bytes)) refl l)
-  where
-    by : (hs : List (List Pair)) → histories_after n (pairs_of bytes) ≡ hs → (1 ≤ length (pairs_of bytes)) × (length (pairs_of bytes) ≤ most_listed_events)
-        → (next_value (next_answer hs) < value_bound) × NextFits (next_answer hs)
-    by [] e l = (omega arith, tt)
-    by (g ∷ gs) e l =
-        let few : length (history_bytes g) ≡ 2 * length (pairs_of bytes) = omega (arith, bytes-long g, (next-least n (pairs_of bytes) g gs e).long) in
-        (omega (arith, few, l.1), (omega (arith, few, l.0), omega (arith, few, l.1)))
 
 -- ---- the run
 

@@ -12,7 +12,6 @@ use Rattle.definitions.specs.Moves.{is_retry, move_answer, reply_in, move_reply}
 use Rattle.definitions.specs.Nodes.{Arrow, arrows, Figure1}
 use Rattle.definitions.specs.Run.{run_entry}
 use Rattle.definitions.specs.Scripts.{read_entry}
-use Rattle.definitions.specs.ShortHistories.{next_entry}
 use Rattle.definitions.specs.Table.{table_of, byte_table}
 use Rattle.definitions.specs.Watch.{start_reply, event_reply, question_reply}
 use Rattle.definitions.specs.declared.Request.{Request}
@@ -23,14 +22,12 @@ use Rattle.basics.proofs.Tests.{cond_no}
 use Rattle.dispatching.proofs.TurnIsMove.{turn_is_move}
 use Rattle.theory.proofs.Figure1.{figure_on}
 use Rattle.theory.proofs.Storages.{accepts_e, accepted-reply}
-use Rattle.answer_numbers.specs.Calls.{CountCall, fresh-table, nodes, open_moves_lem, check, first-history, plan-length, plan-bytes, write_script, count_reply}
-use Rattle.answer_numbers.specs.Calls.{WatchCall, watch_start, watch_event, watch_reply}
-use Rattle.answer_numbers.specs.Encoding.{retry_unit, seen_value, move_value, turn_value, count_value, watch_value, inside_value, listed_value, next_value, run_value, Below}
-use Rattle.answer_numbers.specs.Encoding.{move_number, turn_number, run_number, count_number, watch_number, inside_number, read_number, next_number}
-use Rattle.answer_numbers.proofs.Apart.{Fits, told, low, SeenFits, seen_low, TurnFits, NextFits, bool_tells, listed-tells, next-tells, run-tells, move-tells, turn-tells}
+use Rattle.answer_numbers.specs.Calls.{CountCall, fresh-table, nodes, open_moves_call, check, plan-length, plan-bytes, write_script, count_reply, WatchCall, watch_start, watch_event, watch_reply}
+use Rattle.answer_numbers.specs.Encoding.{retry_unit, seen_value, move_value, turn_value, count_value, watch_value, inside_value, listed_value, run_value, Below}
+use Rattle.answer_numbers.specs.Encoding.{move_number, turn_number, run_number, count_number, watch_number, inside_number, read_number}
+use Rattle.answer_numbers.proofs.Apart.{Fits, told, low, SeenFits, seen_low, TurnFits, bool_tells, listed-tells, run-tells, move-tells, turn-tells}
 use Rattle.answer_numbers.proofs.Apart as apart
-use Rattle.answer_numbers.proofs.Small.{Few, ListedFits, fits-answer, fresh_small, nodes_small, open_small, check_small, first_small, next_small}
-use Rattle.answer_numbers.proofs.Small.{length_small, plan_small, write_small, read_small, run_small}
+use Rattle.answer_numbers.proofs.Small.{Few, ListedFits, fits-answer, fresh_small, nodes_small, open_small, check_small, length_small, plan_small, write_small, read_small, run_small}
 
 -- ---- the move
 
@@ -92,9 +89,8 @@ turn_low table = low TurnFits turn_value retry_unit apart.turn_low (dispatch_rep
 count_fits_lem : (a : CountCall) → Fits Few (count_reply a)
 count_fits_lem (fresh-table n out) = (fresh_small n out _ refl).1
 count_fits_lem (nodes table out) = (nodes_small table out _ refl).1
-count_fits_lem (open_moves_lem table thread out) = (open_small table thread out _ refl).1
+count_fits_lem (open_moves_call table thread out) = (open_small table thread out _ refl).1
 count_fits_lem (check n history) = (check_small n history _ refl).1
-count_fits_lem (first-history n events out) = (first_small n events out _ refl).1
 count_fits_lem (plan-length n history) = (length_small n history _ refl).1
 count_fits_lem (plan-bytes n history out) = (plan_small n history out _ refl).1
 count_fits_lem (write_script n triples out) = (write_small n triples out _ refl).1
@@ -104,17 +100,6 @@ count_told a b e = told Few count_value (λ m n f g d. d) (count_reply a) (count
 
 pub count_low : (a : CountCall) → Below retry_unit count_value (count_reply a)
 count_low a = low Few count_value retry_unit (λ k f. f) (count_reply a) (count_fits_lem a)
-
--- ---- the next history
-
-pub next_told : (n m : ℕ) (h g out back : List ℕ) → next_number (delivery_reply (next_entry n h) out) ≡ next_number (delivery_reply (next_entry m g) back)
-    → delivery_reply (next_entry n h) out ≡ delivery_reply (next_entry m g) back
-next_told n m h g out back e =
-    told NextFits next_value next-tells (delivery_reply (next_entry n h) out) (delivery_reply (next_entry m g) back)
-    (next_small n h out _ refl).1 (next_small m g back _ refl).1 e
-
-pub next_low : (n : ℕ) (h out : List ℕ) → Below retry_unit next_value (delivery_reply (next_entry n h) out)
-next_low n h out = low NextFits next_value retry_unit apart.next_low (delivery_reply (next_entry n h) out) (next_small n h out _ refl).1
 
 -- ---- the watcher
 

@@ -5,7 +5,6 @@ use Rattle.definitions.specs.Answers.{Reply, accepted, refused, Seen, shown, qui
 use Rattle.definitions.specs.Dispatch.{DispatchAnswer, made, waiting}
 use Rattle.definitions.specs.Run.{RunCounts}
 use Rattle.definitions.specs.Scripts.{Listed}
-use Rattle.definitions.specs.ShortHistories.{NextAnswer, written, last}
 
 -- one rule for every entry, given the value of what it answers
 unfoldable pub encoded : {A : Type 0} → (A → ℕ) → Reply A → ℕ
@@ -52,11 +51,6 @@ inside_value inside = cond inside 1 0
 abbrev pub listed_value : Listed → ℕ
 listed_value l = l.threads + 256 * l.bytes
 
--- where the next history is asked for, the number of bytes, which is above 0, and 0 for the last one (02 §9)
-abbrev pub next_value : NextAnswer → ℕ
-next_value (written bytes) = bytes
-next_value last = 0
-
 -- what the move entry answers for its reply, the dispatcher and the run for theirs, the watcher's for theirs, and every other entry for its own
 abbrev pub move_number : Reply MoveAnswer → ℕ
 move_number = encoded move_value
@@ -75,9 +69,6 @@ inside_number = encoded inside_value
 
 abbrev pub read_number : Reply Listed → ℕ
 read_number = encoded listed_value
-
-abbrev pub next_number : Reply NextAnswer → ℕ
-next_number = encoded next_value
 
 abbrev pub count_number : Reply ℕ → ℕ
 count_number = encoded count_value
@@ -100,9 +91,6 @@ listed_in = value_of listed_value
 
 abbrev pub run_in : Reply RunCounts → ℕ
 run_in = value_of run_value
-
-abbrev pub next_in : Reply NextAnswer → ℕ
-next_in = value_of next_value
 
 -- values stay below this, so that an answer fits 64 bits
 abbrev pub value_bound : ℕ

@@ -5,12 +5,11 @@ ghost use Rattle.std.specs.Prelude.{◌<◌, ◌≡◌};
 ghost use Rattle.definitions.specs.Answers.{answer_reply};
 ghost use Rattle.definitions.specs.Run.{running_reply};
 ghost use Rattle.definitions.specs.Scripts.{reading_reply};
-ghost use Rattle.definitions.specs.ShortHistories.{next_reply};
 ghost use Rattle.definitions.specs.Watch.{watched_reply, inside_reply};
-ghost use Rattle.answer_numbers.specs.Encoding.{run_number, count_number, watch_number, inside_number, read_number, next_number, value_in, listed_in, run_in, next_in, value_bound, held};
+ghost use Rattle.answer_numbers.specs.Encoding.{run_number, count_number, watch_number, inside_number, read_number, value_in, listed_in, run_in, value_bound, held};
 
 use codes::number_of;
-use definitions::{Answer, Inside, NextHistory, Reading, Running, Watched};
+use definitions::{Answer, Inside, Reading, Running, Watched};
 
 // The largest place that stands beside a refusal's number.
 const MOST_PLACE: usize = 36_028_797_018_963_967;
@@ -69,18 +68,6 @@ pub fn reading_number(answer: Reading) -> u64
     match answer {
         Reading::Read { threads, bytes } => 256 * (threads as u64 + 256 * (bytes as u64)),
         Reading::Refused(refusal, line) => 256 * (line as u64) + (number_of(refusal) as u64),
-    }
-}
-
-// The number of the answer where the next history is asked for; that the given one was the last is 0, as no bytes are written.
-pub fn next_number(answer: NextHistory) -> u64
-    requires { next_in (next_reply answer) < value_bound }
-    ensures { result ≡ next_number (next_reply answer) }
-{
-    match answer {
-        NextHistory::Written(bytes) => 256 * (bytes as u64),
-        NextHistory::Last => 0,
-        NextHistory::Refused(refusal, index) => 256 * (index as u64) + (number_of(refusal) as u64),
     }
 }
 

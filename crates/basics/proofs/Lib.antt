@@ -1,4 +1,4 @@
--- Facts on tests, on all, some and many threads, on lists, lists in order, columns and sums, on texts and numbers, on replies, and on outputs; each file says what it shows.
+-- Facts on tests, on all, some and many threads, on lists, columns and sums, on texts and numbers, on replies, and on outputs; each file says what it shows.
 pub mod Tests
 pub mod Quantifiers
 pub mod Lowest
@@ -7,7 +7,6 @@ pub mod Casts
 pub mod Matches
 pub mod Lists
 pub mod Gathering
-pub mod Ordered
 pub mod Texts
 pub mod Numbers
 pub mod Digits

@@ -47,6 +47,5 @@ pub fn number_of(refusal: Refusal) -> u8
         Refusal::Occupied => 11,
         Refusal::NoRoom => 12,
         Refusal::Inconsistent => 13,
-        Refusal::NotListed => 14,
     }
 }

@@ -9,6 +9,5 @@ pub mod Dispatching
 pub mod Watching
 pub mod Writing
 pub mod Measuring
-pub mod Listing
 pub mod Noting
 pub mod Restarting

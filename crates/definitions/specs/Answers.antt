@@ -13,8 +13,7 @@ use Rattle.definitions.specs.declared.MaybeEvent.TheVariants.{Known, Unknown}
 use Rattle.definitions.specs.declared.Outcome.{Outcome}
 use Rattle.definitions.specs.declared.Outcome.TheVariants as outcome
 use Rattle.definitions.specs.declared.Refusal.{Refusal}
-use Rattle.definitions.specs.declared.Refusal.TheVariants.{BadSize, Unsound, NoThread, NoMove, BadTarget, NotInPhase, MutexHeld}
-use Rattle.definitions.specs.declared.Refusal.TheVariants.{BadForm, UnknownPair, NotNext, Occupied, NoRoom, Inconsistent, NotListed}
+use Rattle.definitions.specs.declared.Refusal.TheVariants.{BadSize, Unsound, NoThread, NoMove, BadTarget, NotInPhase, MutexHeld, BadForm, UnknownPair, NotNext, Occupied, NoRoom, Inconsistent}
 
 -- ---- events and refusals by number
 
@@ -47,7 +46,7 @@ events =
 unfoldable pub event_of : ℕ → MaybeEvent
 event_of code = get_or events code Unknown
 
--- "Turned down, in checking order": the numbers 1 to 12; "New: 13, the watcher record is inconsistent" (02 §2); "New: 14, a length outside 1 to 6 events or N from 4 to 200" (02 §9)
+-- "Turned down, in checking order": the numbers 1 to 12; "New: 13, the watcher record is inconsistent" (02 §2)
 abbrev pub number_of : Refusal → ℕ
 number_of BadSize = 1
 number_of Unsound = 2
@@ -62,7 +61,6 @@ number_of NotNext = 10
 number_of Occupied = 11
 number_of NoRoom = 12
 number_of Inconsistent = 13
-number_of NotListed = 14
 
 -- ---- replies
 

@@ -1,4 +1,4 @@
--- The bounds of the scope paper, each named once: threads, phases, moves, "no target", events, histories, scripts and their output, the depth of a note, and the histories that are listed.
+-- The bounds of the scope paper, each named once: threads, phases, moves, "no target", events, histories, scripts and their output, and the depth of a note.
 use Rattle.std.specs.Prelude.{ℕ}
 
 -- "N threads, 1 to 200"
@@ -39,10 +39,3 @@ enough_output = 65_536
 -- "round brackets balance, to depth 16 with the outermost as 1"
 abbrev pub most_depth : ℕ
 most_depth = 16
-
--- "every permitted history of 1 to 6 events for 1 to 3 threads" (02 §9)
-abbrev pub most_listed_events : ℕ
-most_listed_events = 6
-
-abbrev pub most_listed_threads : ℕ
-most_listed_threads = 3

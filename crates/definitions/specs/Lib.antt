@@ -11,7 +11,6 @@ pub mod Moves
 pub mod OpenMoves
 pub mod Dispatch
 pub mod PlainLock
-pub mod ShortHistories
 pub mod Watch
 pub mod Plan
 pub mod Chains

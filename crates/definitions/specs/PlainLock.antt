@@ -11,18 +11,10 @@ pub record Pair : Type 0 where
   pub thread : ℕ
   pub event : ℕ
 
--- a thread's event
-abbrev pub pair_of : ℕ → ℕ → Pair
-pair_of thread event = record { thread = thread; event = event }
-
 unfoldable pub pairs_of : List ℕ → List Pair
 pairs_of [] = []
 pairs_of (t ∷ []) = []
-pairs_of (t ∷ e ∷ rest) = pair_of t e ∷ pairs_of rest
-
-unfoldable pub history_bytes : List Pair → List ℕ
-history_bytes [] = []
-history_bytes (x ∷ xs) = x.thread ∷ x.event ∷ history_bytes xs
+pairs_of (t ∷ e ∷ rest) = record { thread = t; event = e } ∷ pairs_of rest
 
 -- each thread's place in its round
 abbrev pub Places : Type 0

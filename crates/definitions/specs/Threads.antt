@@ -1,4 +1,4 @@
--- Words on the threads 0 to n - 1, and on short lists: every, some, how many, the lowest; a sum; one entry for each; membership; those that pass; a list of rules.
+-- Words on the threads 0 to n - 1, and on short lists: every, some, how many, the lowest; a sum; one entry for each; membership; a list of rules.
 -- What the papers say of threads is said by these.
 use Rattle.std.specs.Prelude.{ℕ, zero, suc, ◌+◌, Bool, true, false, cond, ◌&&◌, ◌||◌, List, [], ◌∷◌, ◌++◌, leb, eqb}
 
@@ -41,11 +41,6 @@ gather (suc n) f = gather n f ++ f n
 unfoldable pub among : ℕ → List ℕ → Bool
 among x [] = false
 among x (y ∷ ys) = eqb x y || among x ys
-
--- those of a list of which f holds, in its order
-unfoldable pub those {ℓ} : {A : Type ℓ} → (A → Bool) → List A → List A
-those f [] = []
-those f (x ∷ xs) = cond (f x) (x ∷ those f xs) (those f xs)
 
 -- x is from a to b
 abbrev pub between : ℕ → ℕ → ℕ → Bool

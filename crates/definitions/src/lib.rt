@@ -52,11 +52,6 @@ pub const ENOUGH_OUTPUT: usize = 65_536;
 // "to depth 16 with the outermost as 1"
 pub const MOST_DEPTH: u8 = 16;
 
-// "every permitted history of 1 to 6 events for 1 to 3 threads" (02 §9)
-pub const MOST_LISTED_EVENTS: u16 = 6;
-
-pub const MOST_LISTED_THREADS: u16 = 3;
-
 // "A request is thread, move and target, 16 bits each"
 #[derive(Drop)]
 pub struct Request {
@@ -124,8 +119,7 @@ impl Event {
     }
 }
 
-// Why a request is turned down: the numbers 1 to 12 in checking order; 13 of the watcher, tested after 1 and before 9; 14 of
-// short histories, tested after 8 and before 9.
+// Why a request is turned down: the numbers 1 to 12 in checking order, and 13 of the watcher, tested after 1 and before 9.
 #[derive(Drop)]
 pub enum Refusal {
     BadSize,
@@ -141,7 +135,6 @@ pub enum Refusal {
     Occupied,
     NoRoom,
     Inconsistent,
-    NotListed,
 }
 
 // What a move answers. The table stays in the lent bytes.
@@ -199,15 +192,6 @@ pub enum Running {
 #[derive(Drop)]
 pub enum Reading {
     Read { threads: u8, bytes: usize },
-    Refused(Refusal, usize),
-}
-
-// What is answered where the next history is asked for: the number of bytes written, or that the given one was the last, or the
-// refusal and its place (02 §9).
-#[derive(Drop)]
-pub enum NextHistory {
-    Written(usize),
-    Last,
     Refused(Refusal, usize),
 }
 

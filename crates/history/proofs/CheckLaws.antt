@@ -1,19 +1,16 @@
 -- The tests for 1 and 8, before the pairs are judged.
 use Prim.Native.Nat.{ℕ, ◌%◌, ◌≤◌}
 use mathlib.Core.Bool.{Bool, true, false, ◌&&◌}
-use mathlib.Core.List.{List, [], ◌∷◌, ◌++◌}
-use mathlib.Core.Path.{◌≡◌, sym, ap, ◌∙◌}
+use mathlib.Core.List.{List, [], ◌∷◌}
+use mathlib.Core.Path.{◌≡◌, sym, ◌∙◌}
 use lib.Dec.{T, leb, eqb, leb→le, le→leb, eqb→eq}
 use lib.ListN.{length}
-use Rattle.definitions.specs.Answers.{number_of, refused, answer_reply, Test, test, answered, passes_all}
+use Rattle.definitions.specs.Answers.{refused, Test, test, answered, passes_all}
 use Rattle.definitions.specs.Bounds.{most_threads, most_history}
 use Rattle.definitions.specs.PlainLock.{form_tests, pairs_tests, check_tests}
 use Rattle.definitions.specs.Table.{count_fits}
-use Rattle.definitions.specs.declared.Answer.{Answer}
-use Rattle.definitions.specs.declared.Answer.TheVariants.{Done, Refused}
-use Rattle.definitions.specs.declared.Refusal.{Refusal}
-use Rattle.basics.proofs.Replies.{passed, failed, peel, pass, no_test, in_front_lem}
-use Rattle.basics.proofs.TestLists.{passes-split, passes-join, answered_e}
+use Rattle.basics.proofs.Replies.{passed, failed, peel, pass, no_test}
+use Rattle.basics.proofs.TestLists.{passes-split, passes-join}
 use Rattle.basics.proofs.Tests.{and_l, and_r, and_i, true-T, false-T, eq_T}
 
 -- what a history that passes the tests for 1 and 8 shows
@@ -33,7 +30,7 @@ module _ (n : ℕ) (bytes : List ℕ) where
   abbrev form : Test
   form = test 8 formed
 
-  pub formed_e : T (passes_all (form_tests n bytes)) → Formed n bytes
+  formed_e : T (passes_all (form_tests n bytes)) → Formed n bytes
   formed_e t =
       let a = peel size (form ∷ []) t in
       let b = peel form [] a.1 in
@@ -56,21 +53,13 @@ module _ (n : ℕ) (bytes : List ℕ) where
   pub tests_i : Formed n bytes → T (passes_all (pairs_tests n bytes)) → T (passes_all (check_tests n bytes))
   tests_i f t = passes-join (form_tests n bytes) (pairs_tests n bytes) (formed_i f) t
 
-  -- what is answered by them, whatever is tested behind them
-  module _ (us : List Test) (answer : ℕ) where
-    pub bad-size : count_fits n ≡ false → refused 1 0 ≡ answered (form_tests n bytes ++ us) answer
-    bad-size e = sym (failed size (form ∷ us) answer (false-T (count_fits n) e))
+  -- what the check answers by them: its first refusals, or what the pairs decide
+  module _ (answer : ℕ) where
+    pub bad-size : count_fits n ≡ false → refused 1 0 ≡ answered (check_tests n bytes) answer
+    bad-size e = sym (failed size (form ∷ pairs_tests n bytes) answer (false-T (count_fits n) e))
 
-    pub bad_form : count_fits n ≡ true → formed ≡ false → refused 8 0 ≡ answered (form_tests n bytes ++ us) answer
-    bad_form e f = sym (passed size (form ∷ us) answer (true-T (count_fits n) e) ∙ failed form us answer (false-T formed f))
+    pub bad_form : count_fits n ≡ true → formed ≡ false → refused 8 0 ≡ answered (check_tests n bytes) answer
+    bad_form e f = sym (passed size (form ∷ pairs_tests n bytes) answer (true-T (count_fits n) e) ∙ failed form (pairs_tests n bytes) answer (false-T formed f))
 
-    pub good_form : count_fits n ≡ true → formed ≡ true → answered us answer ≡ answered (form_tests n bytes ++ us) answer
-    good_form e f = sym (passed size (form ∷ us) answer (true-T (count_fits n) e) ∙ passed form us answer (true-T formed f))
-
-  -- what an answer by them alone says of tests behind them
-  module _ (a : Answer) (answer : ℕ) (e : answer_reply a ≡ answered (form_tests n bytes) answer) where
-    pub turned_form : {B : Type 0} (us : List Test) (b : B) (r : Refusal) (place : ℕ) → a ≡ Refused r place → answered (form_tests n bytes ++ us) b ≡ refused (number_of r) place
-    turned_form us b r place q = in_front_lem b answer (form_tests n bytes) us (number_of r) place (sym e ∙ ap answer_reply q)
-
-    pub passed_form : (pairs : ℕ) → a ≡ Done pairs → T (passes_all (form_tests n bytes)) × (answer ≡ pairs)
-    passed_form pairs q = answered_e (form_tests n bytes) answer pairs (sym e ∙ ap answer_reply q)
+    pub good_form : count_fits n ≡ true → formed ≡ true → answered (pairs_tests n bytes) answer ≡ answered (check_tests n bytes) answer
+    good_form e f = sym (passed size (form ∷ pairs_tests n bytes) answer (true-T (count_fits n) e) ∙ passed form (pairs_tests n bytes) answer (true-T formed f))

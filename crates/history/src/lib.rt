@@ -1,15 +1,16 @@
 // The check of a history: its N and its form, and then its pairs.
-ghost use Rattle.std.specs.Prelude.{◌≡◌, length};
-ghost use Rattle.definitions.specs.Answers.{answered, answer_reply};
-ghost use Rattle.definitions.specs.PlainLock.{pairs_of, form_tests, check_reply};
+ghost use Rattle.std.specs.Prelude.{◌≡◌};
+ghost use Rattle.definitions.specs.Answers.{answer_reply};
+ghost use Rattle.definitions.specs.PlainLock.{check_reply};
 
 use codes::count_fits;
 use definitions::{Answer, MOST_HISTORY, Refusal};
 use pairs::check_pairs;
 
-// Refusals 1 and 8. A history that passes answers its number of pairs.
-pub fn check_form(threads: u16, history: &[u8]) -> Answer
-    ensures { answer_reply result ≡ answered (form_tests threads history.now) (length (pairs_of history.now)) }
+// Refusals 1 and 8; then pair by pair 9, 10, 11, with the index of the first bad pair. An accepted history answers its number
+// of events.
+pub fn check(threads: u16, history: &[u8]) -> Answer
+    ensures { answer_reply result ≡ check_reply threads history.now }
 {
     let count = threads as usize;
     if !count_fits(count) {
@@ -19,17 +20,5 @@ pub fn check_form(threads: u16, history: &[u8]) -> Answer
     if !formed {
         return Answer::Refused(Refusal::BadForm, 0);
     }
-    Answer::Done(history.len() / 2)
-}
-
-// Refusals 1 and 8; then pair by pair 9, 10, 11, with the index of the first bad pair. An accepted history answers its number
-// of events.
-pub fn check(threads: u16, history: &[u8]) -> Answer
-    ensures { answer_reply result ≡ check_reply threads history.now }
-{
-    let formed = check_form(threads, history);
-    let Answer::Done(pairs) = formed else {
-        return formed;
-    };
     check_pairs(threads, history)
 }

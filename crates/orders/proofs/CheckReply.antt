@@ -23,7 +23,7 @@ use Rattle.theory.proofs.Lengths.{pairs-length}
 
 module _ (n : ℕ) (bytes : List ℕ) where
   -- permitted as the tests of all pairs
-  pub permitted-tests : passes_all (pairs_tests n bytes) ≡ permitted n (pairs_of bytes)
+  permitted-tests : passes_all (pairs_tests n bytes) ≡ permitted n (pairs_of bytes)
   unfolding permitted
   permitted-tests = gathered (tests_of n (pairs_of bytes)) (length (pairs_of bytes))
 
@@ -84,6 +84,6 @@ check-refused n bytes number place e l = by (count_fits n) (formed n bytes) refl
     low k few d = absurd (let z : k ≡ number = cc in omega arith)
 
     by : (a b : Bool) → count_fits n ≡ a → formed n bytes ≡ b → FirstBad n (pairs_of bytes) number place
-    by false b p q = low 1 (omega arith) (bad-size n bytes (pairs_tests n bytes) count p)
-    by true false p q = low 8 (omega arith) (bad_form n bytes (pairs_tests n bytes) count p q)
-    by true true p q = first_bad n (pairs_of bytes) number place (good_form n bytes (pairs_tests n bytes) count p q ∙ e)
+    by false b p q = low 1 (omega arith) (bad-size n bytes count p)
+    by true false p q = low 8 (omega arith) (bad_form n bytes count p q)
+    by true true p q = first_bad n (pairs_of bytes) number place (good_form n bytes count p q ∙ e)

@@ -5,12 +5,13 @@ use mathlib.Core.Bool.{Bool, false, cond, not, ◌&&◌}
 use mathlib.Core.List.{List, [], ◌∷◌}
 use mathlib.Core.Path.{◌≡◌, refl, sym, subst, ap}
 use lib.Dec.{T, ltb, eqb, eqb→eq}
-use Rattle.definitions.specs.PlainLock.{Pair, pair_of, Places, at_start, advanced, places_after, is_next, any_in_shared, any_in_exclusive}
+use Rattle.definitions.specs.PlainLock.{Pair, Places, at_start, advanced, places_after, is_next, any_in_shared, any_in_exclusive}
 use Rattle.definitions.specs.Plan.{plan}
 use Rattle.definitions.specs.Sound.{sound}
 use Rattle.definitions.specs.Table.{Table, fresh_table}
 use Rattle.definitions.specs.Threads.{list_of}
 use Rattle.orders.specs.Rounds.{rest_phase}
+use Rattle.orders.specs.Histories.{pair_of}
 use Rattle.plain_lock.specs.Permitted.{pair_fits, permitted_from}
 use Rattle.basics.proofs.Cases.{or_at, none_of, among_range}
 use Rattle.basics.proofs.Quantifiers.{none_i}

@@ -15,7 +15,7 @@ use Rattle.definitions.specs.Bounds.{most_threads}
 use Rattle.definitions.specs.Chains.{history_in, history, table_after, requests_of}
 use Rattle.definitions.specs.Forms.{Form, threads, request, note, bad, first_form, threads_first}
 use Rattle.definitions.specs.Phases.{rows}
-use Rattle.definitions.specs.PlainLock.{Pair, pairs_of, history_bytes, at_start, places_after, permitted, check_reply}
+use Rattle.definitions.specs.PlainLock.{Pair, pairs_of, at_start, places_after, permitted, check_reply}
 use Rattle.definitions.specs.Plan.{plan, bytes_of, plan_entry}
 use Rattle.definitions.specs.Run.{event_lines, run_output_of}
 use Rattle.definitions.specs.Scripts.{threads_of_lines, threads_of, move_lines}
@@ -24,7 +24,7 @@ use Rattle.definitions.specs.Texts.{Line, lines_of}
 use Rattle.definitions.specs.Threads.{every}
 use Rattle.definitions.specs.declared.Request.{Request}
 use Rattle.runs.specs.Requests.{Closes, moves_from, moves_first, moves_of_lines, moves_of}
-use Rattle.orders.specs.Histories.{most_events, AllBytes, Passes, FirstBad, Makes}
+use Rattle.orders.specs.Histories.{most_events, history_bytes, AllBytes, Passes, FirstBad, Makes}
 use Rattle.orders.specs.Rounds.{place_of, places_of}
 use Rattle.plain_lock.specs.Permitted.{permitted_from}
 use Rattle.plain_lock.proofs.PlainLaws.{permitted_is}

@@ -10,12 +10,13 @@ use Rattle.definitions.specs.Bounds.{no_target}
 use Rattle.definitions.specs.Codes.{go, set_move, clear_move}
 use Rattle.definitions.specs.Moves.{ask, quietly, showing, all_forbidden, go_effect, set_effect, clear_effect, effect}
 use Rattle.definitions.specs.Phases.{rows, holds, has_move}
-use Rattle.definitions.specs.PlainLock.{pair_of, Places, advanced, any_in_shared, any_in_exclusive}
+use Rattle.definitions.specs.PlainLock.{Places, advanced, any_in_shared, any_in_exclusive}
 use Rattle.definitions.specs.Plan.{plan_of}
 use Rattle.definitions.specs.Sound.{sound}
 use Rattle.definitions.specs.Table.{Table, mutex≔, target≔, phase≔, forbidden≔, update, applied}
 use Rattle.definitions.specs.Threads.{every, among, gather}
 use Rattle.orders.specs.Rounds.{rest_phase}
+use Rattle.orders.specs.Histories.{pair_of}
 use Rattle.basics.proofs.Quantifiers.{below_suc, every_at, every_i, some_i, none_at, none_i}
 use Rattle.basics.proofs.Tests.{T_true, T_false, false-T, or_e, or_l, or_r, same_test, not_i, cond_yes, cond_no, eq_T, ne_T, same?}
 use Rattle.basics.proofs.Columns.{update_same, update_other, along, same_column, kept, through, update_twice}

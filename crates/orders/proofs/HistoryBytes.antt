@@ -6,8 +6,8 @@ use mathlib.Core.Path.{◌≡◌, refl, ap}
 use lib.Dec.{T, leb, leb→le}
 use lib.ListN.{length}
 use Rattle.definitions.specs.Bounds.{most_threads, first_event, last_event}
-use Rattle.definitions.specs.PlainLock.{Pair, Places, pairs_of, history_bytes, advanced}
-use Rattle.orders.specs.Histories.{AllBytes}
+use Rattle.definitions.specs.PlainLock.{Pair, Places, pairs_of, advanced}
+use Rattle.orders.specs.Histories.{history_bytes, AllBytes}
 use Rattle.plain_lock.specs.Permitted.{pair_fits, permitted_from}
 use Rattle.basics.proofs.Tests.{and_l, and_r}
 use Rattle.orders.proofs.PairTests.{permits_e}

@@ -10,12 +10,13 @@ use Rattle.definitions.specs.Bounds.{no_target}
 use Rattle.definitions.specs.Codes.{go, call_shared, call_exclusive}
 use Rattle.definitions.specs.Moves.{ask, quietly, showing, go_effect, effect}
 use Rattle.definitions.specs.Phases.{rows, has_move}
-use Rattle.definitions.specs.PlainLock.{Pair, pair_of, Places, place_after, advanced, any_in_exclusive}
+use Rattle.definitions.specs.PlainLock.{Pair, Places, place_after, advanced, any_in_exclusive}
 use Rattle.definitions.specs.Plan.{plan_of}
 use Rattle.definitions.specs.Sound.{sound}
 use Rattle.definitions.specs.Table.{Table, phase≔, busy≔, update, applied}
 use Rattle.definitions.specs.Threads.{some, among}
 use Rattle.orders.specs.Rounds.{rest_phase}
+use Rattle.orders.specs.Histories.{pair_of}
 use Rattle.basics.proofs.Columns.{update_same, along, kept, through, update-kept, update_twice}
 use Rattle.theory.proofs.Writes.{same-table}
 use Rattle.theory.proofs.Chains.{Leads, both, arrives, makes, makes-go}

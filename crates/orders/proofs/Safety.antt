@@ -12,12 +12,13 @@ use Rattle.definitions.specs.Bounds.{first_event, last_event, last_phase}
 use Rattle.definitions.specs.Chains.{pair_seen, pair_for, history_in, after_in}
 use Rattle.definitions.specs.Moves.{Effect, quietly, showing, effect, reply_in, step_in, accepts_in}
 use Rattle.definitions.specs.Phases.{rows, holds, reading}
-use Rattle.definitions.specs.PlainLock.{Pair, pair_of, Places, place_after, advanced, places_after, is_next, any_in_shared, any_in_exclusive, need_met}
+use Rattle.definitions.specs.PlainLock.{Pair, Places, place_after, advanced, places_after, is_next, any_in_shared, any_in_exclusive, need_met}
 use Rattle.definitions.specs.Sound.{sound}
 use Rattle.definitions.specs.Table.{Table, Write, phase≔, update, applied, itself}
 use Rattle.definitions.specs.Threads.{every, some, between, implies}
 use Rattle.definitions.specs.declared.Request.{Request}
 use Rattle.orders.specs.Rounds.{place_of, places_of}
+use Rattle.orders.specs.Histories.{pair_of}
 use Rattle.plain_lock.specs.Permitted.{pair_fits, permitted_from}
 use Rattle.basics.proofs.Quantifiers.{every_at, none_i}
 use Rattle.basics.proofs.Tests.{and_i, implies_e, decided, not_i}

@@ -3,7 +3,7 @@ use Rattle.std.specs.Prelude.{ℕ, ◌*◌, ◌≤◌, List, ◌++◌, ◌↔◌
 use Rattle.definitions.specs.Answers.{accepted, refused, filled, delivery_reply, delivery_output}
 use Rattle.definitions.specs.Bounds.{most_threads}
 use Rattle.definitions.specs.Chains.{history, table_after, requests_of}
-use Rattle.definitions.specs.PlainLock.{Pair, pairs_of, history_bytes, places_after, permitted, check_reply}
+use Rattle.definitions.specs.PlainLock.{Pair, pairs_of, places_after, permitted, check_reply}
 use Rattle.definitions.specs.Plan.{plan, bytes_of, plan_entry}
 use Rattle.definitions.specs.Scripts.{threads_of}
 use Rattle.definitions.specs.Table.{table_of, fresh}
@@ -12,7 +12,7 @@ use Rattle.basics.specs.Outputs.{Delivered}
 use Rattle.plain_lock.specs.Permitted.{permitted_from}
 use Rattle.runs.specs.Requests.{moves_of}
 use Rattle.theory.specs.Tables.{SoundBytes}
-use Rattle.orders.specs.Histories.{most_events, AllBytes, Passes, FirstBad, Makes}
+use Rattle.orders.specs.Histories.{most_events, history_bytes, AllBytes, Passes, FirstBad, Makes}
 use Rattle.orders.specs.Rounds.{places_of}
 
 pub record EveryOrder : Type 0 where

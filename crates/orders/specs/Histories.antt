@@ -1,4 +1,4 @@
--- Histories and the requests that make them: what the check passes, what a first bad pair is, and a list of requests that shows a history.
+-- Histories and the requests that make them: the bytes of a list of pairs, what the check passes, what a first bad pair is, and a list of requests that shows a history.
 use Rattle.std.specs.Prelude.{ℕ, ◌*◌, ◌/◌, ◌≤◌, ◌<◌, List, [], ◌∷◌, ◌≡◌, T, length}
 use Rattle.definitions.specs.Answers.{refused, answered, passes_all}
 use Rattle.definitions.specs.Bounds.{most_threads, most_history}
@@ -10,6 +10,15 @@ use Rattle.definitions.specs.declared.Request.{Request}
 -- 60,000 bytes are this many pairs
 abbrev pub most_events : ℕ
 most_events = most_history / 2
+
+-- a thread's event
+abbrev pub pair_of : ℕ → ℕ → Pair
+pair_of thread event = record { thread = thread; event = event }
+
+-- "A history is a list of byte pairs, thread then event."
+unfoldable pub history_bytes : List Pair → List ℕ
+history_bytes [] = []
+history_bytes (x ∷ xs) = x.thread ∷ x.event ∷ history_bytes xs
 
 -- numbers that are bytes
 abbrev pub AllBytes : List ℕ → Type 0

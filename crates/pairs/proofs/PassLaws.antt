@@ -3,7 +3,7 @@ use Prim.Native.Nat.{ℕ, zero, suc, ◌+◌, ◌*◌, ◌/◌, ◌≤◌, ◌<�
 use native.Mathlib.Omega.{arith}
 use mathlib.Core.List.{List, [], ◌∷◌}
 use mathlib.Core.Path.{◌≡◌, refl, sym, subst, ap, ◌∙◌, fun_ext}
-use lib.Dec.{T}
+use lib.Dec.{T, eqb}
 use lib.ListN.{length, get_or, set, take, replicate, length-set, length-replicate}
 use Rattle.definitions.specs.Answers.{number_of, accepted, refused, Test, answered, passes_all}
 use Rattle.definitions.specs.Bounds.{most_threads}
@@ -11,22 +11,22 @@ use Rattle.definitions.specs.PlainLock.{Pair, pairs_of, Places, places_in, at_st
 use Rattle.definitions.specs.Threads.{gather}
 use Rattle.definitions.specs.declared.Refusal.{Refusal}
 use Rattle.plain_lock.specs.Counts.{total_at, standing_of, standing_after, Counted}
-use Rattle.plain_lock.specs.Permitted.{no_pair}
 use Rattle.plain_lock.specs.declared.Standing.{Standing}
 use Rattle.plain_lock.specs.declared.Verdict.{Verdict}
 use Rattle.plain_lock.specs.declared.Verdict.TheVariants.{Fits, Bad}
 use Rattle.basics.proofs.Lists.{zeros}
+use Rattle.basics.proofs.Quantifiers.{how_many_none}
 use Rattle.basics.proofs.Replies.{all-passed}
 use Rattle.basics.proofs.TestLists.{one_more, first_failed}
 use Rattle.theory.proofs.Lengths.{pairs-length}
 use Rattle.theory.proofs.Pairs.{pair_at}
-use Rattle.plain_lock.proofs.PlainLaws.{places_more, in_round_lem, places_in-set}
-use Rattle.plain_lock.proofs.StandingLaws.{none_inside, is_counted, same-standing}
+use Rattle.plain_lock.proofs.PlainLaws.{no_pair, places_more, is_in_round, places_in-set}
+use Rattle.plain_lock.proofs.StandingLaws.{is_counted, same-standing}
 use Rattle.plain_lock.proofs.VerdictLaws.{VerdictOf, bad_verdict, fit_verdict}
 
 -- ---- the pairs of the bytes
 
-pub pair_at_lem : (bytes : List ℕ) (k : ℕ) → k < length bytes / 2 → get_or (pairs_of bytes) k no_pair ≡ pair_at bytes k
+pair_at_lem : (bytes : List ℕ) (k : ℕ) → k < length bytes / 2 → get_or (pairs_of bytes) k no_pair ≡ pair_at bytes k
 unfolding pairs_of
 pair_at_lem [] k l = absurd (omega arith)
 pair_at_lem (t ∷ []) k l = absurd (omega arith)
@@ -56,7 +56,11 @@ passed_none n bytes =
       within = omega arith;
       size = length-replicate {A = ℕ} 256 0;
       after = fun_ext (zeros 256);
-      counted = none_inside n (places_in (replicate 256 0)) (zeros 256);
+      counted = omega (
+        arith,
+        how_many_none (λ t. eqb (places_in (replicate 256 0) t) 2) n (λ t l. rw (zeros 256 t) tt),
+        how_many_none (λ t. eqb (places_in (replicate 256 0) t) 6) n (λ t l. rw (zeros 256 t) tt),
+      );
       tested = tt;
     }
 
@@ -83,7 +87,7 @@ module _ (n : ℕ) (few : n ≤ most_threads) (bytes a : List ℕ) (inside k : �
   counted_here =
       subst (Counted n x.thread) (sym standing_is)
       (is_counted n (places_in a) few x.thread
-      (λ e. in_round_lem at_start (take k (pairs_of bytes)) (λ t z. omega arith) x.thread (sym (ap (λ (p : Places). p x.thread) s.after) ∙ e)))
+      (λ e. is_in_round at_start (take k (pairs_of bytes)) (λ t z. omega arith) x.thread (sym (ap (λ (p : Places). p x.thread) s.after) ∙ e)))
 
   tests_here : tests_of n (pairs_of bytes) k ≡ pair_tests n (places_in a) k x
   unfolding tests_of

@@ -1,17 +1,18 @@
 -- The plain lock read pair by pair: `permitted`, which speaks of prefixes, as a recursion over the list (`permitted_is`); which event is next at a place;
 -- the places after one pair more, and in an array; how many threads are at a place while one moves.
-use Rattle.std.proofs.Common.{◌≡◌, ℕ, zero, suc, ◌+◌, ◌<◌, ◌≤◌, Bool, cond, not, ◌&&◌, ◌||◌, T, eqb, leb, ◌⊎◌, List, [], ◌∷◌, ◌++◌, length, get_or, take, set, sym, refl, ap, ◌∙◌, subst, inl, inr, add-one, arith, eqb→eq, leb→le, get_or-set_other, take-suc, get_or-set_same, ne_eqb}
+use Rattle.std.proofs.Common.{◌≡◌, ℕ, zero, suc, ◌+◌, ◌<◌, ◌≤◌, Bool, cond, not, ◌&&◌, ◌||◌, T, eqb, ◌⊎◌, List, [], ◌∷◌, ◌++◌, length, get_or, take, set, sym, refl, ap, ◌∙◌, subst, inl, inr, add-one, arith, eqb→eq, get_or-set_other, take-suc, get_or-set_same, ne_eqb}
 use mathlib.Core.Bool.{and-true, and_assoc}
 use mathlib.Core.Path.{fun_ext}
 use Rattle.definitions.specs.Answers.{passes_all}
-use Rattle.definitions.specs.Bounds.{first_event, last_event}
 use Rattle.definitions.specs.PlainLock.{Pair, Places, places_in, at_start, place_after, advanced, places_after, is_next, tests_of, permitted, how_many_at}
-use Rattle.definitions.specs.Threads.{every, among, between, implies}
-use Rattle.definitions.specs.Watch.{round_places}
-use Rattle.plain_lock.specs.Permitted.{no_pair, pair_fits, permitted_from}
-use Rattle.basics.proofs.Quantifiers.{every_at, how_many-change}
-use Rattle.basics.proofs.Tests.{and_r, or_e, or_l, implies_e, same_test, no_both, eq_T, decided, cond_yes, cond_no, cond_either, same?}
+use Rattle.definitions.specs.Threads.{every}
+use Rattle.plain_lock.specs.Permitted.{pair_fits, permitted_from}
+use Rattle.basics.proofs.Quantifiers.{how_many-change}
+use Rattle.basics.proofs.Tests.{or_e, or_l, same_test, no_both, eq_T, decided, cond_yes, cond_no, cond_either, same?}
 use Rattle.basics.proofs.Columns.{update_same, update_other}
+
+abbrev pub no_pair : Pair
+no_pair = record { thread = 0; event = 0 }
 
 -- ---- permitted
 
@@ -90,16 +91,6 @@ comes_by event at some no_4 no-8 =
     ends (inl u) e = no_4 (sym e ∙ eqb→eq event 4 u)
     ends (inr u) e = no-8 (sym e ∙ eqb→eq event 8 u)
 
--- ---- places of a round
-
--- the place after an event is one
-pub round_after : (event : ℕ) → T (between first_event last_event event) → T (among (place_after event) round_places)
-unfolding every among
-round_after event t =
-    let most = leb→le event 8 (and_r (leb 1 event) (leb event 8) t) in
-    implies_e (between 1 8 event) (among (place_after event) round_places)
-    (every_at (λ k. implies (between 1 8 k) (among (place_after k) round_places)) 9 tt event (omega arith)) t
-
 -- no thread is ever at place 4: a 4 leads to place 0
 after_round : (event : ℕ) → place_after event ≡ 4 → ⊥
 after_round event =
@@ -107,11 +98,11 @@ after_round event =
     (λ t e. omega arith)
     (λ t e. no_both (eqb event 4 || eqb event 8) (or_l (eqb event 4) (eqb event 8) (eq_T event 4 e)) t)
 
-pub in_round_lem : (p : Places) (h : List Pair) → ((t : ℕ) → p t ≡ 4 → ⊥) → (t : ℕ) → places_after p h t ≡ 4 → ⊥
+pub is_in_round : (p : Places) (h : List Pair) → ((t : ℕ) → p t ≡ 4 → ⊥) → (t : ℕ) → places_after p h t ≡ 4 → ⊥
 unfolding places_after
-in_round_lem p [] fine = fine
-in_round_lem p (x ∷ xs) fine =
-    in_round_lem (advanced p x) xs
+is_in_round p [] fine = fine
+is_in_round p (x ∷ xs) fine =
+    is_in_round (advanced p x) xs
     (λ t. cond_either (λ q. q ≡ 4 → ⊥) (eqb t x.thread) (place_after x.event) (p t) (λ u. after_round x.event) (λ u. fine t))
 
 -- ---- the places after one pair more

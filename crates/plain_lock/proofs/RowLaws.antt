@@ -107,7 +107,7 @@ module _ (n thread : ℕ) (s : Standing) (code : ℕ) (c : Counted n thread s) w
   -- of an event
   module _ (known : T (between 1 8 code)) where
     pub next_known : eqb s.place (event_row code % 2 ^ 8) ≡ is_next s.place code
-    next_known = ap (eqb s.place) (known_digits code known).before_is ∙ follows s.place code known c.in_round_lem
+    next_known = ap (eqb s.place) (known_digits code known).before_is ∙ follows s.place code known c.is_in_round
 
     pub met_known : leb s.inside (event_row code / 2 ^ 16 % 2 ^ 16) ≡ counts_meet s code
     met_known = ap (leb s.inside) (known_digits code known).most_is
@@ -127,4 +127,4 @@ module _ (n thread : ℕ) (s : Standing) (code : ℕ) (c : Counted n thread s) w
 
   -- of a code that is no event
   pub next_unknown : T (not (between 1 8 code)) → eqb s.place (event_row code % 2 ^ 8) ≡ false
-  next_unknown unknown = ap (eqb s.place) (unknown_digits code unknown).before_is ∙ ne_eqb s.place no_place c.in_round_lem
+  next_unknown unknown = ap (eqb s.place) (unknown_digits code unknown).before_is ∙ ne_eqb s.place no_place c.is_in_round

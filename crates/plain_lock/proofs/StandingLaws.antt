@@ -7,7 +7,7 @@ use Rattle.definitions.specs.Bounds.{most_threads}
 use Rattle.definitions.specs.PlainLock.{Pair, Places, place_after, advanced, is_next, need_met, pair_tests, how_many_at}
 use Rattle.plain_lock.specs.Counts.{writer, total, total_at, standing_of, readers, any, counts_meet, count_tests, counted_in, counted_out, standing_after, Counted}
 use Rattle.plain_lock.specs.declared.Standing.{Standing}
-use Rattle.basics.proofs.Quantifiers.{how_many_none, none_how_many, how_many_pos, how_many-most}
+use Rattle.basics.proofs.Quantifiers.{none_how_many, how_many_pos, how_many-most}
 use Rattle.basics.proofs.Tests.{eq_T}
 use Rattle.basics.proofs.Columns.{update_same}
 use Rattle.plain_lock.proofs.PlainLaws.{leaves_by, comes_by, count-advanced}
@@ -55,17 +55,8 @@ module _ (n : ℕ) (p : Places) where
           most = total-most;
           in_shared = λ l e. omega (arith, some_at thread 2 l e);
           in_exclusive = λ l e. omega (arith, some_at thread 6 l e);
-          in_round_lem = fine;
+          is_in_round = fine;
         }
-
--- with every thread at place 0 nobody is inside
-pub none_inside : (n : ℕ) (p : Places) → ((t : ℕ) → p t ≡ 0) → 0 ≡ total_at n p
-none_inside n p start =
-    omega (
-      arith,
-      how_many_none (λ t. eqb (p t) 2) n (λ t l. rw (start t) tt),
-      how_many_none (λ t. eqb (p t) 6) n (λ t l. rw (start t) tt),
-    )
 
 -- ---- an event that fits
 

@@ -64,7 +64,7 @@ pub record Counted (n thread : ℕ) (s : Standing) : Type 0 where
   pub most : s.inside ≤ total n n
   pub in_shared : thread < n → s.place ≡ 2 → 1 ≤ s.inside
   pub in_exclusive : thread < n → s.place ≡ 6 → writer ≤ s.inside
-  pub in_round_lem : s.place ≡ 4 → ⊥
+  pub is_in_round : s.place ≡ 4 → ⊥
 
 -- the reply that a verdict on a pair of index k stands for
 abbrev pub verdict_reply : ℕ → Verdict → Reply Standing

@@ -1,11 +1,7 @@
 -- What is permitted at any places, as those of a table that isn't fresh or of a watcher's record; `permitted` is the same at the start (proofs/PlainLaws).
 use Rattle.std.specs.Prelude.{ℕ, Bool, true, ◌&&◌, List, [], ◌∷◌}
 use Rattle.definitions.specs.Answers.{passes_all}
-use Rattle.definitions.specs.PlainLock.{Pair, pair_of, Places, advanced, pair_tests}
-
--- no pair: 0 is no event
-abbrev pub no_pair : Pair
-no_pair = pair_of 0 0
+use Rattle.definitions.specs.PlainLock.{Pair, Places, advanced, pair_tests}
 
 -- a pair passes its three tests, whatever its index is
 abbrev pub pair_fits : ℕ → Places → Pair → Bool

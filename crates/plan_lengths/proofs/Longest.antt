@@ -10,10 +10,10 @@ use lib.Dec.{T}
 use lib.ListN.{length, get_or, get_or-eq_default}
 use Rattle.definitions.specs.Answers.{accepted}
 use Rattle.definitions.specs.Bounds.{most_threads}
-use Rattle.definitions.specs.PlainLock.{Pair, pairs_of, history_bytes, at_start, places_after, permitted}
+use Rattle.definitions.specs.PlainLock.{Pair, pairs_of, at_start, places_after, permitted}
 use Rattle.definitions.specs.Plan.{plan, bytes_of, plan_length_reply}
 use Rattle.definitions.specs.Threads.{sum_of}
-use Rattle.orders.specs.Histories.{AllBytes}
+use Rattle.orders.specs.Histories.{history_bytes, AllBytes}
 use Rattle.plan_lengths.specs.Rounds.{how_often, exclusive_round, begun_column, begun, by_rounds, longest, most_moves, most_plan_bytes}
 use Rattle.basics.proofs.Tests.{below?}
 use Rattle.orders.proofs.CheckReply.{passes_e}

@@ -6,11 +6,12 @@ use mathlib.Core.List.{List, [], ◌∷◌, ◌++◌, append_assoc, append-nil}
 use mathlib.Core.Path.{◌≡◌, refl, subst, ◌∙◌}
 use lib.Dec.{T, eqb}
 use lib.ListN.{length, length-append}
-use Rattle.definitions.specs.PlainLock.{Pair, pair_of, Places, at_start, place_after, is_next, need_met, permitted}
+use Rattle.definitions.specs.PlainLock.{Pair, Places, at_start, place_after, is_next, need_met, permitted}
 use Rattle.definitions.specs.Plan.{plan}
 use Rattle.definitions.specs.Table.{update}
 use Rattle.definitions.specs.Threads.{some, gather, between}
 use Rattle.plan_lengths.specs.Rounds.{exclusive_round, whole_round, unfinished, longest}
+use Rattle.orders.specs.Histories.{pair_of}
 use Rattle.plain_lock.specs.Permitted.{pair_fits, permitted_from}
 use Rattle.basics.proofs.Columns.{update-kept, update_twice, update_same, update_other}
 use Rattle.basics.proofs.Gathering.{gather-length}

@@ -7,9 +7,10 @@ use mathlib.Core.Path.{◌≡◌, refl, sym, ◌∙◌}
 use lib.Dec.{T}
 use lib.ListN.{length}
 use Rattle.definitions.specs.Answers.{accepted}
-use Rattle.definitions.specs.PlainLock.{Pair, pair_of, pairs_of, permitted}
+use Rattle.definitions.specs.PlainLock.{Pair, pairs_of, permitted}
 use Rattle.definitions.specs.Plan.{plan, plan_length_reply}
 use Rattle.plan_lengths.specs.Rounds.{shared_round, exclusive_round, begun, by_rounds}
+use Rattle.orders.specs.Histories.{pair_of}
 use Rattle.orders.proofs.CheckReply.{passes_e}
 use Rattle.plan_lengths.proofs.ByRounds.{AddsUp, by_rounds_lem}
 use Rattle.theory.proofs.PlanLengths.{moves_for, moves_more, moves_append}

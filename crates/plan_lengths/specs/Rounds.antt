@@ -1,7 +1,8 @@
 -- The words of the theorems on how long a plan will be: how often an event stands in a history, what its rounds take, finished or not, and the history with the longest plan.
 use Rattle.std.specs.Prelude.{ℕ, ◌+◌, ◌*◌, cond, List, [], ◌∷◌, ◌++◌, eqb, get_or}
-use Rattle.definitions.specs.PlainLock.{Pair, pair_of, at_start, places_after}
+use Rattle.definitions.specs.PlainLock.{Pair, at_start, places_after}
 use Rattle.definitions.specs.Threads.{gather, sum_of}
+use Rattle.orders.specs.Histories.{pair_of}
 
 -- ---- rounds
 

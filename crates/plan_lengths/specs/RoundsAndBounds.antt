@@ -1,9 +1,9 @@
 -- How long a plan is: by the rounds of its history, and at most (02 §4).
 use Rattle.std.specs.Prelude.{ℕ, ◌+◌, ◌*◌, ◌≤◌, List, ◌∷◌, ◌++◌, ◌≡◌, T, length}
 use Rattle.definitions.specs.Answers.{accepted}
-use Rattle.definitions.specs.PlainLock.{Pair, pair_of, pairs_of, permitted}
+use Rattle.definitions.specs.PlainLock.{Pair, pairs_of, permitted}
 use Rattle.definitions.specs.Plan.{plan, bytes_of, plan_length_reply}
-use Rattle.orders.specs.Histories.{AllBytes}
+use Rattle.orders.specs.Histories.{pair_of, AllBytes}
 use Rattle.plan_lengths.specs.Rounds.{shared_round, exclusive_round, by_rounds, longest, most_moves, most_plan_bytes}
 
 pub record RoundsAndBounds : Type 0 where

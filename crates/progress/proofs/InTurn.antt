@@ -8,12 +8,13 @@ use mathlib.Core.List.{List, [], ◌∷◌}
 use mathlib.Core.Path.{◌≡◌, refl, sym, subst, ap, ◌∙◌, fun_ext}
 use lib.Dec.{T, ltb, eqb, leb-suc-zero, ltb→lt, lt→ltb}
 use lib.ListN.{length}
-use Rattle.definitions.specs.PlainLock.{Pair, pair_of, Places}
+use Rattle.definitions.specs.PlainLock.{Pair, Places}
 use Rattle.definitions.specs.Plan.{plan}
 use Rattle.definitions.specs.Sound.{sound}
 use Rattle.definitions.specs.Table.{Table, fresh_table, update}
 use Rattle.definitions.specs.Threads.{some, gather}
 use Rattle.definitions.specs.declared.Request.{Request}
+use Rattle.orders.specs.Histories.{pair_of}
 use Rattle.orders.specs.Rounds.{rest_phase}
 use Rattle.basics.proofs.Columns.{same_column, update_twice, update_same, update_other}
 use Rattle.basics.proofs.Gathering.{gather-length}

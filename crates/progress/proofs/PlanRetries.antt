@@ -12,7 +12,7 @@ use Rattle.definitions.specs.Bounds.{most_threads}
 use Rattle.definitions.specs.Chains.{retry_for, retries_in, accepts_all_in, retries}
 use Rattle.definitions.specs.Moves.{is_retry, step_in, accepts_in, reply_in}
 use Rattle.definitions.specs.Phases.{rows, holds}
-use Rattle.definitions.specs.PlainLock.{Pair, pair_of, Places, at_start, place_after, advanced, permitted, any_in_exclusive}
+use Rattle.definitions.specs.PlainLock.{Pair, Places, at_start, place_after, advanced, permitted, any_in_exclusive}
 use Rattle.definitions.specs.Plan.{plan_of, plan}
 use Rattle.definitions.specs.Sound.{sound}
 use Rattle.definitions.specs.Table.{Table, update, itself, fresh}
@@ -24,6 +24,7 @@ use Rattle.plain_lock.proofs.PlainLaws.{permitted_is}
 use Rattle.orders.proofs.EventPlans.{before, by-event, start_rests}
 use Rattle.orders.proofs.PairTests.{Permits, permits_e}
 use Rattle.orders.proofs.RestTables.{resting, PlanLeads}
+use Rattle.orders.specs.Histories.{pair_of}
 use Rattle.orders.specs.Rounds.{rest_phase}
 use Rattle.basics.proofs.Cases.{or_at, none_of, among_range}
 use Rattle.basics.proofs.Quantifiers.{how_many-all}

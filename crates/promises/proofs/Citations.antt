@@ -12,17 +12,14 @@ use Rattle.progress.proofs.Citations.{retries_and_progress}
 use Rattle.round_trips.proofs.Citations.{script_rooms, written_and_read}
 use Rattle.runs.proofs.Citations.{run_rooms, printed-run}
 use Rattle.soundness.proofs.Citations.{pass_decides}
-use Rattle.succession.proofs.Citations.{all_short}
 use Rattle.theory.proofs.Citations.{table-entries, each-move, plan-counted}
 use Rattle.turn_limit.proofs.Citations.{waiting_comes}
 use Rattle.watching.proofs.Citations.{every-event}
 use Rattle.printout.proofs.print_input.Met as printing
 use Rattle.wospinzo.proofs.wospinzo_check.Met as check
 use Rattle.wospinzo.proofs.wospinzo_dispatch.Met as dispatch
-use Rattle.wospinzo.proofs.wospinzo_first_history.Met as first-history
 use Rattle.wospinzo.proofs.wospinzo_fresh.Met as fresh
 use Rattle.wospinzo.proofs.wospinzo_move.Met as move
-use Rattle.wospinzo.proofs.wospinzo_next_history.Met as next-history
 use Rattle.wospinzo.proofs.wospinzo_nodes.Met as nodes
 use Rattle.wospinzo.proofs.wospinzo_open_moves.Met as open-moves
 use Rattle.wospinzo.proofs.wospinzo_plan.Met as plan
@@ -45,10 +42,8 @@ entries =
       wospinzo_move = move.met;
       wospinzo_dispatch = dispatch.met;
       wospinzo_nodes = nodes.met;
-      wospinzo_open_moves = open_moves_lem.met;
+      wospinzo_open_moves = open_moves_call.met;
       wospinzo_check = check.met;
-      wospinzo_first_history = first-history.met;
-      wospinzo_next_history = next-history.met;
       wospinzo_plan_length = plan-length.met;
       wospinzo_plan = plan.met;
       wospinzo_run = run.met;
@@ -84,5 +79,4 @@ proved =
       turns_and_waiting = turns_and_waiting;
       waiting_comes = waiting_comes;
       host_and_turns = host_and_turns;
-      all_short = all_short;
     }

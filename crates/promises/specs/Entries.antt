@@ -2,10 +2,8 @@
 use Rattle.printout.proofs.print_input.Statement as printing
 use Rattle.wospinzo.proofs.wospinzo_check.Statement as check
 use Rattle.wospinzo.proofs.wospinzo_dispatch.Statement as dispatch
-use Rattle.wospinzo.proofs.wospinzo_first_history.Statement as first-history
 use Rattle.wospinzo.proofs.wospinzo_fresh.Statement as fresh-table
 use Rattle.wospinzo.proofs.wospinzo_move.Statement as move
-use Rattle.wospinzo.proofs.wospinzo_next_history.Statement as next-history
 use Rattle.wospinzo.proofs.wospinzo_nodes.Statement as nodes
 use Rattle.wospinzo.proofs.wospinzo_open_moves.Statement as open-moves
 use Rattle.wospinzo.proofs.wospinzo_plan.Statement as plan-bytes
@@ -24,8 +22,7 @@ pub record Entries (M : Type 1) : Type 2 where
   -- The dispatcher answers `turn_number (dispatch_reply table)` and leaves `dispatch_table table`.
   -- The check answers `count_number (check_reply n history)`, and of the length of a plan `count_number (plan_length_reply n history)` is answered.
   -- The others write: they answer `count_number (delivery_reply d out)` and leave `delivery_output d out`, where d is
-  -- `fresh_entry n`, `nodes_entry table`, `open_entry table thread`, `first_entry n events` or `plan_entry n history`. Lent bytes that are only read stay.
-  -- The next history answers `next_number (delivery_reply (next_entry n history) out)`, the number of bytes or that the given one was the last.
+  -- `fresh_entry n`, `nodes_entry table`, `open_entry table thread` or `plan_entry n history`. Lent bytes that are only read stay.
   -- The run answers `run_number (delivery_reply (run_entry script) out)`, the number of bytes and that of the retries among its moves.
   -- Writing answers `count_number (held (delivery_reply (write_entry n triples) out))`, `held` since the index of a triple may be any number;
   -- reading answers `read_number (delivery_reply (read_entry script) out)`.
@@ -36,10 +33,8 @@ pub record Entries (M : Type 1) : Type 2 where
   pub wospinzo_move : move.statement M
   pub wospinzo_dispatch : dispatch.statement M
   pub wospinzo_nodes : nodes.statement M
-  pub wospinzo_open_moves : open_moves_lem.statement M
+  pub wospinzo_open_moves : open_moves_call.statement M
   pub wospinzo_check : check.statement M
-  pub wospinzo_first_history : first-history.statement M
-  pub wospinzo_next_history : next-history.statement M
   pub wospinzo_plan_length : plan-length.statement M
   pub wospinzo_plan : plan-bytes.statement M
   pub wospinzo_run : run.statement M

@@ -1,6 +1,5 @@
 -- Everything that is promised and proved of the part: a record for each thing that is promised, in the order of the three demands, then of the watcher (02 §2), of scripts written out and
--- read (02 §3), of the length of a plan (02 §4), of retries, progress and every arrow (02 §7), of the dispatcher (02 §8), and of all short
--- histories (02 §9).
+-- read (02 §3), of the length of a plan (02 §4), of retries, progress and every arrow (02 §7), and of the dispatcher (02 §8).
 -- The lines of a record stand in the specs/ of the crate that proves them, in the file of the record's name, with a sentence before each; the crate's proofs/Citations.antt proves them by citing.
 -- Their words are those of crates/definitions/specs and of the files that the record cites. `M` is any model of memory, of which the contracts of functions speak.
 use Rattle.answer_numbers.specs.NumbersTold.{NumbersTold}
@@ -18,7 +17,6 @@ use Rattle.round_trips.specs.WrittenAndRead.{WrittenAndRead}
 use Rattle.runs.specs.PrintedRun.{PrintedRun}
 use Rattle.runs.specs.RunRooms.{RunRooms}
 use Rattle.soundness.specs.PassDecides.{PassDecides}
-use Rattle.succession.specs.AllShort.{AllShort}
 use Rattle.theory.specs.EachMove.{EachMove}
 use Rattle.theory.specs.PlanCounted.{PlanCounted}
 use Rattle.theory.specs.TableEntries.{TableEntries}
@@ -91,8 +89,3 @@ pub record Promises (M : Type 1) : Type 2 where
   pub waiting_comes : WaitingComes
   -- Requests of the host and turns, in any order and by any choice, show what is permitted (dispatched_orders/specs/HostAndTurns).
   pub host_and_turns : HostAndTurns
-  -- ---- 9. All short histories
-
-  -- Going on from the first history of a length meets each permitted one, once, in the order of their bytes; which one is next; 12 bytes have room for each; and the plain lock never stands
-  -- still (succession/specs/AllShort).
-  pub all_short : AllShort

@@ -20,8 +20,8 @@ use Rattle.definitions.specs.Threads.{every, how_many, gather, among}
 use Rattle.definitions.specs.declared.Request.{Request}
 use Rattle.theory.specs.Statements.{StandsAt, Stands}
 use Rattle.theory.proofs.PhaseCases.{no_row_lem}
-use Rattle.basics.proofs.Gathering.{gather-most, gather-counted, gather_member, member_gather}
-use Rattle.basics.proofs.Quantifiers.{every_at}
+use Rattle.basics.proofs.Gathering.{gather-most, gather-counted}
+use Rattle.basics.proofs.Quantifiers.{below_suc, every_at}
 use Rattle.basics.proofs.Tests.{T_true, T_false, decided, no_both, cond_either, below?}
 use Rattle.theory.proofs.Ways.{Accepted, accepted_e}
 
@@ -80,8 +80,22 @@ member_stands m t (Memᴰ.tail {x = c} {xs = cs} i) =
       },
     )
 
--- ---- one choice or none
+-- ---- membership in gathered lists
 
+module _ (c : Choice) (f : ℕ → List Choice) where
+  gather_member : (n : ℕ) → Memᴰ c (gather n f) → (j : ℕ) × (j < n) × Memᴰ c (f j)
+  unfolding gather
+  gather_member zero h = absurd (Memᴰ.not-nil h)
+  gather_member (suc n) h =
+      ⊎_elim (λ u. let r = gather_member n u in (r.0, omega arith, r.2)) (λ u. (n, omega arith, u)) (Memᴰ.append_cases (gather n f) h)
+
+  member_gather : (n j : ℕ) → j < n → Memᴰ c (f j) → Memᴰ c (gather n f)
+  unfolding gather
+  member_gather zero j l h = absurd (not-suc-le-zero l)
+  member_gather (suc n) j l h =
+      ⊎_elim (λ e. Memᴰ.append_right (gather n f) (subst (λ (k : ℕ). Memᴰ c (f k)) e h)) (λ k. Memᴰ.append_left (f n) (member_gather n j k h)) (below_suc j n l)
+
+-- one choice or none
 cond_member : (b : Bool) (c d : Choice) → Memᴰ c (cond b (d ∷ []) []) → T b × (c ≡ d)
 cond_member true c d h = (tt, Memᴰ.eq_of_singleton h)
 cond_member false c d h = absurd (Memᴰ.not-nil h)

@@ -7,10 +7,11 @@ use mathlib.Core.List.{List, [], ◌∷◌, ◌++◌}
 use mathlib.Core.Logic.{◌⊎◌, inl, inr, ⊎_elim}
 use mathlib.Core.Path.{◌≡◌, refl, sym, subst, ap, ◌∙◌, fun_ext}
 use lib.Dec.{T, ltb, eqb, ltb→lt, lt→ltb}
-use Rattle.definitions.specs.PlainLock.{Pair, pair_of, Places, at_start, place_after, places_after, is_next, how_many_at, need_met}
+use Rattle.definitions.specs.PlainLock.{Pair, Places, at_start, place_after, places_after, is_next, how_many_at, need_met}
 use Rattle.definitions.specs.Table.{update}
 use Rattle.definitions.specs.Threads.{some, among, between}
 use Rattle.definitions.specs.Watch.{round_places}
+use Rattle.orders.specs.Histories.{pair_of}
 use Rattle.plain_lock.specs.Permitted.{pair_fits, permitted_from}
 use Rattle.basics.proofs.Columns.{same_column, update-kept, update_twice, update_same, update_other}
 use Rattle.basics.proofs.Cases.{or_at, none_of}

@@ -7,19 +7,19 @@ use mathlib.Core.List.{List, [], ◌∷◌}
 use mathlib.Core.Logic.{◌⊎◌, inl, inr, ⊎_elim}
 use mathlib.Core.Path.{◌≡◌, refl, sym, subst, ap, ◌∙◌, fun_ext}
 use borrow.Author.Tests.{eq-eqb, ne_eqb}
-use lib.Dec.{T, ltb, eqb, ltb→lt, lt→ltb, eqb→eq}
+use lib.Dec.{T, leb, ltb, eqb, leb→le, ltb→lt, lt→ltb, eqb→eq}
 use lib.ListN.{length, length-replicate}
-use Rattle.definitions.specs.Bounds.{most_threads}
+use Rattle.definitions.specs.Bounds.{most_threads, first_event, last_event}
 use Rattle.definitions.specs.PlainLock.{Pair, Places, places_in, at_start, place_after, advanced, places_after, any_in_shared, any_in_exclusive, how_many_at, need_met}
-use Rattle.definitions.specs.Threads.{some, among}
+use Rattle.definitions.specs.Threads.{every, some, among, between, implies}
 use Rattle.definitions.specs.Watch.{record_of, started, round_places, consistent}
 use Rattle.definitions.specs.declared.Watcher.{Watcher}
 use Rattle.plain_lock.specs.Permitted.{pair_fits, permitted_from}
 use Rattle.basics.proofs.Lists.{length-list_of, zeros}
-use Rattle.basics.proofs.Quantifiers.{how_many_none, none_how_many}
-use Rattle.basics.proofs.Tests.{and_l, and_r, cond_yes, cond_no, cond_either, not_i, same?, below?}
+use Rattle.basics.proofs.Quantifiers.{every_at, how_many_none, none_how_many}
+use Rattle.basics.proofs.Tests.{and_l, and_r, implies_e, cond_yes, cond_no, cond_either, not_i, same?, below?}
 use Rattle.basics.proofs.Columns.{update_other}
-use Rattle.plain_lock.proofs.PlainLaws.{comes_by, round_after, count-advanced}
+use Rattle.plain_lock.proofs.PlainLaws.{comes_by, count-advanced}
 use Rattle.orders.proofs.PairTests.{Permits, permits_e}
 use Rattle.updates.proofs.EventLaws.{beyond}
 use Rattle.consistency.proofs.RecordLaws.{InRounds, Consistent, consistent_i, same_record, entries_are, entry_of}
@@ -47,6 +47,14 @@ start_is n =
     (entries_are n at_start _ (length-replicate {A = ℕ} most_threads 0) (λ t l. zeros most_threads t) (λ t least most. zeros most_threads t))
 
 -- ---- after an event
+
+-- the place after an event is one of a round
+round_after : (event : ℕ) → T (between first_event last_event event) → T (among (place_after event) round_places)
+unfolding every among
+round_after event t =
+    let most = leb→le event 8 (and_r (leb 1 event) (leb event 8) t) in
+    implies_e (between 1 8 event) (among (place_after event) round_places)
+    (every_at (λ k. implies (between 1 8 k) (among (place_after k) round_places)) 9 tt event (omega arith)) t
 
 module _ (n : ℕ) (p : Places) (x : Pair) (s : Shown n p) (a : Permits n p x) where
   abbrev q : Places

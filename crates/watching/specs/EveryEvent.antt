@@ -3,13 +3,13 @@ use Rattle.std.specs.Prelude.{ℕ, ◌≤◌, Bool, not, List, [], ◌∷◌, �
 use Rattle.definitions.specs.Answers.{accepted, is_accepted}
 use Rattle.definitions.specs.Bounds.{most_threads}
 use Rattle.definitions.specs.Chains.{history, table_after}
-use Rattle.definitions.specs.PlainLock.{Pair, history_bytes, places_in, at_start, places_after, permitted}
+use Rattle.definitions.specs.PlainLock.{Pair, places_in, at_start, places_after, permitted}
 use Rattle.definitions.specs.Table.{table_of, fresh}
 use Rattle.definitions.specs.Threads.{how_many, among}
 use Rattle.definitions.specs.Watch.{record_of, started, consistent, question_reply, watch_replies, watch_record}
 use Rattle.definitions.specs.declared.Request.{Request}
 use Rattle.definitions.specs.declared.Watcher.{Watcher}
-use Rattle.orders.specs.Histories.{AllBytes}
+use Rattle.orders.specs.Histories.{history_bytes, AllBytes}
 use Rattle.orders.specs.Rounds.{places_of}
 use Rattle.watching.specs.Verdicts.{verdict_on, verdicts_on, accepted_of, some_inside}
 

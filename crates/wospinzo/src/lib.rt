@@ -10,16 +10,14 @@ ghost use Rattle.definitions.specs.PlainLock.{check_reply};
 ghost use Rattle.definitions.specs.Plan.{plan_entry, plan_length_reply};
 ghost use Rattle.definitions.specs.Run.{run_entry};
 ghost use Rattle.definitions.specs.Scripts.{write_entry, read_entry};
-ghost use Rattle.definitions.specs.ShortHistories.{first_entry, next_entry};
 ghost use Rattle.definitions.specs.Table.{fresh_entry};
 ghost use Rattle.definitions.specs.Watch.{start_reply, start_record, event_reply, event_record, question_reply};
-ghost use Rattle.answer_numbers.specs.Encoding.{move_number, turn_number, run_number, count_number, watch_number, inside_number, read_number, next_number, held};
+ghost use Rattle.answer_numbers.specs.Encoding.{move_number, turn_number, run_number, count_number, watch_number, inside_number, read_number, held};
 ghost use Rattle.wospinzo.specs.Records.{Renews};
 ghost use Rattle.wospinzo.specs.Version.{version};
 
 use answer_numbers::{
-    answer_number, hold_place, inside_number, next_number, reading_number, running_number,
-    watch_number,
+    answer_number, hold_place, inside_number, reading_number, running_number, watch_number,
 };
 use definitions::{Request, Watcher};
 use move_numbers::{dispatched_number, outcome_number};
@@ -27,9 +25,9 @@ use move_numbers::{dispatched_number, outcome_number};
 // The part's version: major, minor and patch number. docs/CHANGELOG.md says what each of them promises.
 const MAJOR: u32 = 1;
 
-const MINOR: u32 = 8;
+const MINOR: u32 = 7;
 
-const PATCH: u32 = 0;
+const PATCH: u32 = 1;
 
 // A fresh table for N threads.
 #[unsafe(no_mangle)]
@@ -88,26 +86,6 @@ pub extern "C" fn wospinzo_check(threads: u16, history: &[u8]) -> u64
 {
     let answer = history::check(threads, history);
     answer_number(answer)
-}
-
-// The first permitted history of so many events, in the order of their bytes.
-#[unsafe(no_mangle)]
-pub extern "C" fn wospinzo_first_history(threads: u16, events: u16, out: &mut [u8]) -> u64
-    ensures value { result ≡ count_number (delivery_reply (first_entry threads events) out.old) }
-    ensures out_after { out.new ≡ delivery_output (first_entry threads events) out.old }
-{
-    let answer = short_histories::first_history(threads, events, out);
-    answer_number(answer)
-}
-
-// The next permitted history of the same length after a given one, or that the given one was the last.
-#[unsafe(no_mangle)]
-pub extern "C" fn wospinzo_next_history(threads: u16, history: &[u8], out: &mut [u8]) -> u64
-    ensures value { result ≡ next_number (delivery_reply (next_entry threads history.now) out.old) }
-    ensures out_after { out.new ≡ delivery_output (next_entry threads history.now) out.old }
-{
-    let answer = short_histories::next_history(threads, history, out);
-    next_number(answer)
 }
 
 // How many requests make a permitted history happen: the plan's count, without the plan.

@@ -249,11 +249,9 @@ impl Phase {
 
 /// Why a request was turned down. Its number is `refusal as u8`. A request is
 /// tested in the order of the numbers, but for [`Refusal::Inconsistent`], which
-/// is tested after [`Refusal::BadSize`] and before [`Refusal::UnknownPair`], for
-/// [`Refusal::NotListed`], which is tested after [`Refusal::BadForm`] and before
-/// [`Refusal::UnknownPair`], and for a list of moves or a script that is written
-/// or read, whose order `write_script` and `read_script` give. A minor version
-/// may add a refusal.
+/// is tested after [`Refusal::BadSize`] and before [`Refusal::UnknownPair`], and
+/// for a list of moves or a script that is written or read, whose order
+/// `write_script` and `read_script` give. A minor version may add a refusal.
 #[derive(Clone, Copy, Debug, PartialEq, Eq, Hash, PartialOrd, Ord)]
 #[repr(u8)]
 #[non_exhaustive]
@@ -291,14 +289,11 @@ pub enum Refusal {
     /// The record of a [`Watcher`](crate::Watcher) isn't consistent: no watch
     /// leads to it.
     Inconsistent = 13,
-    /// The number of events isn't 1 to 6, or that of threads is 4 to 200: such
-    /// histories are not listed.
-    NotListed = 14,
 }
 
 impl Refusal {
-    /// All refusals, in the order of their numbers, 1 to 14.
-    pub const ALL: [Refusal; 14] = [
+    /// All refusals, in the order of their numbers, 1 to 13.
+    pub const ALL: [Refusal; 13] = [
         Refusal::BadSize,
         Refusal::Unsound,
         Refusal::NoThread,
@@ -312,13 +307,12 @@ impl Refusal {
         Refusal::Occupied,
         Refusal::NoRoom,
         Refusal::Inconsistent,
-        Refusal::NotListed,
     ];
 
-    /// The refusal of a number, none outside 1 to 14.
+    /// The refusal of a number, none outside 1 to 13.
     pub const fn from_number(number: u8) -> Option<Refusal> {
         match number {
-            1..=14 => Some(Refusal::ALL[number as usize - 1]),
+            1..=13 => Some(Refusal::ALL[number as usize - 1]),
             _ => None,
         }
     }
@@ -340,7 +334,6 @@ impl fmt::Display for Refusal {
             Refusal::Occupied => "section occupied",
             Refusal::NoRoom => "output too short",
             Refusal::Inconsistent => "inconsistent watcher",
-            Refusal::NotListed => "histories of so many events or threads are not listed",
         })
     }
 }

@@ -150,36 +150,6 @@
 //! # }
 //! ```
 //!
-//! # All short histories
-//!
-//! [`histories`] goes through every history of 1 to 6 events for 1 to 3 threads
-//! that [`check`] accepts, each once, so that a test can make each happen, with
-//! [`plan`] or in another model of the lock.
-//!
-//! ```
-//! use wospinzo::{fresh, histories, make_move, plan, table_size, Move, Outcome};
-//!
-//! # fn main() -> Result<(), Box<dyn std::error::Error>> {
-//! const THREADS: u16 = 2;
-//! for history in histories(THREADS, 3)? {
-//!     let mut table = [0; table_size(THREADS)];
-//!     fresh(THREADS, &mut table)?;
-//!     let mut triples = [0; 100];
-//!     let moves = plan(THREADS, &history, &mut triples)?;
-//!     let mut shown = Vec::new();
-//!     for triple in triples.chunks(3).take(moves) {
-//!         let mov = Move::from_numbers(triple[1].into(), triple[2].into());
-//!         let outcome = make_move(&mut table, triple[0].into(), mov.unwrap())?;
-//!         if let Outcome::Shown(event) = outcome {
-//!             shown.extend([triple[0], event as u8]);
-//!         }
-//!     }
-//!     assert_eq!(shown, *history);
-//! }
-//! # Ok(())
-//! # }
-//! ```
-//!
 //! # Functions
 //!
 //! | function | what it does | refusals |
@@ -190,9 +160,6 @@
 //! | [`nodes`] | where every thread is | 1, 2, 12 |
 //! | [`open_moves`] | the moves that a thread has now | 1, 2, 3, 12 |
 //! | [`check`] | judges a history of events | 1, 8 to 11 |
-//! | [`first_history`] | the first history of a length | 1, 14, 12 |
-//! | [`next_history`] | the next one after a given one | 1, 8, 14, 9 to 12 |
-//! | [`histories`] | every one of a length | 1, 14 |
 //! | [`plan_length`] | how many moves the plan will have | 1, 8 to 11 |
 //! | [`plan`] | moves that show a given history | 1, 8 to 12 |
 //! | [`run`], [`run_counts`] | runs a script; the second also counts the retries | 8, 12 |
@@ -237,9 +204,8 @@
 //! The functions are in the archive `libwospinzo.a`. The build looks for it in
 //! the folder that the environment variable `WOSPINZO_LIB_DIR` names, else in
 //! `target/staticlib` of the repository. The features `history` ([`check`],
-//! [`first_history`], [`next_history`], [`histories`], [`plan_length`], [`plan`])
-//! and `script` ([`run`], [`run_counts`], [`write_script`], [`read_script`]) are
-//! on by default.
+//! [`plan_length`], [`plan`]) and `script` ([`run`], [`run_counts`],
+//! [`write_script`], [`read_script`]) are on by default.
 //!
 //! No function panics, as long as the archive is the one described here.
 
@@ -248,8 +214,6 @@
 
 mod codes;
 mod dispatcher;
-#[cfg(feature = "history")]
-mod histories;
 pub mod raw;
 #[cfg(feature = "script")]
 mod script;
@@ -257,15 +221,13 @@ mod watcher;
 
 pub use codes::{Event, Move, MoveAnswer, Node, Outcome, Phase, Refusal, Rejected};
 pub use dispatcher::{dispatch, Turn};
-#[cfg(feature = "history")]
-pub use histories::{first_history, histories, next_history, Histories, NextHistory, ShortHistory};
 #[cfg(feature = "script")]
 pub use script::{read_script, run, run_counts, write_script, RunCounts, ScriptRead};
 pub use watcher::Watcher;
 
 /// The version of this crate and of the header: 65,536 times the major, 256
 /// times the minor, and the patch number. [`version`] is that of the archive.
-pub const VERSION: u32 = 65_536 + 8 * 256;
+pub const VERSION: u32 = 65_536 + 7 * 256 + 1;
 /// The largest number of threads.
 pub const MAX_THREADS: u16 = 200;
 /// The bytes of the largest table.
@@ -278,12 +240,6 @@ pub const NO_TARGET: u8 = 255;
 pub const MAX_HISTORY: usize = 60_000;
 /// The longest script, in bytes.
 pub const MAX_SCRIPT: usize = 30_000;
-/// The most threads for which histories are listed.
-pub const MAX_LISTED_THREADS: u16 = 3;
-/// The most events of a history that is listed.
-pub const MAX_LISTED_EVENTS: u16 = 6;
-/// Bytes in which every history that is listed fits.
-pub const LISTED_ROOM: usize = 12;
 /// The moves of the longest plan.
 pub const MAX_PLAN_MOVES: usize = 4_575_100;
 /// The bytes of the longest plan.

@@ -38,19 +38,6 @@ extern "C" {
     /// See [`check`](crate::check).
     #[cfg(feature = "history")]
     pub fn wospinzo_check(threads: u16, history: *const u8, history_len: usize) -> u64;
-    /// See [`first_history`](crate::first_history).
-    #[cfg(feature = "history")]
-    pub fn wospinzo_first_history(threads: u16, events: u16, out: *mut u8, out_len: usize) -> u64;
-    /// See [`next_history`](crate::next_history). The value answered is the
-    /// number of bytes written, 0 where the given history was the last one.
-    #[cfg(feature = "history")]
-    pub fn wospinzo_next_history(
-        threads: u16,
-        history: *const u8,
-        history_len: usize,
-        out: *mut u8,
-        out_len: usize,
-    ) -> u64;
     /// See [`plan_length`](crate::plan_length).
     #[cfg(feature = "history")]
     pub fn wospinzo_plan_length(threads: u16, history: *const u8, history_len: usize) -> u64;

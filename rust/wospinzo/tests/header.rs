@@ -80,15 +80,6 @@ fn codes_are_those_of_the_header() {
     same("NO_TARGET".into(), wospinzo::NO_TARGET.into());
     same("MAX_HISTORY".into(), wospinzo::MAX_HISTORY as u32);
     same("MAX_SCRIPT".into(), wospinzo::MAX_SCRIPT as u32);
-    same(
-        "MAX_LISTED_THREADS".into(),
-        wospinzo::MAX_LISTED_THREADS.into(),
-    );
-    same(
-        "MAX_LISTED_EVENTS".into(),
-        wospinzo::MAX_LISTED_EVENTS.into(),
-    );
-    same("LISTED_ROOM".into(), wospinzo::LISTED_ROOM as u32);
     same("MAX_PLAN_MOVES".into(), wospinzo::MAX_PLAN_MOVES as u32);
     same("MAX_PLAN_SIZE".into(), wospinzo::MAX_PLAN_SIZE as u32);
     same("RUN_ROOM".into(), wospinzo::RUN_ROOM as u32);
@@ -108,7 +99,7 @@ fn other_numbers_are_no_codes() {
     assert_eq!(Node::from_code(11), None);
     assert_eq!(Phase::from_number(19), None);
     assert_eq!(Refusal::from_number(0), None);
-    assert_eq!(Refusal::from_number(15), None);
+    assert_eq!(Refusal::from_number(14), None);
     assert_eq!(Move::from_numbers(7, 0), None);
     assert_eq!(Move::from_numbers(0, 1), None);
     assert_eq!(Move::from_numbers(6, 1), None);

@@ -30,16 +30,6 @@ extern "C" {
     ) -> u64;
     #[cfg(feature = "history")]
     fn wospinzo_plan_length(threads: u16, history: *const u8, history_len: usize) -> u64;
-    #[cfg(feature = "short")]
-    fn wospinzo_first_history(threads: u16, events: u16, out: *mut u8, out_len: usize) -> u64;
-    #[cfg(feature = "short")]
-    fn wospinzo_next_history(
-        threads: u16,
-        history: *const u8,
-        history_len: usize,
-        out: *mut u8,
-        out_len: usize,
-    ) -> u64;
     #[cfg(feature = "script")]
     fn wospinzo_run(script: *const u8, script_len: usize, out: *mut u8, out_len: usize) -> u64;
     #[cfg(feature = "watch")]
@@ -111,22 +101,6 @@ impl Part for Archive {
     #[cfg(feature = "history")]
     fn plan_length(&self, threads: u16, history: &[u8]) -> u64 {
         unsafe { wospinzo_plan_length(threads, history.as_ptr(), history.len()) }
-    }
-    #[cfg(feature = "short")]
-    fn first_history(&self, threads: u16, events: u16, out: &mut [u8]) -> u64 {
-        unsafe { wospinzo_first_history(threads, events, out.as_mut_ptr(), out.len()) }
-    }
-    #[cfg(feature = "short")]
-    fn next_history(&self, threads: u16, history: &[u8], out: &mut [u8]) -> u64 {
-        unsafe {
-            wospinzo_next_history(
-                threads,
-                history.as_ptr(),
-                history.len(),
-                out.as_mut_ptr(),
-                out.len(),
-            )
-        }
     }
     #[cfg(feature = "script")]
     fn run(&self, script: &[u8], out: &mut [u8]) -> u64 {

@@ -2,7 +2,6 @@
 //! short, just long enough and longer.
 
 use crate::histories;
-use crate::listed::{self, LISTED_EVENTS, LISTED_THREADS};
 use crate::lists;
 use crate::model::{self, Answer, LAST_MOVE, MAX_HISTORY, MAX_SCRIPT, RUN_ROOM};
 use crate::part::{Call, Entry};
@@ -246,53 +245,6 @@ fn read_script(r: &mut Random) -> Call {
     Call::read_script(script, output(r, needed))
 }
 
-/// A number of threads and one of events, both listed as a rule.
-fn short(r: &mut Random) -> (usize, usize) {
-    let threads = match r.below(10) {
-        0 => r.pick(&[LISTED_THREADS + 1, 5, 8, 199, 200]),
-        _ => 1 + r.below(LISTED_THREADS),
-    };
-    let events = match r.below(10) {
-        0 => r.pick(&[0, LISTED_EVENTS + 1, 8, 9]),
-        _ => 1 + r.below(LISTED_EVENTS),
-    };
-    (threads, events)
-}
-
-fn first_history(r: &mut Random) -> Call {
-    let (threads, events) = short(r);
-    let stated = stated(r, threads);
-    let asked = match r.below(16) {
-        0 => r.pick(&[255, 256, 32768, 65535]),
-        1 => events as u16 + 256 * (1 + r.below(255) as u16),
-        _ => events as u16,
-    };
-    Call::first_history(stated, asked, output(r, 2 * events))
-}
-
-fn next_history(r: &mut Random) -> Call {
-    let (threads, events) = short(r);
-    let is_listed = threads <= LISTED_THREADS && (1..=LISTED_EVENTS).contains(&events);
-    let mut history = match r.below(400) {
-        0 => histories::history(r, threads, MAX_HISTORY / 2, false),
-        1 => histories::history(r, threads, MAX_HISTORY / 2 + 1, false),
-        // the last ones
-        2..=40 if is_listed => {
-            let list = listed::all(threads, events);
-            list[list.len() - 1 - r.below(list.len().min(3))].clone()
-        }
-        _ => {
-            let careless = r.chance(1, 4);
-            histories::history(r, threads, events, careless)
-        }
-    };
-    if r.chance(1, 3) {
-        history = histories::damaged(r, threads, &history);
-    }
-    let needed = history.len().min(2 * LISTED_EVENTS + 2);
-    Call::next_history(stated(r, threads), history, output(r, needed))
-}
-
 /// A random call of an entry.
 pub fn any(r: &mut Random, entry: Entry) -> Call {
     match entry {
@@ -310,7 +262,5 @@ pub fn any(r: &mut Random, entry: Entry) -> Call {
         Entry::WriteScript => write_script(r),
         Entry::ReadScript => read_script(r),
         Entry::Dispatch => dispatch(r),
-        Entry::FirstHistory => first_history(r),
-        Entry::NextHistory => next_history(r),
     }
 }

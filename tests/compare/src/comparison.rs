@@ -4,7 +4,7 @@ use crate::part::{hex, number_of, retries_of, value_of};
 use crate::part::{Call, Caller, Entry, Model, Part};
 
 /// How many numbers an answer can have: 0 where accepted, and the refusals'.
-const NUMBERS: usize = 15;
+const NUMBERS: usize = 14;
 
 /// The part beside the model, and the count of what was compared.
 pub struct Comparison<'a> {

@@ -12,7 +12,6 @@ use crate::part::{Entry, Model, Part, ENTRIES};
 use crate::retry_faults::Retrying;
 use crate::script_faults;
 use crate::scripts;
-use crate::short_faults;
 use crate::sound_faults::{judged, passing};
 use crate::tables::all_back_off;
 use crate::watchers::count_again;
@@ -373,97 +372,6 @@ pub enum Fault {
     DispatchRefusedWrites,
     /// All threads may be in 3, 4 and 18 where the dispatcher is lent the table.
     DispatchWithoutRule,
-    /// The first history's numbers of 16 bits are cut to 8.
-    FirstThreadsCut,
-    FirstEventsCut,
-    /// The first of all short histories is the second, the last, or one in which
-    /// each thread calls before one enters.
-    FirstIsSecond,
-    FirstIsLast,
-    FirstCallsFirst,
-    /// The first history's tests are made in another order.
-    First14Before1,
-    First12Before1,
-    First12Before14,
-    /// Histories of no event are listed, of 5 events at most, or of 7; for 2
-    /// threads at most, or for 4.
-    FirstOf0Events,
-    FirstOf5Events,
-    FirstOf7Events,
-    FirstOf2Threads,
-    FirstOf4Threads,
-    /// The first history answers events and not bytes.
-    FirstCountsEvents,
-    /// The bytes after it are cleared, or the next one.
-    FirstClearsTail,
-    FirstWritesMore,
-    /// A short output is written as far as it goes, or one that is refused by 1 or
-    /// 14 is cleared.
-    FirstWritesShort,
-    FirstRefusedWrites,
-    /// The next history is the one after it, or the given one: always, or in one
-    /// place.
-    NextSkips,
-    NextSkipsOne,
-    NextRepeats,
-    NextRepeatsOne,
-    /// It isn't permitted: a thread enters shared while another is in exclusive, or
-    /// exclusive while another is in shared or in exclusive.
-    NextTwoBesideExclusive,
-    NextSixBesideShared,
-    NextSixBesideExclusive,
-    /// No thread goes round twice, the last thread does nothing, or the pairs
-    /// behind the first changed one stay where they can.
-    NextOneRound,
-    NextWithoutLastThread,
-    NextKeepsTail,
-    /// After the last one comes the first again, or the last.
-    NextNeverLast,
-    NextRepeatsLast,
-    /// One is said to be the last where the next starts with another thread, or
-    /// where that is the last.
-    NextLastOfThread,
-    NextLastButOne,
-    /// The order is another: an event stands before its thread, or the next is the
-    /// one before.
-    NextEventFirst,
-    NextBackwards,
-    /// The last history needs room, is written, or has the output cleared.
-    NextLastNeedsRoom,
-    NextLastWrites,
-    NextLastClears,
-    /// The last history is refused by 14, or its bytes are counted.
-    NextLastRefused,
-    NextLastCounted,
-    /// The next history answers events and not bytes.
-    NextCountsEvents,
-    /// The bytes after it are cleared, or the next one.
-    NextClearsTail,
-    NextWritesMore,
-    /// A short output is written as far as it goes.
-    NextWritesShort,
-    /// The next history cuts N to 8 bits.
-    NextThreadsCut,
-    /// Its tests are made in another order; 9 stands for 9 to 11.
-    Next8Before1,
-    Next14Before1,
-    Next14Before8,
-    Next14After9,
-    Next12Before14,
-    Next12Before9,
-    /// A history of more than 60,000 bytes is refused by 14.
-    NextWithoutBound,
-    /// The place of a bad pair is 0, or that of its byte.
-    NextPlaceZero,
-    NextPlaceOfByte,
-    /// The limits are others, as for the first.
-    NextOf0Events,
-    NextOf5Events,
-    NextOf7Events,
-    NextOf2Threads,
-    NextOf4Threads,
-    /// An output is cleared that is refused by another number than 12.
-    NextRefusedWrites,
 }
 
 /// The faults but those of the lists below.
@@ -707,78 +615,6 @@ pub const OF_NO_TURN: [Fault; 6] = [
     Fault::DispatchWithoutRule,
 ];
 
-/// Faults of the first of all short histories.
-pub const OF_FIRST: [Fault; 18] = [
-    Fault::FirstThreadsCut,
-    Fault::FirstEventsCut,
-    Fault::FirstIsSecond,
-    Fault::FirstIsLast,
-    Fault::FirstCallsFirst,
-    Fault::First14Before1,
-    Fault::First12Before1,
-    Fault::First12Before14,
-    Fault::FirstOf0Events,
-    Fault::FirstOf5Events,
-    Fault::FirstOf7Events,
-    Fault::FirstOf2Threads,
-    Fault::FirstOf4Threads,
-    Fault::FirstCountsEvents,
-    Fault::FirstClearsTail,
-    Fault::FirstWritesMore,
-    Fault::FirstWritesShort,
-    Fault::FirstRefusedWrites,
-];
-
-/// Faults of the next one after a history, and of what is said of the last.
-pub const OF_NEXT: [Fault; 23] = [
-    Fault::NextSkips,
-    Fault::NextRepeats,
-    Fault::NextTwoBesideExclusive,
-    Fault::NextSixBesideShared,
-    Fault::NextSixBesideExclusive,
-    Fault::NextOneRound,
-    Fault::NextWithoutLastThread,
-    Fault::NextKeepsTail,
-    Fault::NextNeverLast,
-    Fault::NextRepeatsLast,
-    Fault::NextLastOfThread,
-    Fault::NextLastButOne,
-    Fault::NextEventFirst,
-    Fault::NextBackwards,
-    Fault::NextLastNeedsRoom,
-    Fault::NextLastWrites,
-    Fault::NextLastClears,
-    Fault::NextLastRefused,
-    Fault::NextLastCounted,
-    Fault::NextCountsEvents,
-    Fault::NextClearsTail,
-    Fault::NextWritesMore,
-    Fault::NextWritesShort,
-];
-
-/// Faults of a single one.
-pub const OF_ONE_NEXT: [Fault; 2] = [Fault::NextSkipsOne, Fault::NextRepeatsOne];
-
-/// Faults of the histories that are turned down there.
-pub const OF_NO_NEXT: [Fault; 16] = [
-    Fault::NextThreadsCut,
-    Fault::Next8Before1,
-    Fault::Next14Before1,
-    Fault::Next14Before8,
-    Fault::Next14After9,
-    Fault::Next12Before14,
-    Fault::Next12Before9,
-    Fault::NextWithoutBound,
-    Fault::NextPlaceZero,
-    Fault::NextPlaceOfByte,
-    Fault::NextOf0Events,
-    Fault::NextOf5Events,
-    Fault::NextOf7Events,
-    Fault::NextOf2Threads,
-    Fault::NextOf4Threads,
-    Fault::NextRefusedWrites,
-];
-
 /// Entries that make no retry, each with one in its answer.
 fn of_other_entries() -> impl Iterator<Item = Fault> {
     let entries = ENTRIES.into_iter().filter(|entry| !entry.makes_retries());
@@ -795,10 +631,6 @@ pub fn faults() -> impl Iterator<Item = Fault> {
         .chain(OF_TURNS)
         .chain(OF_MANY_TURNS)
         .chain(OF_NO_TURN)
-        .chain(OF_FIRST)
-        .chain(OF_NEXT)
-        .chain(OF_ONE_NEXT)
-        .chain(OF_NO_NEXT)
         .chain(of_other_entries())
 }
 
@@ -1085,16 +917,5 @@ impl Part for Faulty {
 
     fn read_script(&self, script: &[u8], out: &mut [u8]) -> u64 {
         script_faults::read(self.fault, script, out)
-    }
-
-    fn first_history(&self, threads: u16, events: u16, out: &mut [u8]) -> u64 {
-        let threads = self.cut(Fault::FirstThreadsCut, threads);
-        let events = self.cut(Fault::FirstEventsCut, events);
-        short_faults::first(self.fault, threads, events, out)
-    }
-
-    fn next_history(&self, threads: u16, history: &[u8], out: &mut [u8]) -> u64 {
-        let threads = self.cut(Fault::NextThreadsCut, threads);
-        short_faults::next(self.fault, threads, history, out)
     }
 }

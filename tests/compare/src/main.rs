@@ -15,11 +15,10 @@ use std::process::ExitCode;
 
 use compare::comparison::Comparison;
 use compare::faults::{faults, faulty, Fault, OF_COUNT, OF_RETRY, OF_RULE};
-use compare::faults::{OF_FIRST, OF_NEXT, OF_NO_NEXT, OF_ONE_NEXT};
 use compare::faults::{OF_MANY_TURNS, OF_NO_TURN, OF_TURNS};
 use compare::part::{Entry, Model, Part, ENTRIES};
-use compare::{arrows, dispatcher, examples, lengths, progress, retries, sections};
-use compare::{short_histories, spoiled, turns, unreached, vectors, written};
+use compare::{arrows, dispatcher, examples, lengths, progress, retries, sections, spoiled};
+use compare::{turns, unreached, vectors, written};
 
 const SEED: u64 = 0x5eed_0f10_c4ed_2026;
 
@@ -41,9 +40,6 @@ fn archive_entries() -> Vec<Entry> {
     if !cfg!(feature = "dispatch") {
         entries.retain(|&entry| entry != Entry::Dispatch);
     }
-    if !cfg!(feature = "short") {
-        entries.retain(|entry| !entry.is_of_listing());
-    }
     entries
 }
 
@@ -54,7 +50,7 @@ struct Section {
     run: fn(&mut Comparison, &[vectors::Vector]),
 }
 
-const SECTIONS: [Section; 46] = [
+const SECTIONS: [Section; 40] = [
     Section {
         name: "vectors",
         needs: None,
@@ -69,11 +65,6 @@ const SECTIONS: [Section; 46] = [
         name: "examples of a plan's length",
         needs: Some(Entry::PlanLength),
         run: |c, _| lengths::examples(c),
-    },
-    Section {
-        name: "examples of the first and the next history",
-        needs: Some(Entry::NextHistory),
-        run: |c, _| short_histories::examples(c),
     },
     Section {
         name: "other examples and bounds of the scope paper",
@@ -134,11 +125,6 @@ const SECTIONS: [Section; 46] = [
         name: "the longest lists and scripts, written and read",
         needs: Some(Entry::WriteScript),
         run: |c, _| written::longest(c, SEED),
-    },
-    Section {
-        name: "all histories of one to six events for one to three threads, one after the other",
-        needs: Some(Entry::NextHistory),
-        run: |c, _| short_histories::one_after_the_other(c),
     },
     Section {
         name: "all tables that moves reach, all requests",
@@ -265,26 +251,6 @@ const SECTIONS: [Section; 46] = [
         needs: None,
         run: |c, _| spoiled::each_thread(c, SEED),
     },
-    Section {
-        name: "the first history for numbers in range and past it, in outputs of every length",
-        needs: Some(Entry::FirstHistory),
-        run: |c, _| short_histories::first_of_all(c, SEED),
-    },
-    Section {
-        name: "the next history of all of one to six events, in outputs of every length",
-        needs: Some(Entry::NextHistory),
-        run: |c, _| short_histories::next_of_all(c, SEED),
-    },
-    Section {
-        name: "the next history of all lists of up to three pairs, permitted or not",
-        needs: Some(Entry::NextHistory),
-        run: |c, _| short_histories::short_lists(c, SEED),
-    },
-    Section {
-        name: "the next history of all with any pair more or any byte replaced, and of longer ones",
-        needs: Some(Entry::NextHistory),
-        run: |c, _| short_histories::edited(c, SEED),
-    },
 ];
 
 /// Runs every section. One passes where something was compared and nothing
@@ -313,7 +279,7 @@ fn compare_all(c: &mut Comparison, vectors: &[vectors::Vector]) -> (u64, u64) {
 /// A section, and faults that it must find by itself, whatever others find.
 type Alone = (&'static str, fn(&mut Comparison), &'static [Fault]);
 
-const ALONE: [Alone; 34] = [
+const ALONE: [Alone; 21] = [
     (
         "the tables reached and the sound ones",
         sections::reached_by_part,
@@ -452,101 +418,11 @@ const ALONE: [Alone; 34] = [
     ("random turns", random_turns, &OF_TURNS),
     ("random turns", random_turns, &OF_MANY_TURNS),
     ("random turns", random_turns, &OF_NO_TURN),
-    (
-        "examples of histories",
-        short_histories::examples,
-        &OF_FIRST,
-    ),
-    ("examples of histories", short_histories::examples, &OF_NEXT),
-    (
-        "examples of histories",
-        short_histories::examples,
-        &OF_NO_NEXT,
-    ),
-    (
-        "one history after the other",
-        short_histories::one_after_the_other,
-        &OF_ONE_NEXT,
-    ),
-    (
-        "one history after the other",
-        short_histories::one_after_the_other,
-        &[
-            Fault::FirstIsSecond,
-            Fault::FirstIsLast,
-            Fault::FirstCallsFirst,
-            Fault::NextSkips,
-            Fault::NextRepeats,
-            Fault::NextTwoBesideExclusive,
-            Fault::NextSixBesideShared,
-            Fault::NextSixBesideExclusive,
-            Fault::NextOneRound,
-            Fault::NextWithoutLastThread,
-            Fault::NextKeepsTail,
-            Fault::NextNeverLast,
-            Fault::NextRepeatsLast,
-            Fault::NextLastOfThread,
-            Fault::NextLastButOne,
-            Fault::NextEventFirst,
-            Fault::NextBackwards,
-        ],
-    ),
-    (
-        "the first history for all numbers",
-        |c| short_histories::first_of_all(c, SEED),
-        &OF_FIRST,
-    ),
-    (
-        "the next history of all",
-        |c| short_histories::next_of_all(c, SEED),
-        &OF_NEXT,
-    ),
-    (
-        "the next history of all",
-        |c| short_histories::next_of_all(c, SEED),
-        &OF_ONE_NEXT,
-    ),
-    (
-        "the next history of short lists",
-        |c| short_histories::short_lists(c, SEED),
-        &[
-            Fault::NextThreadsCut,
-            Fault::Next8Before1,
-            Fault::Next14Before1,
-            Fault::Next14Before8,
-            Fault::Next14After9,
-            Fault::Next12Before14,
-            Fault::Next12Before9,
-            Fault::NextPlaceZero,
-            Fault::NextPlaceOfByte,
-            Fault::NextOf0Events,
-            Fault::NextOf2Threads,
-            Fault::NextOf4Threads,
-            Fault::NextRefusedWrites,
-        ],
-    ),
-    (
-        "the next history of edited ones",
-        |c| short_histories::edited(c, SEED),
-        &OF_NO_NEXT,
-    ),
-    (
-        "random first histories",
-        |c| sections::random_cases_of(c, Entry::FirstHistory, SEED),
-        &OF_FIRST,
-    ),
-    ("random next histories", random_next, &OF_NEXT),
-    ("random next histories", random_next, &OF_NO_NEXT),
 ];
 
 /// Random cases of the dispatcher.
 fn random_turns(c: &mut Comparison) {
     sections::random_cases_of(c, Entry::Dispatch, SEED);
-}
-
-/// Random cases of the next history.
-fn random_next(c: &mut Comparison) {
-    sections::random_cases_of(c, Entry::NextHistory, SEED);
 }
 
 /// Whether a comparison finds a fault.

@@ -1,7 +1,7 @@
 //! Every entry of the part in plain Rust over slices: the table and its moves,
 //! the dispatcher, the nodes, the open moves, histories, plans and their lengths,
 //! scripts and the watcher. The entries that write and read a script stand in
-//! `spelling.rs`, those that give all short histories in `listed.rs`.
+//! `spelling.rs`.
 //!
 //! It shares no code with the part. It makes the same tests in the same order,
 //! and judges a table or a watcher's record in one pass over its threads. Its
@@ -61,8 +61,7 @@ pub const fn takes_target(mov: u16) -> bool {
 }
 
 /// The refusals, by their numbers, in checking order; but 13 is tested after 1
-/// and before 9, a list's length (8) before its triples (3, 4, 5), and 14 after 1
-/// and, for a given history, after 8.
+/// and before 9, and a list's length (8) before its triples (3, 4, 5).
 #[derive(Clone, Copy, PartialEq, Eq, Debug)]
 pub enum Refusal {
     BadSize = 1,
@@ -78,7 +77,6 @@ pub enum Refusal {
     Occupied = 11,
     NoRoom = 12,
     Inconsistent = 13,
-    NotListed = 14,
 }
 
 /// What a move answers. A shown event is given by its code. A retry shows none.
@@ -566,7 +564,7 @@ impl PlainLock {
 }
 
 /// Refusals 1 and 8: N, then the history's length. Gives N.
-pub(crate) fn inspect_history(threads: u16, history: &[u8]) -> Result<usize, Refusal> {
+fn inspect_history(threads: u16, history: &[u8]) -> Result<usize, Refusal> {
     let threads = usize::from(threads);
     if threads == 0 || threads > MAX_THREADS {
         return Err(Refusal::BadSize);

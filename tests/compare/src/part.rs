@@ -7,11 +7,9 @@
 //! answers 0, and its question 1 for yes and 0 for no. Reading a script answers N
 //! and 256 times the number of bytes. The dispatcher answers 0 for waiting, else
 //! four bytes: 128 and the event's code, the thread, the move and the target. The
-//! next history answers 0 where the given one was the last. The bits from 40
-//! upward count the retries: 1 for a move that was one, for a run those among its
-//! moves, and 0 for every other entry.
+//! bits from 40 upward count the retries: 1 for a move that was one, for a run
+//! those among its moves, and 0 for every other entry.
 
-use crate::listed;
 use crate::model::{self, Answer, Outcome, Ran, Record, Refusal, Turn};
 use crate::spelling::{self, Reading};
 
@@ -51,12 +49,6 @@ pub trait Part {
     fn dispatch(&self, _table: &mut [u8]) -> u64 {
         panic!("the part has no dispatcher")
     }
-    fn first_history(&self, _threads: u16, _events: u16, _out: &mut [u8]) -> u64 {
-        panic!("the part gives no first history")
-    }
-    fn next_history(&self, _threads: u16, _history: &[u8], _out: &mut [u8]) -> u64 {
-        panic!("the part gives no next history")
-    }
 }
 
 pub fn done(value: u64) -> u64 {
@@ -74,9 +66,6 @@ pub fn done_reading(threads: u64, bytes: u64) -> u64 {
 
 /// The dispatcher's answer where it is waiting.
 pub const WAITING: u64 = 0;
-
-/// The answer to a history that was the last of its length.
-pub const LAST: u64 = 0;
 
 /// The dispatcher's answer where it made a move of thread, move and target, which
 /// shows this event, 0 for none.
@@ -195,12 +184,6 @@ impl Part for Model {
             Turn::Refused(refusal) => refused(refusal as u64, 0),
         }
     }
-    fn first_history(&self, threads: u16, events: u16, out: &mut [u8]) -> u64 {
-        encoded(listed::first_history(threads, events, out))
-    }
-    fn next_history(&self, threads: u16, history: &[u8], out: &mut [u8]) -> u64 {
-        encoded(listed::next_history(threads, history, out))
-    }
 }
 
 #[derive(Clone, Copy, PartialEq, Eq, PartialOrd, Ord, Debug)]
@@ -219,11 +202,9 @@ pub enum Entry {
     WriteScript,
     ReadScript,
     Dispatch,
-    FirstHistory,
-    NextHistory,
 }
 
-pub const ENTRIES: [Entry; 16] = [
+pub const ENTRIES: [Entry; 14] = [
     Entry::Fresh,
     Entry::Move,
     Entry::Nodes,
@@ -238,8 +219,6 @@ pub const ENTRIES: [Entry; 16] = [
     Entry::WriteScript,
     Entry::ReadScript,
     Entry::Dispatch,
-    Entry::FirstHistory,
-    Entry::NextHistory,
 ];
 
 impl Entry {
@@ -259,8 +238,6 @@ impl Entry {
             "write_script",
             "read_script",
             "dispatch",
-            "first",
-            "next",
         ][self as usize]
     }
 
@@ -277,10 +254,6 @@ impl Entry {
 
     pub fn is_of_writing(self) -> bool {
         matches!(self, Entry::WriteScript | Entry::ReadScript)
-    }
-
-    pub fn is_of_listing(self) -> bool {
-        matches!(self, Entry::FirstHistory | Entry::NextHistory)
     }
 
     /// Whether the entry makes moves that may be retries, so that its answer tells
@@ -305,8 +278,6 @@ impl Entry {
             Entry::WriteScript => &[1, 3, 4, 5, 8, 12],
             Entry::ReadScript => &[1, 3, 5, 8, 12],
             Entry::Dispatch => &[1, 2],
-            Entry::FirstHistory => &[1, 12, 14],
-            Entry::NextHistory => &[1, 8, 9, 10, 11, 12, 14],
         }
     }
 }
@@ -438,24 +409,7 @@ impl Call {
         }
     }
 
-    pub fn first_history(threads: u16, events: u16, out: Vec<u8>) -> Call {
-        Call {
-            entry: Entry::FirstHistory,
-            numbers: [threads, events, 0],
-            read: vec![],
-            lent: out,
-        }
-    }
-    pub fn next_history(threads: u16, history: Vec<u8>, out: Vec<u8>) -> Call {
-        Call {
-            entry: Entry::NextHistory,
-            numbers: [threads, 0, 0],
-            read: history,
-            lent: out,
-        }
-    }
-
-    /// The call in the words of the vectors' files, its bytes in hexadecimal.
+    /// The call in the words of the vectors' file, its bytes in hexadecimal.
     pub fn words(&self) -> String {
         let [first, second, third] = self.numbers;
         let (read, lent) = (hex(&self.read), hex(&self.lent));
@@ -466,13 +420,10 @@ impl Call {
             Entry::Nodes | Entry::Run | Entry::ReadScript => format!("{name} {read} {lent}"),
             Entry::OpenMoves => format!("{name} {read} {first} {lent}"),
             Entry::Check | Entry::PlanLength => format!("{name} {first} {read}"),
-            Entry::Plan | Entry::WriteScript | Entry::NextHistory => {
-                format!("{name} {first} {read} {lent}")
-            }
+            Entry::Plan | Entry::WriteScript => format!("{name} {first} {read} {lent}"),
             Entry::WatchEvent => format!("{name} {lent} {first} {second}"),
             Entry::WatchInside => format!("{name} {read}"),
             Entry::Dispatch => format!("{name} {lent}"),
-            Entry::FirstHistory => format!("{name} {first} {second} {lent}"),
         }
     }
 }
@@ -558,8 +509,6 @@ impl<'a> Caller<'a> {
             Entry::WriteScript => self.part.write_script(numbers[0], read, lent),
             Entry::ReadScript => self.part.read_script(read, lent),
             Entry::Dispatch => self.part.dispatch(lent),
-            Entry::FirstHistory => self.part.first_history(numbers[0], numbers[1], lent),
-            Entry::NextHistory => self.part.next_history(numbers[0], read, lent),
         }
     }
 

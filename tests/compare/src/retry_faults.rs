@@ -174,12 +174,4 @@ impl Part for Retrying {
     fn dispatch(&self, table: &mut [u8]) -> u64 {
         self.other(Entry::Dispatch, Model.dispatch(table))
     }
-    fn first_history(&self, threads: u16, events: u16, out: &mut [u8]) -> u64 {
-        let answer = Model.first_history(threads, events, out);
-        self.other(Entry::FirstHistory, answer)
-    }
-    fn next_history(&self, threads: u16, history: &[u8], out: &mut [u8]) -> u64 {
-        let answer = Model.next_history(threads, history, out);
-        self.other(Entry::NextHistory, answer)
-    }
 }

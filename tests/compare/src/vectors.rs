@@ -1,21 +1,17 @@
-//! The test vectors: `calls.txt` and `tickets.txt`, one call and its answer a
-//! line, and pairs of a script and what the program prints for it in `scripts`.
+//! The test vectors: `calls.txt`, one call and its answer a line, and pairs of
+//! a script and what the program prints for it in `scripts`.
 
 use std::fs;
 use std::path::Path;
 
 use crate::model::{HOLD, LAST_MOVE, LAST_PHASE, READER_HOLDS, RUN_ROOM};
-use crate::part::{done, number_of, refused, Call, Entry, ENTRIES, LAST};
+use crate::part::{done, number_of, refused, Call, Entry, ENTRIES};
 use crate::scripts::map_lines;
 use crate::tables::{all_back_off, phases_mut};
 
-/// The files of calls.
-const FILES: [&str; 2] = ["calls.txt", "tickets.txt"];
-
-/// The entries that the vectors call. Those of `calls.txt` were made before 02
-/// §2: there are none of the watcher, none that write or read a script, and none
-/// of a plan's length or of the dispatcher. Those of `tickets.txt` were made for
-/// 02 §9, with all requests before it in force.
+/// The entries that the vectors call. They were made before 02 §2: there are
+/// none of the watcher, none that write or read a script, and none of a plan's
+/// length or of the dispatcher.
 pub fn entries() -> impl Iterator<Item = Entry> {
     ENTRIES
         .into_iter()
@@ -62,12 +58,6 @@ fn call(words: &[&str]) -> Option<Call> {
         (Entry::Check, [n, history]) => Call::check(number(n)?, bytes(history)?),
         (Entry::Plan, [n, history, out]) => Call::plan(number(n)?, bytes(history)?, bytes(out)?),
         (Entry::Run, [script, out]) => Call::run(bytes(script)?, bytes(out)?),
-        (Entry::FirstHistory, [n, events, out]) => {
-            Call::first_history(number(n)?, number(events)?, bytes(out)?)
-        }
-        (Entry::NextHistory, [n, history, out]) => {
-            Call::next_history(number(n)?, bytes(history)?, bytes(out)?)
-        }
         _ => return None,
     })
 }
@@ -76,7 +66,6 @@ fn answer(words: &[&str]) -> Option<(u64, Vec<u8>)> {
     let number = |word: &str| word.parse().ok();
     match words {
         ["quiet", after] => Some((done(0), bytes(after)?)),
-        ["last", after] => Some((LAST, bytes(after)?)),
         ["shown" | "ok", value, after] => Some((done(number(value)?), bytes(after)?)),
         ["refused", r, place, after] => Some((refused(number(r)?, number(place)?), bytes(after)?)),
         _ => None,
@@ -96,13 +85,13 @@ fn vector(name: String, line: &str) -> Option<Vector> {
     })
 }
 
-/// The vectors of a file of calls.
-fn calls(dir: &Path, file: &str) -> Result<Vec<Vector>, String> {
-    let path = dir.join(file);
+/// The vectors of `calls.txt`.
+fn calls(dir: &Path) -> Result<Vec<Vector>, String> {
+    let path = dir.join("calls.txt");
     let text = fs::read_to_string(&path).map_err(|e| format!("{}: {e}", path.display()))?;
     let mut vectors = Vec::new();
     for (i, line) in text.lines().enumerate() {
-        let name = format!("{file}, line {}", i + 1);
+        let name = format!("calls.txt, line {}", i + 1);
         vectors.push(vector(name.clone(), line).ok_or(format!("{name} isn't a call"))?);
     }
     Ok(vectors)
@@ -145,7 +134,7 @@ fn scripts(dir: &Path) -> Result<Vec<Vector>, String> {
     Ok(vectors)
 }
 
-/// The rule for the vectors that were made before 02 §1: that request gives
+/// The rule for the vectors, which were made before 02 §1: that request gives
 /// a move of 6, a phase byte of 18 and a line `(T (hold))` a meaning, which they
 /// did not have when the answers were found.
 ///
@@ -183,7 +172,7 @@ fn replace_hold(line: &[u8]) -> Option<Vec<u8>> {
     is_number.then(|| [b"(", thread, b" (held))"].concat())
 }
 
-/// The rule for the vectors that were made before 02 §6: that request makes a
+/// The rule for the vectors, which were made before 02 §6: that request makes a
 /// table unsound in which every thread is in 3, 4 and 18.
 ///
 /// Given is the vector of such a table with refusal 2 for its answer and every
@@ -205,13 +194,10 @@ pub fn before_rule(vector: &Vector) -> Option<Vector> {
 
 /// All vectors. That there are none of a kind is an error.
 pub fn read(dir: &Path) -> Result<Vec<Vector>, String> {
-    let mut vectors = Vec::new();
-    for file in FILES {
-        vectors.extend(calls(dir, file)?);
-    }
+    let mut vectors = calls(dir)?;
     for entry in entries() {
         if !vectors.iter().any(|vector| vector.call.entry == entry) {
-            return Err(format!("no vector is a call of {}", entry.name()));
+            return Err(format!("calls.txt has no call of {}", entry.name()));
         }
     }
     let pairs = scripts(dir)?;

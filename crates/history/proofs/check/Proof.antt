@@ -1,43 +1,39 @@
--- `check` meets its contract: refused by its form, or as its pairs decide.
-use mathlib.Core.Path.{sym, ap, ◌∙◌}
+-- `check` meets its contract: the tests for 1 and 8, then the pairs.
+use mathlib.Core.Bool.{true}
+use mathlib.Core.Path.{◌≡◌, sym, ◌∙◌}
 use borrow.Author.Rules.{rules}
-use lib.Dec.{T}
-use Rattle.definitions.specs.Answers.{answer_reply, passes_all}
-use Rattle.definitions.specs.PlainLock.{form_tests, pairs_tests, check_reply}
-use Rattle.basics.proofs.Replies.{behind}
-use Rattle.history.proofs.CheckLaws.{formed_e, turned_form, passed_form}
+use borrow.Author.Tests.{not-true, not-false}
+use Rattle.definitions.specs.PlainLock.{check_reply}
+use Rattle.definitions.specs.Table.{count_fits}
+use Rattle.basics.proofs.Tests.{true-T}
+use Rattle.theory.proofs.Stages.{count_most}
+use Rattle.history.proofs.CheckLaws.{bad-size, bad_form, good_form}
 use Rattle.history.proofs.check.Statement.{statement}
 use Rattle.history.proofs.check.Tie as tie
+
+-- N fits
+fits : (c : tie.Else1) → count_fits c.before.before.before.args.threads ≡ true
+fits c = sym c.before.count_fits.ensures ∙ not-false _ c.if1.false
 
 returns : tie.Need-returns
 unfolding check_reply
 returns c =
-    let called = c.before.before in
-    let told = c.enum_told.given in
-    let a = called.before.before.args in
-    ap answer_reply told.1
-    ∙ sym (turned_form a.threads a.history.now called.check-form.result _ called.check-form.ensures (pairs_tests a.threads a.history.now) _ told.0.0 told.0.1.0 told.1)
-
--- the form's tests are passed
-formed : (c : tie.After-known-told) → let a = c.before.before.before.before.before.args in T (passes_all (form_tests a.threads a.history.now))
-formed c =
-    let called = c.before.before.before in
-    let a = called.before.before.args in
-    (passed_form a.threads a.history.now called.check-form.result _ called.check-form.ensures _ c.before.formed.given.1).0
+    let a = c.before.before.before.args in
+    bad-size a.threads a.history.now _ (sym c.before.count_fits.ensures ∙ not-true _ c.if1.true)
 
 returns-2 : tie.Need-returns-2
 unfolding check_reply
 returns-2 c =
-    let a = c.before.before.before.before.before.before.args in
-    c.check-pairs.ensures ∙ sym (behind _ (form_tests a.threads a.history.now) (pairs_tests a.threads a.history.now) (formed c.before))
+    let a = c.before.before.before.before.args in
+    bad_form a.threads a.history.now _ (fits c.before) (not-true _ c.if2.true)
+
+returns-3 : tie.Need-returns-3
+unfolding check_reply
+returns-3 c =
+    let left = c.before in
+    let a = left.before.before.before.before.args in
+    c.check-pairs.ensures ∙ good_form a.threads a.history.now _ (fits left.before) (not-false _ left.if2.false)
 
 pub check-spec : {M : Type 1} → statement M
 check-spec =
-    tie.close
-    (tie.spec
-    (λ c κs. search rules)
-    (λ c. search rules)
-    (λ c. search rules)
-    returns
-    (λ c κs. (formed_e _ c.before.before.before.before.before.args.history.now (formed c)).most)
-    returns-2)
+    tie.close (tie.spec (λ c κs. search rules) returns returns-2 (λ c κs. count_most _ (true-T _ (fits c.before))) returns-3)

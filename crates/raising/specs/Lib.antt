@@ -1,2 +1,0 @@
--- What the pass over a history's pairs finds.
-pub mod Raises

@@ -1,1 +1,0 @@
-// Theorems alone: all short histories.
