@@ -1,4 +1,6 @@
 // What a line of a script says, and the reader of what follows the thread's number in the line of a move.
+#![tactic(auto)]
+
 ghost use Rattle.std.specs.Prelude.{◌≡◌};
 ghost use Rattle.definitions.specs.Forms.{target_form, aimed_form, act_form};
 ghost use Rattle.definitions.specs.Moves.{ask};
@@ -9,7 +11,7 @@ use definitions::{CALL_EXCLUSIVE, CALL_SHARED, CLEAR, GO, HOLD, RELENT, Request,
 use words::{MaybeNumber, read_closed, same_text, starts_with};
 
 // What a line says. What each case means stands in specs/Readings.antt.
-#[derive(Drop)]
+#[derive(Clone, Copy)]
 pub enum Form {
     // The number of threads.
     Threads(u16),
@@ -27,6 +29,7 @@ fn asking(thread: u16, mv: u16, target: u16) -> Form
 }
 
 // What follows `(T (set ` or `(T (clear `: `K))`.
+#[tactic(auto, unfolding(definitions::specs::Texts::bytes))]
 fn read_target(thread: u16, mv: u16, part: &[u8]) -> Form
     ensures { form_for result ≡ target_form thread mv (number_read part.now) }
 {
@@ -38,6 +41,7 @@ fn read_target(thread: u16, mv: u16, part: &[u8]) -> Form
 }
 
 // A move with a target, from the space behind the thread's number on.
+#[tactic(auto, unfolding(definitions::specs::Texts::bytes, definitions::specs::Forms::aimed_form))]
 fn read_aimed(thread: u16, part: &[u8]) -> Form
     ensures { form_for result ≡ aimed_form thread part.now }
 {
@@ -51,6 +55,7 @@ fn read_aimed(thread: u16, part: &[u8]) -> Form
 }
 
 // What follows the thread's number, from the space on. A move without a target has target 0.
+#[tactic(auto, unfolding(definitions::specs::Texts::bytes, definitions::specs::Forms::act_form, definitions::specs::Forms::plain_form, definitions::specs::Forms::plain_moves, definitions::specs::Threads::gather, definitions::specs::Forms::act_text))]
 pub fn read_act(thread: u16, part: &[u8]) -> Form
     ensures { form_for result ≡ act_form thread part.now }
 {

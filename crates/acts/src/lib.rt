@@ -1,4 +1,6 @@
 // What stands behind T in the line of a move: how long it is, and the same put into an output.
+#![tactic(auto)]
+
 ghost use Rattle.std.specs.Prelude.{◌++◌, ◌≡◌, length};
 ghost use Rattle.definitions.specs.Forms.{act_text};
 ghost use Rattle.definitions.specs.Texts.{decimal};
@@ -24,6 +26,7 @@ pub fn put_around(out: &mut [u8], at: usize, word: &[u8], number: u16, close: &[
 }
 
 // What stands behind T, by the move's number; a number that is no move's has nothing.
+#[tactic(auto, unfolding(definitions::specs::Texts::bytes, definitions::specs::Forms::act_text))]
 pub fn act_length(mv: u8, target: u8) -> u8
     ensures { result ≡ length (act_text mv target) }
 {
@@ -40,6 +43,7 @@ pub fn act_length(mv: u8, target: u8) -> u8
     }
 }
 
+#[tactic(auto, unfolding(definitions::specs::Texts::bytes, definitions::specs::Forms::act_text))]
 pub fn put_act(out: &mut [u8], at: usize, mv: u8, target: u8) -> usize
     requires { RoomAt out.old at (act_text mv target) }
     ensures { PutAt out.old at (act_text mv target) out.new result }

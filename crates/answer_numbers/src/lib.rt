@@ -1,6 +1,8 @@
 // An answer of the part as one number: its low byte is the refusal's number, 0 where the request is accepted, and the rest is
 // the refusal's place, or the value of what is answered (specs/Encoding.antt). The numbers of a move and of a turn stand in the
 // crate move_numbers.
+#![tactic(auto)]
+
 ghost use Rattle.std.specs.Prelude.{◌<◌, ◌≡◌};
 ghost use Rattle.definitions.specs.Answers.{answer_reply};
 ghost use Rattle.definitions.specs.Run.{running_reply};
@@ -18,6 +20,7 @@ const MOST_PLACE: usize = 36_028_797_018_963_967;
 pub const RETRY_UNIT: u64 = 4_294_967_296;
 
 // The number of any other entry's answer, whose value is small.
+#[tactic(auto, unfolding(crate::specs::Encoding::encoded))]
 pub fn answer_number(answer: Answer) -> u64
     requires { value_in (answer_reply answer) < value_bound }
     ensures { result ≡ count_number (answer_reply answer) }
@@ -29,6 +32,7 @@ pub fn answer_number(answer: Answer) -> u64
 }
 
 // The number of a run's answer, whose values are small.
+#[tactic(auto, unfolding(crate::specs::Encoding::encoded))]
 pub fn running_number(answer: Running) -> u64
     requires { run_in (running_reply answer) < value_bound }
     ensures { result ≡ run_number (running_reply answer) }
@@ -40,6 +44,7 @@ pub fn running_number(answer: Running) -> u64
 }
 
 // The number of a watcher's answer to its start or to an event.
+#[tactic(auto, unfolding(crate::specs::Encoding::encoded))]
 pub fn watch_number(answer: Watched) -> u64
     ensures { result ≡ watch_number (watched_reply answer) }
 {
@@ -50,6 +55,7 @@ pub fn watch_number(answer: Watched) -> u64
 }
 
 // The number of its answer to the question.
+#[tactic(auto, unfolding(crate::specs::Encoding::encoded))]
 pub fn inside_number(answer: Inside) -> u64
     ensures { result ≡ inside_number (inside_reply answer) }
 {
@@ -61,6 +67,7 @@ pub fn inside_number(answer: Inside) -> u64
 }
 
 // The number of reading's answer, whose values are small.
+#[tactic(auto, unfolding(crate::specs::Encoding::encoded))]
 pub fn reading_number(answer: Reading) -> u64
     requires { listed_in (reading_reply answer) < value_bound }
     ensures { result ≡ read_number (reading_reply answer) }

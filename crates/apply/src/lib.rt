@@ -1,5 +1,7 @@
 // An accepted request made on a sound byte table: the head, the mover and the subject are read, the rules decide, and what they
 // decided is written.
+#![tactic(auto)]
+
 ghost use Rattle.std.specs.Prelude.{◌≡◌};
 ghost use Rattle.definitions.specs.Table.{byte_table};
 ghost use Rattle.theory.specs.Tables.{put_back};

@@ -1,5 +1,7 @@
 // A reader's look at its forbidden, and what a writer does with a subject's busy and forbidden, by value. The rules (crate rules)
 // choose from these and from the crate steps.
+#![tactic(auto)]
+
 ghost use Rattle.std.specs.Prelude.{cond, ◌≡◌, eqb};
 ghost use Rattle.definitions.specs.Bounds.{no_target};
 ghost use Rattle.definitions.specs.Codes.{set_move, clear_move};

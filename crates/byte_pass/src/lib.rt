@@ -1,5 +1,7 @@
 // One pass over the threads of a byte table, read in words of four bytes: what it finds of them is what the soundness test
 // decides by.
+#![tactic(auto)]
+
 ghost use Rattle.std.specs.Prelude.{◌+◌, ◌<◌, ◌≡◌, length};
 ghost use Rattle.definitions.specs.Table.{table_of};
 ghost use Rattle.rows.specs.Rows.{thread_word};
@@ -40,6 +42,7 @@ fn last_word(table: &[u8], thread: usize) -> u64
 }
 
 // The word of the last thread but one, where the threads before the last are odd in number; else 0, the word of a free thread.
+#[tactic(auto, unfolding(crate::specs::Words::odd_word))]
 fn odd_word(table: &[u8], last: usize) -> u64
     requires { Sized table.now × (last < (table_of table.now).threads) }
     ensures { result ≡ odd_word (table_of table.now) last }

@@ -1,6 +1,8 @@
 // The rows of threads as the pass over the byte table looks them up: two at a time, by their words. The rows themselves are
 // generated (tests/rows/states.py), since the compiler puts their table into the pass without a call only where one pass looks
 // them up; each copy is held to `row_at`.
+#![tactic(auto)]
+
 mod states;
 
 ghost use Rattle.std.specs.Prelude.{◌+◌, ◌^◌, ◌<◌, ◌≡◌};

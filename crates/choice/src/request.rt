@@ -10,7 +10,7 @@ use layout::{read_head, read_task};
 use ready::{move_in, ready_phases};
 
 // What is chosen.
-#[derive(Drop)]
+#[derive(Clone, Copy)]
 pub enum Choice {
     Nobody,
     Makes { thread: u8, mv: u8, target: u8 },
@@ -41,6 +41,7 @@ fn phases_in(table: &[u8], threads: usize) -> u32
 }
 
 // The target of a thread by its phase: "In 10 the target is the lowest thread with forbidden 0, in 15 the lowest with forbidden 1."
+#[tactic(auto, unfolding(definitions::specs::Dispatch::target_for))]
 fn target_in(table: &[u8], threads: usize, phase: u8) -> usize
     requires { CountedFor table.now threads }
     ensures { (i : ℕ) → phase ≡ (table_of table.now).phase i → result ≡ target_for (table_of table.now) i }

@@ -1,5 +1,7 @@
 // The numbers of the papers as code: whether N is one, the codes of the events, and the numbers of the refusals. The event of a
 // code is a function of the type (definitions::Event).
+#![tactic(auto)]
+
 ghost use Rattle.std.specs.Prelude.{◌≡◌};
 ghost use Rattle.definitions.specs.Answers.{code_of, number_of};
 ghost use Rattle.definitions.specs.Table.{count_fits};

@@ -1,5 +1,7 @@
 // The consistency test of a watcher's record (02 §2), by value: one pass over its 200 entries, and refusals 1 and 13. The places
 // are lent as a slice, so that they are copied once, by whoever hands the record over.
+#![tactic(auto)]
+
 ghost use Rattle.std.specs.Prelude.{◌≡◌, length};
 ghost use Rattle.definitions.specs.Answers.{answered};
 ghost use Rattle.definitions.specs.Bounds.{most_threads};
@@ -11,7 +13,7 @@ use codes::count_fits;
 use definitions::{MOST_THREADS, Refusal, Watched};
 
 // A record but for its places: N and the two totals.
-#[derive(Drop)]
+#[derive(Clone, Copy)]
 pub struct Totals {
     pub threads: u8,
     pub shared: u8,
@@ -19,7 +21,7 @@ pub struct Totals {
 }
 
 // What a pass finds of the threads: how many are at 2 and at 6, and whether every place is one of a round.
-#[derive(Drop)]
+#[derive(Clone, Copy)]
 struct Found {
     shared: u8,
     exclusive: u8,
@@ -44,6 +46,7 @@ fn with_place(found: Found, place: u8) -> Found
 }
 
 // The pass over the threads' entries.
+#[tactic(auto, unfolding(definitions::specs::Threads::how_many, definitions::specs::Threads::every))]
 fn find(threads: u8, places: &[u8]) -> Found
     requires { Small threads places.now }
     ensures { result ≡ found_in places.now threads }
@@ -64,6 +67,7 @@ fn find(threads: u8, places: &[u8]) -> Found
 }
 
 // It goes on over the entries from N upward: whether all are 0.
+#[tactic(auto, unfolding(definitions::specs::Threads::every))]
 fn rest_is_empty(threads: u8, places: &[u8]) -> bool
     requires { Small threads places.now }
     ensures { result ≡ empty_up_to threads places.now most_threads }

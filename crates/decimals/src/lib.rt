@@ -1,4 +1,6 @@
 // Numbers put into a lent output with the digits that they need, and how many those are.
+#![tactic(auto)]
+
 ghost use Rattle.std.specs.Prelude.{◌≡◌, length};
 ghost use Rattle.definitions.specs.Texts.{decimal};
 ghost use Rattle.basics.specs.Outputs.{RoomAt, PutAt};

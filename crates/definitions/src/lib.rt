@@ -1,6 +1,8 @@
 // The numbers of the scope paper, each once, and the types that the part's entries are asked and answer with. What each case
 // of an enum means in the paper's numbers stands in specs/Answers.antt; the rest of specs/ holds the definitions that every
 // promise of the part cites. "02 §1" is paragraph 1 of the paper of change requests.
+#![tactic(auto)]
+
 ghost use Rattle.std.specs.Prelude.{◌≡◌};
 ghost use Rattle.definitions.specs.Answers.{event_of};
 
@@ -53,7 +55,7 @@ pub const ENOUGH_OUTPUT: usize = 65_536;
 pub const MOST_DEPTH: u8 = 16;
 
 // "A request is thread, move and target, 16 bits each"
-#[derive(Drop)]
+#[derive(Clone, Copy)]
 pub struct Request {
     pub thread: u16,
     pub mv: u16,
@@ -61,7 +63,7 @@ pub struct Request {
 }
 
 // "Byte 0 is N, byte 1 the mutex (0 or 1), byte 2 the target"
-#[derive(Drop)]
+#[derive(Clone, Copy)]
 pub struct Head {
     pub threads: u8,
     pub mutex: u8,
@@ -69,7 +71,7 @@ pub struct Head {
 }
 
 // "Then for each thread: phase, busy, forbidden."
-#[derive(Drop)]
+#[derive(Clone, Copy)]
 pub struct Task {
     pub phase: u8,
     pub busy: u8,
@@ -77,7 +79,7 @@ pub struct Task {
 }
 
 // The eight events, in the order of their codes 1 to 8.
-#[derive(Drop)]
+#[derive(Clone, Copy)]
 pub enum Event {
     EnterSharedCall,
     EnterSharedReturn,
@@ -90,7 +92,7 @@ pub enum Event {
 }
 
 // The event that a code stands for, if there is one.
-#[derive(Drop)]
+#[derive(Clone, Copy)]
 pub enum MaybeEvent {
     Known(Event),
     Unknown,
@@ -102,6 +104,7 @@ impl Event {
 
     pub const LAST: u8 = 8;
 
+    #[tactic(auto, unfolding(crate::specs::Answers::event_of, crate::specs::Answers::events))]
     pub fn from_code(code: u8) -> MaybeEvent
         ensures { result ≡ event_of code }
     {
@@ -120,7 +123,7 @@ impl Event {
 }
 
 // Why a request is turned down: the numbers 1 to 12 in checking order, and 13 of the watcher, tested after 1 and before 9.
-#[derive(Drop)]
+#[derive(Clone, Copy)]
 pub enum Refusal {
     BadSize,
     Unsound,
@@ -138,7 +141,7 @@ pub enum Refusal {
 }
 
 // What a move answers. The table stays in the lent bytes.
-#[derive(Drop)]
+#[derive(Clone, Copy)]
 pub enum Outcome {
     Shown(Event),
     // No event is shown, and the move was no retry.
@@ -149,7 +152,7 @@ pub enum Outcome {
 }
 
 // What every other entry answers: a count, or the refusal and its place.
-#[derive(Drop)]
+#[derive(Clone, Copy)]
 pub enum Answer {
     Done(usize),
     Refused(Refusal, usize),
@@ -158,7 +161,7 @@ pub enum Answer {
 // "A watcher record holds N, each thread's place in its round .., and how many are in shared and in exclusive." (02 §2): bytes
 // alone, 203 of them, so that it has no padding and may stand at any address.
 #[repr(C)]
-#[derive(Drop)]
+#[derive(Clone, Copy)]
 pub struct Watcher {
     pub threads: u8,
     pub shared: u8,
@@ -167,14 +170,14 @@ pub struct Watcher {
 }
 
 // What a watcher answers to its start and to an event.
-#[derive(Drop)]
+#[derive(Clone, Copy)]
 pub enum Watched {
     Good,
     Refused(Refusal),
 }
 
 // What it answers to "Is anybody inside?".
-#[derive(Drop)]
+#[derive(Clone, Copy)]
 pub enum Inside {
     Somebody,
     Nobody,
@@ -182,21 +185,21 @@ pub enum Inside {
 }
 
 // What a run answers: the number of bytes written, and how many of the moves made were retries (02 §7).
-#[derive(Drop)]
+#[derive(Clone, Copy)]
 pub enum Running {
     Ran { bytes: usize, retries: usize },
     Refused(Refusal, usize),
 }
 
 // What reading a script answers: N and the number of bytes written (02 §3).
-#[derive(Drop)]
+#[derive(Clone, Copy)]
 pub enum Reading {
     Read { threads: u8, bytes: usize },
     Refused(Refusal, usize),
 }
 
 // What is seen of a move that was made.
-#[derive(Drop)]
+#[derive(Clone, Copy)]
 pub enum MoveEvent {
     Shown(Event),
     Quiet,
@@ -204,7 +207,7 @@ pub enum MoveEvent {
 
 // What the dispatcher answers: "thread, move and target with the move's own answer"; or that no thread has a move of its
 // kind; or why the table is turned down (02 §8).
-#[derive(Drop)]
+#[derive(Clone, Copy)]
 pub enum Dispatched {
     Moved {
         thread: u8,

@@ -7,7 +7,7 @@ use definitions::{Dispatched, MoveEvent, Outcome, Request};
 use table::Examined;
 
 // What a turn answers, and how many threads have forbidden 1 after it.
-#[derive(Drop)]
+#[derive(Clone, Copy)]
 struct Turn {
     answer: Dispatched,
     forbidden: usize,

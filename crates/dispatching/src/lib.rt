@@ -1,1 +1,2 @@
 // Laws and theorems of the dispatcher's choice, in proofs/: this crate has no code.
+#![tactic(auto)]

@@ -1,4 +1,6 @@
 // How a run ended, and the last line of its output: how long it is, and the same put into an output.
+#![tactic(auto)]
+
 ghost use Rattle.std.specs.Prelude.{◌≡◌, length};
 ghost use Rattle.definitions.specs.Run.{steps_line, refused_line};
 ghost use Rattle.basics.specs.Outputs.{RoomAt, PutAt};
@@ -10,7 +12,7 @@ use definitions::Refusal;
 use text::put_text;
 
 // How a run ended: with so many moves made, or by the refusal of a line.
-#[derive(Drop)]
+#[derive(Clone, Copy)]
 pub enum Ending {
     Steps(usize),
     Refused(Refusal, usize),
@@ -41,6 +43,7 @@ pub fn ending_length(ending: Ending) -> usize
 }
 
 // `(steps K)`
+#[tactic(auto, unfolding(definitions::specs::Texts::bytes, definitions::specs::Run::steps_line))]
 fn put_steps(out: &mut [u8], at: usize, steps: usize) -> usize
     requires { RoomAt out.old at (steps_line steps) }
     ensures { PutAt out.old at (steps_line steps) out.new result }
@@ -51,6 +54,7 @@ fn put_steps(out: &mut [u8], at: usize, steps: usize) -> usize
 }
 
 // `(refused R L)`
+#[tactic(auto, unfolding(definitions::specs::Texts::bytes, definitions::specs::Run::refused_line))]
 fn put_refused(out: &mut [u8], at: usize, number: usize, line: usize) -> usize
     requires { RoomAt out.old at (refused_line number line) }
     ensures { PutAt out.old at (refused_line number line) out.new result }

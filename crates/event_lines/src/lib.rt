@@ -1,4 +1,6 @@
 // The lines of a run's events, from the history that it showed: byte pairs, thread then event. They are measured before they are put.
+#![tactic(auto)]
+
 ghost use Rattle.std.specs.Prelude.{◌≤◌, ◌≡◌, length};
 ghost use Rattle.definitions.specs.Answers.{shown};
 ghost use Rattle.definitions.specs.Bounds.{enough_output};
@@ -41,6 +43,7 @@ pub fn events_length(history: &[u8]) -> usize
 }
 
 // `(event T (name))`
+#[tactic(auto, unfolding(definitions::specs::Texts::bytes, definitions::specs::Run::event_line))]
 fn put_event(out: &mut [u8], at: usize, thread: u8, code: u8) -> usize
     requires { RoomAt out.old at (event_line thread (shown code)) }
     ensures { PutAt out.old at (event_line thread (shown code)) out.new result }

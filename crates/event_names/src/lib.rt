@@ -1,4 +1,6 @@
 // The names of the events by their codes: how long they are, and the same put into an output.
+#![tactic(auto)]
+
 ghost use Rattle.std.specs.Prelude.{◌≡◌, length};
 ghost use Rattle.definitions.specs.Run.{event_name};
 ghost use Rattle.basics.specs.Outputs.{RoomAt, PutAt};
@@ -10,6 +12,7 @@ use text::put_text;
 const NAME_LENGTHS: [u8; Event::LAST as usize + 1] = [0, 17, 19, 17, 19, 20, 22, 20, 22];
 
 // The length of an event's name, by the event's code.
+#[tactic(auto, unfolding(definitions::specs::Run::event_name, definitions::specs::Texts::bytes, definitions::specs::Threads::list_of))]
 pub fn name_length(code: u8) -> u8
     ensures { result ≡ length (event_name code) }
 {
@@ -20,6 +23,7 @@ pub fn name_length(code: u8) -> u8
 }
 
 // The event's name, by its code.
+#[tactic(auto, unfolding(definitions::specs::Texts::bytes, definitions::specs::Run::event_name))]
 pub fn put_name(out: &mut [u8], at: usize, code: u8) -> usize
     requires { RoomAt out.old at (event_name code) }
     ensures { PutAt out.old at (event_name code) out.new result }

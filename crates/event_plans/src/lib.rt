@@ -1,4 +1,6 @@
 // The triples that the plan makes for one event.
+#![tactic(auto)]
+
 ghost use Rattle.definitions.specs.Plan.{plan_of, bytes_of};
 ghost use Rattle.basics.specs.Outputs.{RoomAt, PutAt};
 
@@ -7,6 +9,7 @@ use repeats::{clear_each, go_times, set_each};
 use triples::put_triple;
 
 // Event 6: go, set t and go for each t, go.
+#[tactic(auto, unfolding(definitions::specs::Plan::plan_of))]
 fn enter_exclusive(out: &mut [u8], at: usize, thread: u8, threads: u8) -> usize
     requires { RoomAt out.old at (bytes_of (plan_of threads (record { thread = thread; event = 6 }))) }
     ensures { PutAt out.old at (bytes_of (plan_of threads (record { thread = thread; event = 6 }))) out.new result }
@@ -17,6 +20,7 @@ fn enter_exclusive(out: &mut [u8], at: usize, thread: u8, threads: u8) -> usize
 }
 
 // Event 7: go, clear each t, go.
+#[tactic(auto, unfolding(definitions::specs::Plan::plan_of))]
 fn leave_exclusive(out: &mut [u8], at: usize, thread: u8, threads: u8) -> usize
     requires { RoomAt out.old at (bytes_of (plan_of threads (record { thread = thread; event = 7 }))) }
     ensures { PutAt out.old at (bytes_of (plan_of threads (record { thread = thread; event = 7 }))) out.new result }
@@ -27,6 +31,7 @@ fn leave_exclusive(out: &mut [u8], at: usize, thread: u8, threads: u8) -> usize
 }
 
 // The triples of one pair.
+#[tactic(auto, unfolding(definitions::specs::Plan::plan_of, definitions::specs::Threads::gather))]
 pub fn write_pair(out: &mut [u8], at: usize, threads: u8, thread: u8, code: u8) -> usize
     requires { RoomAt out.old at (bytes_of (plan_of threads (record { thread = thread; event = code }))) }
     ensures { PutAt out.old at (bytes_of (plan_of threads (record { thread = thread; event = code }))) out.new result }

@@ -1,5 +1,7 @@
 // What the example programs print: a line is an example's name, the refusal's number, the value, and the bytes left where
 // they are shown.
+#![tactic(auto)]
+
 use libc::STDOUT_FILENO;
 
 pub fn say(text: &[u8]) {

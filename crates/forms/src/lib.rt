@@ -1,4 +1,6 @@
 // The reader of a script's forms: one line, handed over alone and without its line feed.
+#![tactic(auto)]
+
 ghost use Rattle.std.specs.Prelude.{◌≡◌};
 ghost use Rattle.definitions.specs.Forms.{note_form, threads_form, move_form, form_of};
 ghost use Rattle.definitions.specs.Texts.{number_read};
@@ -9,6 +11,7 @@ use notes::ends_note;
 use words::{MaybeNumber, read_closed, read_number, starts_with};
 
 // What follows `(threads `: `N)`.
+#[tactic(auto, unfolding(definitions::specs::Texts::bytes))]
 fn read_threads(part: &[u8]) -> Form
     ensures { form_for result ≡ threads_form (number_read part.now) }
 {
@@ -42,6 +45,7 @@ fn read_note(part: &[u8]) -> Form
 }
 
 // The form of a line. proofs/Spelling.antt shows that this is the inverse of the spelling of forms.
+#[tactic(auto, unfolding(definitions::specs::Texts::bytes, definitions::specs::Forms::form_of))]
 pub fn read_form(line: &[u8]) -> Form
     ensures { form_for result ≡ form_of line.now }
 {

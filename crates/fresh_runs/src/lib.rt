@@ -1,4 +1,6 @@
 // The run of a script from its first line on: the table is a fresh one for the N that this line says.
+#![tactic(auto)]
+
 ghost use Rattle.std.specs.Prelude.{◌≤◌, length, drop};
 ghost use Rattle.definitions.specs.Forms as forms;
 ghost use Rattle.definitions.specs.Texts.{lines_of};

@@ -1,4 +1,6 @@
 // The check of a history: its N and its form, and then its pairs.
+#![tactic(auto)]
+
 ghost use Rattle.std.specs.Prelude.{◌≡◌};
 ghost use Rattle.definitions.specs.Answers.{answer_reply};
 ghost use Rattle.definitions.specs.PlainLock.{check_reply};
@@ -9,6 +11,7 @@ use pairs::check_pairs;
 
 // Refusals 1 and 8; then pair by pair 9, 10, 11, with the index of the first bad pair. An accepted history answers its number
 // of events.
+#[tactic(auto, unfolding(definitions::specs::PlainLock::check_reply))]
 pub fn check(threads: u16, history: &[u8]) -> Answer
     ensures { answer_reply result ≡ check_reply threads history.now }
 {

@@ -1,5 +1,7 @@
 // Where the bytes of a table stand, and the byte table as a storage: its head and its tasks, read and written by value. What
 // decides works on these, and knows of no bytes.
+#![tactic(auto)]
+
 ghost use Rattle.std.specs.Prelude.{◌<◌, ◌^◌, ◌≡◌};
 ghost use Rattle.definitions.specs.Table.{size, phase_at, busy_at, forbidden_at, table_of, byte_table};
 ghost use Rattle.theory.specs.Tables.{Sized, head_of, task_of, put_head, put_task};
@@ -75,6 +77,7 @@ pub fn read_task(table: &[u8], thread: usize) -> Task
 }
 
 // N stays.
+#[tactic(auto, unfolding(definitions::specs::Table::stored))]
 pub fn write_head(table: &mut [u8], head: Head)
     requires { Sized table.old }
     ensures { table.new ≡ put_head byte_table table.old head }
@@ -83,6 +86,7 @@ pub fn write_head(table: &mut [u8], head: Head)
     table[TARGET_AT] = head.target;
 }
 
+#[tactic(auto, unfolding(definitions::specs::Table::stored))]
 pub fn write_task(table: &mut [u8], thread: usize, task: Task)
     requires { Sized table.old × (thread < (table_of table.old).threads) }
     ensures { table.new ≡ put_task byte_table table.old thread task }

@@ -1,4 +1,6 @@
 // The move that a line of a script states, as a byte triple. The line is read by the function that the run uses.
+#![tactic(auto)]
+
 ghost use Rattle.std.specs.Prelude.{[], ◌∷◌};
 ghost use Rattle.definitions.specs.Forms.{form_of, line_tests, request_in};
 ghost use Rattle.definitions.specs.Moves.{number_tests};

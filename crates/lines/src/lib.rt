@@ -1,9 +1,11 @@
 // The lines of a script, one after the other. Whoever walks them goes from 0 to behind each line feed, and hands on the part from a line's start to its end.
+#![tactic(auto)]
+
 ghost use Rattle.std.specs.Prelude.{◌+◌, ◌≤◌, cond, ◌≡◌, ltb, length, drop};
 ghost use Rattle.lines.specs.Lines.{line_length, NextAt};
 
 // What stands at a place of a script.
-#[derive(Drop)]
+#[derive(Clone, Copy)]
 pub enum Next {
     // A line, and the place of its line feed.
     Line(usize),

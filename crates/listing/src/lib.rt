@@ -1,4 +1,6 @@
 // The open moves of a thread, listed as byte pairs: counted first, then written.
+#![tactic(auto)]
+
 ghost use Rattle.std.specs.Prelude.{◌≤◌, [], ◌≡◌, length};
 ghost use Rattle.definitions.specs.Answers.{answer_reply, counted};
 ghost use Rattle.definitions.specs.Bounds.{most_threads, last_move};
@@ -11,7 +13,7 @@ use layout::{read_head, read_task};
 use table::Examined;
 
 // What is known of the thread that would move: N, its phase, the moves that the phase has, a bit each, and the mutex.
-#[derive(Drop)]
+#[derive(Clone, Copy)]
 struct Mover {
     threads: usize,
     phase: u8,
@@ -28,6 +30,7 @@ fn is_open(at: Mover, mv: u8) -> bool
 }
 
 // With how many targets, from 0 on.
+#[tactic(auto, unfolding(crate::specs::Pairs::open_targets))]
 fn open_targets(at: Mover, mv: u8) -> usize
     requires { MoverFits at × (mv ≤ last_move) }
     ensures { result ≡ open_targets at mv }
@@ -38,6 +41,7 @@ fn open_targets(at: Mover, mv: u8) -> usize
     phase_moves::targets_of(at.threads, mv)
 }
 
+#[tactic(auto, unfolding(crate::specs::Pairs::pairs_below))]
 fn count_open(at: Mover) -> usize
     requires { MoverFits at }
     ensures { result ≡ length (open_pairs at) }
@@ -50,6 +54,7 @@ fn count_open(at: Mover) -> usize
 }
 
 // The pairs of one move, from a position on. The position behind them is answered.
+#[tactic(auto, unfolding(crate::specs::Pairs::pairs))]
 fn put_pairs(out: &mut [u8], start: usize, mv: u8, targets: usize) -> usize
     requires { RoomAt out.old start (pairs mv targets) × (targets ≤ most_threads) }
     ensures { PutAt out.old start (pairs mv targets) out.new result }
@@ -64,6 +69,7 @@ fn put_pairs(out: &mut [u8], start: usize, mv: u8, targets: usize) -> usize
 }
 
 // The pairs of all moves.
+#[tactic(auto, unfolding(crate::specs::Pairs::pairs_below))]
 fn put_open(out: &mut [u8], at: Mover) -> usize
     requires { MoverFits at × RoomAt out.old 0 (open_pairs at) }
     ensures { PutAt out.old 0 (open_pairs at) out.new result }

@@ -1,4 +1,6 @@
 // The move over the byte table: the table is tested once, then the request, then the request is applied.
+#![tactic(auto)]
+
 mod moves;
 mod request;
 

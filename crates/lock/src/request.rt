@@ -10,6 +10,7 @@ use definitions::{Refusal, Request};
 use layout::{read_head, read_task};
 use requests::Tested;
 
+#[tactic(auto, unfolding(definitions::specs::Answers::answered))]
 pub fn test_request(table: &[u8], request: Request) -> Tested
     requires { SoundBytes table.now }
     ensures { tested_reply result ≡ answered (request_tests (table_of table.now) request) tt }

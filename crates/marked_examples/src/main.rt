@@ -1,4 +1,6 @@
 // M1 to M12 of the scope paper through the compiled entries. The gate holds what this prints to the file stdout.
+#![tactic(auto)]
+
 use example_lines::{say_answer, say_bytes, show_check, show_move};
 
 // M1: a fresh table for one thread.

@@ -1,4 +1,6 @@
 // The number of a move's outcome, and of a turn of the dispatcher, by the rule of the crate answer_numbers.
+#![tactic(auto)]
+
 ghost use Rattle.std.specs.Prelude.{◌+◌, ◌*◌, ◌≤◌, ◌≡◌};
 ghost use Rattle.answer_numbers.specs.Encoding.{move_number, turn_number, made_mark, seen_value};
 ghost use Rattle.definitions.specs.Answers.{outcome_reply};
@@ -16,6 +18,7 @@ const RETRY_NUMBER: u64 = 256 * RETRY_UNIT;
 const MADE_MARK: u64 = 128;
 
 // The number of an outcome of the move.
+#[tactic(auto, unfolding(answer_numbers::specs::Encoding::encoded))]
 pub fn outcome_number(outcome: Outcome) -> u64
     ensures { result ≡ move_number (outcome_reply outcome) }
 {
@@ -49,6 +52,7 @@ fn made_number(code: u64, thread: u8, mv: u8, target: u8) -> u64
 }
 
 // The number of the dispatcher's answer.
+#[tactic(auto, unfolding(answer_numbers::specs::Encoding::encoded))]
 pub fn dispatched_number(answer: Dispatched) -> u64
     ensures { result ≡ turn_number (dispatched_reply answer) }
 {

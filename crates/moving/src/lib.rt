@@ -1,5 +1,7 @@
 // An accepted move by value, apart from any storage: what is seen of the head, the mover and the subject, and how many forbidden
 // are 1 after it. A storage reads these, has the rules decide, and writes what they decided.
+#![tactic(auto)]
+
 ghost use Rattle.std.specs.Prelude.{◌+◌, ◌≤◌, ◌<◌, cond, ◌≡◌, eqb};
 ghost use Rattle.definitions.specs.Bounds.{most_threads};
 ghost use Rattle.moving.specs.Moved.{view_by};
@@ -8,7 +10,7 @@ use definitions::{Head, Outcome, Task};
 use views::View;
 
 // The outcome of a move, and how many forbidden are 1 after it.
-#[derive(Drop)]
+#[derive(Clone, Copy)]
 pub struct Made {
     pub outcome: Outcome,
     pub forbidden: usize,

@@ -1,4 +1,6 @@
 // The nodes of all threads.
+#![tactic(auto)]
+
 ghost use Rattle.std.specs.Prelude.{◌≡◌};
 ghost use Rattle.definitions.specs.Answers.{answer_reply};
 ghost use Rattle.definitions.specs.Nodes.{nodes_entry};
@@ -35,6 +37,7 @@ const LE: u8 = 9;
 const OE: u8 = 10;
 
 // The node of a phase.
+#[tactic(auto, unfolding(definitions::specs::Phases::rows, definitions::specs::Threads::every, definitions::specs::Threads::among))]
 fn node_of(phase: u8) -> u8
     ensures { result ≡ node_of phase }
 {
@@ -54,6 +57,7 @@ fn node_of(phase: u8) -> u8
 }
 
 // The nodes of a sound table's threads.
+#[tactic(auto, unfolding(definitions::specs::Nodes::nodes_of))]
 fn put_nodes(table: &[u8], threads: usize, out: &mut [u8]) -> Answer
     requires { SoundBytes table.now × (threads ≡ (table_of table.now).threads) }
     ensures { Delivered (nodes_entry table.now) out.old out.new (answer_reply result) }

@@ -1,4 +1,6 @@
 // The test of a note: what follows its word and the space, up to the note's own closing bracket. The text is passed in one loop with a depth count.
+#![tactic(auto)]
+
 ghost use Rattle.std.specs.Prelude.{◌+◌, ◌≤◌, true, cond, ◌||◌, ◌≡◌, eqb};
 ghost use Rattle.definitions.specs.Bounds.{most_depth};
 ghost use Rattle.definitions.specs.Forms.{note, bad, note_fits, note_form};

@@ -1,4 +1,6 @@
 // The first line of a script, for the run and for reading alike.
+#![tactic(auto)]
+
 ghost use Rattle.std.specs.Prelude.{◌≤◌, length};
 ghost use Rattle.definitions.specs.Bounds.{most_script};
 ghost use Rattle.opening.specs.FirstLine.{FirstAt};
@@ -8,7 +10,7 @@ use forms::read_form;
 use lines::{Next, next_line};
 
 // What the first line says.
-#[derive(Drop)]
+#[derive(Clone, Copy)]
 pub enum First {
     // The number of threads, and the place where the second line begins.
     Threads { count: u16, start: usize },

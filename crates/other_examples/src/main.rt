@@ -1,6 +1,8 @@
 // The examples of the scope paper that are not marked, through the compiled entries; those on the depth of a note also for
 // the entry that reads a script (02 §5); and tables that nothing could have left behind (02 §6). The gate holds what this
 // prints to the file stdout.
+#![tactic(auto)]
+
 ghost use Rattle.std.specs.Prelude.{◌≤◌};
 
 use example_lines::{say, say_answer, say_bytes, show_check, show_move};

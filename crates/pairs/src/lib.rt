@@ -1,5 +1,7 @@
 // The pairs of a history, judged in one pass. It keeps each thread's place in its round and one total of the threads inside, by
 // which the crate plain_lock judges an event.
+#![tactic(auto)]
+
 ghost use Rattle.std.specs.Prelude.{◌≤◌, ◌≡◌, length};
 ghost use Rattle.definitions.specs.Answers.{answered, answer_reply};
 ghost use Rattle.definitions.specs.Bounds.{most_threads};

@@ -1,4 +1,6 @@
 // Which moves a phase has, which targets they may name and when they must wait, by value and apart from any storage.
+#![tactic(auto)]
+
 ghost use Rattle.std.specs.Prelude.{◌≤◌, ◌≡◌, T};
 ghost use Rattle.definitions.specs.Bounds.{last_phase, last_move};
 ghost use Rattle.definitions.specs.Moves.{names_thread, target_fits, must_wait};
@@ -15,6 +17,7 @@ pub const MOVES: [u8; PHASE_COUNT] = [
 ];
 
 // The moves that a phase has, a bit each.
+#[tactic(auto, unfolding(definitions::specs::Threads::list_of, definitions::specs::Phases::rows, definitions::specs::Threads::among, crate::specs::MoveBits::bits_below))]
 pub fn moves_in(phase: u8) -> u8
     requires { phase ≤ last_phase }
     ensures { result ≡ move_bits phase }
@@ -66,6 +69,7 @@ pub fn has_move(phase: u8, mv: u8) -> bool
 
 // Refusal 7, of a move that the phase has: "Go in phase 9 while the mutex is 1."; "7 is also given to hold while the mutex
 // is 1" (02 §1). Go is all that phase 9 has, and phase 4 alone has hold.
+#[tactic(auto, unfolding(definitions::specs::Threads::every, definitions::specs::Threads::among, definitions::specs::Phases::rows))]
 pub fn must_wait(phase: u8, mutex: u8, mv: u8) -> bool
     requires { (phase ≤ last_phase) × (mv ≤ last_move) }
     ensures { T (has_move mv phase) → result ≡ must_wait phase mutex mv }

@@ -1,5 +1,7 @@
 // The plain lock's verdict on one event: `judge` decides it from the place of the event's thread and the total of the threads inside
 // alone, and answers what they are after it.
+#![tactic(auto)]
+
 ghost use Rattle.std.specs.Prelude.{◌≡◌, ℕ, if◌then◌else◌};
 ghost use Rattle.definitions.specs.Answers.{number_of, answered};
 ghost use Rattle.plain_lock.specs.Counts.{Counted, count_tests, standing_after, verdict_reply};
@@ -11,14 +13,14 @@ use definitions::{Event, Refusal};
 pub const WRITER: u32 = 256;
 
 // Where a thread stands: the total of those inside, and its place in its round.
-#[derive(Drop)]
+#[derive(Clone, Copy)]
 pub struct Standing {
     pub inside: u32,
     pub place: u8,
 }
 
 // What an event gets: where it leaves its thread, or why it is turned down.
-#[derive(Drop)]
+#[derive(Clone, Copy)]
 pub enum Verdict {
     Fits(Standing),
     Bad(Refusal),
@@ -28,6 +30,7 @@ pub enum Verdict {
 // the place after it, four for the largest total that meets its need, and eight for what it adds to the total, modulo 2^32. 0 is
 // no event: its row follows place 4, at which no thread ever is. The rows are constants, and are compiled to a table, where
 // comparisons are compiled to branches that are often mispredicted.
+#[tactic(auto, unfolding(crate::specs::Rows::event_row))]
 fn event_row(code: usize) -> u64
     ensures { result ≡ event_row code }
 {
@@ -70,6 +73,7 @@ fn reason(known: bool, next: bool) -> Refusal
 
 // The refusals 9, 10 and 11 of one event, from where its thread stands; no other function knows the rules of events. A code
 // above the last event's is turned down before its row is looked up, so that the compiled look-up has no test of its own.
+#[tactic(auto, unfolding(definitions::specs::Answers::answered))]
 pub fn judge(threads: u16, thread: u16, code: u16, before: Standing) -> Verdict
     requires { Counted threads thread before }
     ensures { (k : ℕ) → verdict_reply k result ≡ answered (count_tests threads before k (record { thread = thread; event = code })) (standing_after before code) }

@@ -1,4 +1,6 @@
 // The plan for a history: checked, then its moves counted, then the triples written event by event.
+#![tactic(auto)]
+
 ghost use Rattle.std.specs.Prelude.{◌≡◌};
 ghost use Rattle.definitions.specs.Answers.{answer_reply, filled};
 ghost use Rattle.definitions.specs.PlainLock.{pairs_of};

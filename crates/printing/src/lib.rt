@@ -1,4 +1,6 @@
 // The output of a run, from the history that it showed and the way it ended. It is measured before a byte of it is written.
+#![tactic(auto)]
+
 ghost use Rattle.std.specs.Prelude.{[]};
 ghost use Rattle.definitions.specs.Answers.{answer_reply, counted};
 ghost use Rattle.basics.specs.Outputs.{Delivered};

@@ -1,4 +1,6 @@
 // What the program prints for an input: the run's output, or the line for a script too long.
+#![tactic(auto)]
+
 ghost use Rattle.std.specs.Prelude.{◌≤◌, [], length};
 ghost use Rattle.definitions.specs.Answers.{answer_reply, counted};
 ghost use Rattle.definitions.specs.Bounds.{enough_output};
@@ -10,6 +12,7 @@ use definitions::{Answer, MOST_SCRIPT, Running};
 use text::deliver;
 
 // The program's output, if it has room.
+#[tactic(auto, unfolding(definitions::specs::Texts::bytes))]
 fn write_output(input: &[u8], out: &mut [u8]) -> Answer
     ensures { Delivered (counted [] (program_output input.now)) out.old out.new (answer_reply result) }
 {

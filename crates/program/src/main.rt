@@ -1,4 +1,6 @@
 // Runs the script on standard input and prints its output: what the crate printout writes for what was read.
+#![tactic(auto)]
+
 ghost use Rattle.std.specs.Prelude.{◌<◌, ◌≡◌, length};
 ghost use Rattle.definitions.specs.Bounds.{most_script};
 ghost use Rattle.definitions.specs.Run.{program_output};
@@ -12,7 +14,7 @@ use printout::print_input;
 const MOST_INPUT: usize = MOST_SCRIPT + 1;
 
 // How many bytes were read, or that a read failed.
-#[derive(Drop)]
+#[derive(Clone, Copy)]
 enum Input {
     Bytes(usize),
     Failed,

@@ -1,4 +1,6 @@
 // Scripts read: the moves that a script states, as byte triples, and its N. The lines are read by the functions that the run uses.
+#![tactic(auto)]
+
 ghost use Rattle.definitions.specs.Scripts.{reading_reply, read_entry};
 ghost use Rattle.basics.specs.Outputs.{Delivered};
 

@@ -1,4 +1,6 @@
 // Which threads have a move of the dispatcher's, and which move that is, by value and apart from any storage.
+#![tactic(auto)]
+
 ghost use Rattle.std.specs.Prelude.{◌≤◌, ◌≡◌};
 ghost use Rattle.definitions.specs.Bounds.{last_phase};
 ghost use Rattle.dispatching.specs.Ready.{move_by};
@@ -17,6 +19,7 @@ const READY_9: u32 = 512;
 const READY_11: u32 = 2_048;
 
 // The phases in which a thread is ready, a bit each, from the mutex and the busy of the table's target.
+#[tactic(auto, unfolding(dispatching::specs::Ready::ready_by, phase_moves::specs::MoveBits::bits_below))]
 pub fn ready_phases(mutex: u8, busy: u8) -> u32
     ensures { result ≡ ready_bits mutex busy }
 {
@@ -34,6 +37,7 @@ pub fn is_ready(phases: u32, phase: u8) -> bool
 }
 
 // The move of a ready thread.
+#[tactic(auto, unfolding(dispatching::specs::Ready::move_by))]
 pub fn move_in(phase: u8) -> u8
     ensures { result ≡ move_by phase }
 {

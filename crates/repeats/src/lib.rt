@@ -1,4 +1,6 @@
 // The triples that the plan repeats: go a number of times, set t and go for each t, clear each t.
+#![tactic(auto)]
+
 ghost use Rattle.definitions.specs.Plan.{bytes_of};
 ghost use Rattle.basics.specs.Outputs.{RoomAt, PutAt};
 ghost use Rattle.repeats.specs.Requests.{go_times, set_each, clear_each};
@@ -21,6 +23,7 @@ pub fn go_times(out: &mut [u8], at: usize, thread: u8, count: u8) -> usize
 }
 
 // Set t and go, for each t.
+#[tactic(auto, unfolding(definitions::specs::Plan::bytes_of))]
 pub fn set_each(out: &mut [u8], at: usize, thread: u8, threads: u8) -> usize
     requires { RoomAt out.old at (bytes_of (set_each thread threads)) }
     ensures { PutAt out.old at (bytes_of (set_each thread threads)) out.new result }

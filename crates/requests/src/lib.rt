@@ -1,4 +1,6 @@
 // The tests 3 to 5 of a request's numbers, and the tests 4 to 7 of a request by a thread, by value and apart from any storage.
+#![tactic(auto)]
+
 ghost use Rattle.std.specs.Prelude.{ℕ, ◌≤◌, ◌≡◌};
 ghost use Rattle.definitions.specs.Answers.{answered};
 ghost use Rattle.definitions.specs.Bounds.{last_phase};
@@ -9,13 +11,14 @@ use definitions::{Head, LAST_MOVE, Refusal, Request, Task};
 use phase_moves::{has_move, must_wait, target_fits};
 
 // A request that passed its tests, or why it is turned down.
-#[derive(Drop)]
+#[derive(Clone, Copy)]
 pub enum Tested {
     Passed,
     Refused(Refusal),
 }
 
 // The tests 3 to 5 of a request to N threads, in their order; what is refused may stand at any place.
+#[tactic(auto, unfolding(definitions::specs::Answers::answered))]
 pub fn test_numbers(threads: usize, request: Request) -> Tested
     ensures { (place : ℕ) → tested_at place result ≡ answered (number_tests place threads request) tt }
 {
@@ -33,6 +36,7 @@ pub fn test_numbers(threads: usize, request: Request) -> Tested
 }
 
 // The tests 4 to 7 of a request by a thread, in their order.
+#[tactic(auto, unfolding(definitions::specs::Answers::answered))]
 pub fn test_move(head: Head, mover: Task, request: Request) -> Tested
     requires { mover.phase ≤ last_phase }
     ensures { tested_reply result ≡ answered (later_tests head mover request) tt }

@@ -5,6 +5,8 @@
 // each says what the thread adds to each count, or that no sound table has it. Whether all bytes have few bits is told by all
 // bits that were seen. proofs/Packed shows that the total and these bits tell what one pass finds (`found_of`), proofs/Collected
 // that a pass in any order has them.
+#![tactic(auto)]
+
 ghost use Rattle.std.specs.Prelude.{◌≡◌};
 ghost use Rattle.rows.specs.Rows.{found_by};
 
@@ -26,6 +28,7 @@ const BAD: u64 = 0x1_00_00_00_000;
 const HIGH: u64 = 0x00_fe_fe_e0;
 
 // What the total of all threads' rows and all bits of their words tell.
+#[tactic(auto, unfolding(crate::specs::Rows::found_by))]
 pub fn found_of(total: u64, seen: u64) -> Found
     ensures { result ≡ found_by total seen }
 {

@@ -1,5 +1,7 @@
 // The rules of the moves, by value and apart from any storage: which step (crates steps and arms) a move that passed its tests
 // makes, by the move's number and the mover's phase.
+#![tactic(auto)]
+
 ghost use Rattle.definitions.specs.Codes.{go};
 ghost use Rattle.views.specs.View.{Decides};
 
@@ -13,6 +15,7 @@ use views::{Decided, View};
 //  before it tries again; 5 LOE; 6 Shared; 7, 8 it lowers busy and leaves;
 //  9 EE; 10 to 12 the writer holds the mutex and sets a forbidden, looks at that thread's busy, or takes the forbidden back;
 // 13 LOS; 14 Exclusive; 15 it clears every forbidden; 16, 17 it lets the mutex go and leaves.
+#[tactic(auto, unfolding(definitions::specs::Moves::go_effect, definitions::specs::Moves::is_retry))]
 fn go(v: View) -> Decided
     ensures { Decides v go result }
 {
@@ -40,6 +43,7 @@ fn go(v: View) -> Decided
 }
 
 // What a move writes and shows. Callers ask for a move that has passed its tests.
+#[tactic(auto, unfolding(definitions::specs::Moves::effect, definitions::specs::Moves::is_retry))]
 pub fn decide(v: View, mv: u8) -> Decided
     ensures { Decides v mv result }
 {

@@ -1,5 +1,7 @@
 // The lines of a script run on a table. One pass over them makes the moves, counts the retries among them and keeps the history
 // that they show, byte pairs, thread then event.
+#![tactic(auto)]
+
 ghost use Rattle.std.specs.Prelude.{◌≡◌, drop};
 ghost use Rattle.definitions.specs.Texts.{lines_of};
 ghost use Rattle.running.specs.Records.{Begun, RecordedLines};
@@ -10,7 +12,7 @@ use lines::{Next, next_line};
 use turns::{Step, take_line};
 
 // A run that has ended: how many bytes its history has, how many of its moves were retries, and how it ended.
-#[derive(Drop)]
+#[derive(Clone, Copy)]
 pub struct Ran {
     pub shown: usize,
     pub retries: usize,

@@ -1,4 +1,6 @@
 // The run of a script: it keeps the history that its moves show, and the output is printed from that.
+#![tactic(auto)]
+
 ghost use Rattle.definitions.specs.Run.{running_reply, run_entry};
 ghost use Rattle.basics.specs.Outputs.{Delivered};
 

@@ -1,4 +1,6 @@
 // The moves that the lines of a script state, one line after the other, as byte triples.
+#![tactic(auto)]
+
 ghost use Rattle.std.specs.Prelude.{◌≤◌, length, drop};
 ghost use Rattle.definitions.specs.Texts.{lines_of};
 ghost use Rattle.script_moves.specs.AllLines.{LinesTaken, MovesRoom};

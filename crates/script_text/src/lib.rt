@@ -1,4 +1,6 @@
 // The script of a list of moves, byte triples: how long it is, and the same put into an output.
+#![tactic(auto)]
+
 ghost use Rattle.std.specs.Prelude.{◌/◌, ◌≤◌, ◌≡◌, length};
 ghost use Rattle.definitions.specs.Chains.{requests_of};
 ghost use Rattle.definitions.specs.Scripts.{moves_text, script_of};
@@ -42,6 +44,7 @@ fn put_moves(out: &mut [u8], start: usize, triples: &[u8]) -> usize
 }
 
 // The script from the front of the output.
+#[tactic(auto, unfolding(definitions::specs::Scripts::script_of))]
 pub fn put_script(out: &mut [u8], threads: u16, triples: &[u8]) -> usize
     requires { RoomAt out.old 0 (script_of threads (requests_of triples.now)) }
     ensures { PutAt out.old 0 (script_of threads (requests_of triples.now)) out.new result }

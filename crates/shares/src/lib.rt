@@ -1,4 +1,6 @@
 // How many moves the plan for a history makes, from the share of each event, without the plan.
+#![tactic(auto)]
+
 ghost use Rattle.std.specs.Prelude.{◌≡◌, length};
 ghost use Rattle.definitions.specs.Answers.{accepted, answer_reply};
 ghost use Rattle.definitions.specs.PlainLock.{pairs_of, check_reply};
@@ -12,6 +14,7 @@ const EACH: u64 = 4_294_967_296;
 
 // How many moves an event takes, in one number. The shares are constants, and are compiled to a table, and not to branches,
 // which are often mispredicted.
+#[tactic(auto, unfolding(theory::proofs::PlanLengths::moves_for))]
 fn share_of(code: usize) -> u64
     ensures { ShareOf code result }
 {

@@ -1,6 +1,8 @@
 // The soundness test by value: the decision from what one pass finds of the threads. How the pass finds it stands in the crate
 // rows, and the rules on it in the crate tallies.
 // It knows of no storage. proofs/OnePass.antt shows that it decides the rules of the definitions.
+#![tactic(auto)]
+
 ghost use Rattle.std.specs.Prelude.{◌≡◌};
 ghost use Rattle.soundness.specs.Pass.{sound_by, aimed_at};
 
@@ -8,7 +10,7 @@ use definitions::{Head, NO_TARGET, Task};
 use tallies::{Tally, aim_fits, mutex_agrees, rest_fits, some_elsewhere};
 
 // What is found; Bad where a thread fails those rules.
-#[derive(Drop)]
+#[derive(Clone, Copy)]
 pub enum Found {
     Good(Tally),
     Bad,
@@ -26,6 +28,7 @@ pub fn aimed_at(head: Head) -> usize
 }
 
 // The decision from a tally of all threads, the head, and the task that the target names.
+#[tactic(auto, unfolding(crate::specs::Pass::sound_by))]
 pub fn is_sound(t: Tally, head: Head, aim: Task) -> bool
     ensures { result ≡ sound_by t head aim }
 {

@@ -1,4 +1,6 @@
 // The lines of a script as they are written, each with its line feed: how long they are, and the same put into an output.
+#![tactic(auto)]
+
 ghost use Rattle.std.specs.Prelude.{◌≡◌, length};
 ghost use Rattle.definitions.specs.Forms.{threads_line, spelled};
 ghost use Rattle.definitions.specs.Moves.{ask};
@@ -23,6 +25,7 @@ pub fn threads_length(threads: u16) -> u16
     AROUND_THREADS + digits as u16
 }
 
+#[tactic(auto, unfolding(definitions::specs::Texts::bytes))]
 pub fn put_threads(out: &mut [u8], at: usize, threads: u16) -> usize
     requires { RoomAt out.old at (ended (threads_line threads)) }
     ensures { PutAt out.old at (ended (threads_line threads)) out.new result }
@@ -39,6 +42,7 @@ pub fn move_length(thread: u8, mv: u8, target: u8) -> u16
     AROUND_MOVE + digits as u16 + act as u16
 }
 
+#[tactic(auto, unfolding(definitions::specs::Texts::bytes))]
 pub fn put_move(out: &mut [u8], at: usize, thread: u8, mv: u8, target: u8) -> usize
     requires { RoomAt out.old at (ended (spelled (ask thread mv target))) }
     ensures { PutAt out.old at (ended (spelled (ask thread mv target))) out.new result }

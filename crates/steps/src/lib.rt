@@ -1,4 +1,6 @@
 // The steps that moves are made of, by value: what each writes and shows.
+#![tactic(auto)]
+
 ghost use Rattle.std.specs.Prelude.{◌≡◌};
 ghost use Rattle.definitions.specs.declared.Outcome.TheVariants.{Quiet, Shown};
 ghost use Rattle.steps.specs.Steps.{in_phase, unseen_by, passed, with_mutex, aimed_by};

@@ -9,6 +9,7 @@ use definitions::{Answer, NO_TARGET, Refusal};
 use layout::{TARGET_AT, THREADS_AT, size_of};
 
 // Its bytes, written to the front of an output that has room for them.
+#[tactic(auto, unfolding(definitions::specs::Table::fresh))]
 fn write_fresh(threads: u8, bytes: usize, out: &mut [u8])
     requires { (bytes ≡ size threads) × (bytes ≤ length out.old) }
     ensures { out.new ≡ filled out.old (fresh threads) }

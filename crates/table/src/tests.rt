@@ -13,7 +13,7 @@ use soundness::{Found, aimed_at};
 use tallies::Tally;
 
 // What the tests of a table answer.
-#[derive(Drop)]
+#[derive(Clone, Copy)]
 pub enum Examined {
     // N, and how many forbidden are 1.
     Sound(usize, usize),
@@ -21,6 +21,7 @@ pub enum Examined {
 }
 
 // Refusal 1: "N is 0 or above 200, or the table isn't 3 + 3N bytes (an empty one included)."
+#[tactic(auto, unfolding(definitions::specs::Table::sized))]
 fn size_fits(table: &[u8]) -> bool
     ensures { result ≡ sized table.now }
 {
@@ -32,6 +33,7 @@ fn size_fits(table: &[u8]) -> bool
 }
 
 // The decision on a table from what one pass found of its threads.
+#[tactic(auto, unfolding(soundness::specs::Pass::passes))]
 fn decided(table: &[u8], t: Tally) -> bool
     requires { Sized table.now }
     ensures { result ≡ passes (table_of table.now) (Good t) }
@@ -41,6 +43,7 @@ fn decided(table: &[u8], t: Tally) -> bool
     soundness::is_sound(t, head, aim)
 }
 
+#[tactic(auto, unfolding(crate::specs::TableTests::examined_of, soundness::specs::Pass::passes, theory::specs::Tables::forbidden_count, soundness::specs::Pass::found_of))]
 pub fn examine(table: &[u8]) -> Examined
     ensures { result ≡ examined_of table.now }
 {

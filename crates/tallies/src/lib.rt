@@ -1,11 +1,13 @@
 // What one pass finds of the threads, and the rules of soundness that speak of it, each by itself.
+#![tactic(auto)]
+
 ghost use Rattle.std.specs.Prelude.{◌≡◌};
 ghost use Rattle.tallies.specs.Rules.{mutex_agrees, some_elsewhere, aim_fits, rest_fits};
 
 use definitions::Task;
 
 // What one pass finds of threads that pass the rules on one thread by itself.
-#[derive(Drop)]
+#[derive(Clone, Copy)]
 pub struct Tally {
     // The sum of the phases of the threads that hold the mutex: the holder's phase, 0 where there is none, and past the
     // last phase where they are two or more.
@@ -34,6 +36,7 @@ pub fn some_elsewhere(t: Tally, threads: usize) -> bool
 }
 
 // The rules for a holder in 11 or 12, from the target's task.
+#[tactic(auto, unfolding(definitions::specs::Phases::rows, definitions::specs::Threads::every, crate::specs::Rules::aim_fits))]
 pub fn aim_fits(t: Tally, aim: Task) -> bool
     ensures { result ≡ aim_fits t aim }
 {
@@ -42,6 +45,7 @@ pub fn aim_fits(t: Tally, aim: Task) -> bool
 }
 
 // The rules for no holder, or one in another phase.
+#[tactic(auto, unfolding(crate::specs::Rules::rest_fits))]
 pub fn rest_fits(t: Tally, threads: usize) -> bool
     ensures { result ≡ rest_fits t threads }
 {

@@ -1,5 +1,7 @@
 // Text put into a lent output: each function that writes puts its text at a position and answers the position behind it.
 // `deliver` writes a whole text, or nothing where it has no room.
+#![tactic(auto)]
+
 ghost use Rattle.std.specs.Prelude.{[], ◌∷◌};
 ghost use Rattle.definitions.specs.Answers.{answer_reply, counted};
 ghost use Rattle.basics.specs.Outputs.{RoomAt, PutAt, Delivered};

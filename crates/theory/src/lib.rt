@@ -1,1 +1,2 @@
 // Theorems about the definitions, in proofs/: this crate has no code.
+#![tactic(auto)]

@@ -1,4 +1,6 @@
 // The tests of a list of moves, byte triples of thread, move and target.
+#![tactic(auto)]
+
 ghost use Rattle.std.specs.Prelude.{◌/◌, ◌≡◌, length};
 ghost use Rattle.definitions.specs.Answers.{answer_reply, answered};
 ghost use Rattle.definitions.specs.Chains.{requests_of};

@@ -1,4 +1,6 @@
 // A line's turn in a run: its form is read, its move made, and the event that this shows is added to the history, byte pairs, thread then event.
+#![tactic(auto)]
+
 ghost use Rattle.std.specs.Prelude.{[], ◌∷◌};
 ghost use Rattle.definitions.specs.Forms.{form_of};
 ghost use Rattle.definitions.specs.Moves.{move_reply};
@@ -15,7 +17,7 @@ use lock::try_move;
 use text::put_byte;
 
 // What a line did to the run.
-#[derive(Drop)]
+#[derive(Clone, Copy)]
 pub enum Step {
     // It stopped the run.
     Stopped(Refusal),

@@ -1,6 +1,8 @@
 // What an event changes of a watcher's record that passed its tests, by value. `plain_lock::judge` judges the event from its
 // thread's place and the total of the record's two, as it does for the check, and `carried_out` takes the total after it apart
 // again.
+#![tactic(auto)]
+
 ghost use Rattle.std.specs.Prelude.{◌≡◌, length};
 ghost use Rattle.consistency.specs.Records.{watcher_of};
 ghost use Rattle.definitions.specs.Bounds.{most_threads};
@@ -12,7 +14,7 @@ use definitions::{MOST_THREADS, Refusal, Watched};
 use plain_lock::{Standing, Verdict, WRITER, judge};
 
 // What an event changes of a record, one entry and the two totals, and what is answered.
-#[derive(Drop)]
+#[derive(Clone, Copy)]
 pub struct Update {
     pub at: usize,
     pub place: u8,

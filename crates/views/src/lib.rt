@@ -1,4 +1,6 @@
 // What a move sees of a table, whatever stores it, and what it leaves, by value.
+#![tactic(auto)]
+
 ghost use Rattle.std.specs.Prelude.{◌≤◌, ◌≡◌};
 ghost use Rattle.definitions.specs.Bounds.{most_threads, last_move};
 ghost use Rattle.theory.specs.Statements.{subject_by};
@@ -7,6 +9,7 @@ ghost use Rattle.views.specs.View.{others_by};
 use definitions::{Head, Outcome, Request, Task};
 
 // The thread whose busy a move may read and whose forbidden it may write, from the head and the mover.
+#[tactic(auto, unfolding(theory::specs::Statements::subject_by))]
 pub fn subject_of(head: Head, mover: Task, request: Request) -> usize
     requires { request.mv ≤ last_move }
     ensures { result ≡ subject_by request mover.phase head.target }
@@ -22,7 +25,7 @@ pub fn subject_of(head: Head, mover: Task, request: Request) -> usize
 }
 
 // Whether every forbidden but the subject's is 1, and whether every one but the subject's is 0.
-#[derive(Drop)]
+#[derive(Clone, Copy)]
 pub struct Others {
     pub set: bool,
     pub clear: bool,
@@ -43,7 +46,7 @@ pub fn others_of(threads: usize, count: usize, forbidden: u8) -> Others
 }
 
 // What a move may read: the head, the mover, the subject with its number, and what the other flags are.
-#[derive(Drop)]
+#[derive(Clone, Copy)]
 pub struct View {
     pub head: Head,
     pub mover: Task,
@@ -53,7 +56,7 @@ pub struct View {
 }
 
 // What it leaves of the head, of the mover's phase and busy, and of the subject's forbidden; and its answer.
-#[derive(Drop)]
+#[derive(Clone, Copy)]
 pub struct Decided {
     pub head: Head,
     pub mover: Task,

@@ -1,5 +1,7 @@
 // The watcher of 02 §2, by value: a record comes in as a value, and what an event changes of it goes out as one. A record is
 // tested (crate consistency), and then the event is judged (crate updates) or the question answered.
+#![tactic(auto)]
+
 ghost use Rattle.std.specs.Prelude.{◌≡◌, length};
 ghost use Rattle.consistency.specs.Records.{watcher_of};
 ghost use Rattle.definitions.specs.Bounds.{most_threads};
@@ -12,7 +14,7 @@ use definitions::{Inside, MOST_THREADS, Refusal, Watched, Watcher};
 use updates::{Update, judged, turned_down};
 
 // The record that a start leaves, and what is answered.
-#[derive(Drop)]
+#[derive(Clone, Copy)]
 pub struct Begun {
     pub watcher: Watcher,
     pub answer: Watched,

@@ -1,10 +1,12 @@
 // Words and numbers of a script's line: comparisons of texts, and the number at the front of a part.
+#![tactic(auto)]
+
 ghost use Rattle.std.specs.Prelude.{◌≡◌, get_or};
 ghost use Rattle.definitions.specs.Texts.{same, starts, is_digit};
 ghost use Rattle.words.specs.Numbers.{number_for, closed_for};
 
 // A number and how many digits it has, or that there is none.
-#[derive(Drop)]
+#[derive(Clone, Copy)]
 pub enum MaybeNumber {
     Known(u16, usize),
     Unknown,

@@ -1,5 +1,7 @@
 // The part's entries for C and Rust: thin functions on numbers and byte slices, each with its promise. An answer is one
 // number (crate answer_numbers).
+#![tactic(auto)]
+
 ghost use Rattle.std.specs.Prelude.{◌≡◌};
 ghost use Rattle.definitions.specs.Answers.{delivery_reply, delivery_output};
 ghost use Rattle.definitions.specs.Dispatch.{dispatch_reply, dispatch_table};
@@ -139,7 +141,7 @@ pub extern "C" fn wospinzo_read_script(script: &[u8], out: &mut [u8]) -> u64
 }
 
 // What a start leaves of a watcher's record, and the number that is answered.
-#[derive(Drop)]
+#[derive(Clone, Copy)]
 struct Started {
     watcher: Watcher,
     number: u64,
@@ -159,7 +161,7 @@ fn start_record(count: u16, watcher: Watcher) -> Started
 }
 
 // What an event changes of a watcher's record, and the number that is answered.
-#[derive(Drop)]
+#[derive(Clone, Copy)]
 struct Renewed {
     at: usize,
     place: u8,

@@ -1,4 +1,6 @@
 // Scripts written out: N and a list of moves, byte triples of thread, move and target, become the lines that a run reads.
+#![tactic(auto)]
+
 ghost use Rattle.definitions.specs.Answers.{answer_reply};
 ghost use Rattle.definitions.specs.Scripts.{write_entry};
 ghost use Rattle.basics.specs.Outputs.{Delivered};
