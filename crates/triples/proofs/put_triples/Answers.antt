@@ -1,8 +1,8 @@
 -- `put_triples` meets its contract: each turn puts the triple at its place, and leaves those behind it.
-use Rattle.std.proofs.Common.{◌≡◌, ℕ, ◌+◌, ◌≤◌, List, [], ◌∷◌, ◌++◌, length, get_or, drop, refl, sym, ap, ◌∙◌, arith, drop_of_length-le}
+use Rattle.std.proofs.Common.{◌≡◌, ℕ, ◌+◌, ◌≤◌, List, [], ◌∷◌, ◌++◌, length, get_or, drop, sym, ap, ◌∙◌, arith, drop_of_length-le}
 use Rattle.definitions.specs.Moves.{ask}
 use Rattle.definitions.specs.Plan.{bytes_of}
-use Rattle.basics.proofs.Parts.{no_part, room_by, put-by, all-by}
+use Rattle.basics.proofs.Parts.{put-by, all-by}
 use Rattle.theory.proofs.Triples.{triple_bytes}
 use Rattle.triples.proofs.put_triples.Goals as goal
 
