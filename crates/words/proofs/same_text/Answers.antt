@@ -1,24 +1,16 @@
-use Rattle.std.proofs.Common.{rules, ◌≡◌, get_or, ℕ, ◌+◌, ◌-◌, ◌*◌, ◌<◌, ◌≤◌, length, ◌/◌, ◌%◌, Bool, true, false, nat_eq, nat_lt, List, [], ◌∷◌, ◌++◌, slice_set, bit_and, bit_or, Fits, w8, w32, w64, Bor, MutBor}
-use Rattle.definitions.specs.Texts.{same, starts, is_digit}
-use Rattle.words.specs.Numbers.{number_for, closed_for}
+-- `words::same_text` meets its contract: texts of other lengths differ, and so do texts with a byte that differs.
+use Rattle.std.proofs.Common.{List, ℕ, get_or, length, sym, ap, arith}
+use Rattle.words.proofs.Comparisons.{same_ne, same_at}
 use Rattle.words.proofs.same_text.Goals as goal
 
--- src/lib.rt:23:9
 pub returns-then-part-text : goal.returns-then-part-text
-returns-then-part-text c = ?
+returns-then-part-text c = sym (same_ne _ _ (λ e. omega (arith, ap length e)))
 
--- src/lib.rt:26:5
-pub loop-i-init : goal.loop-i-init
-loop-i-init c = ?
-
--- src/lib.rt:28:13
 pub returns-then-part-i : goal.returns-then-part-i
-returns-then-part-i c = ?
+returns-then-part-i c =
+    sym (same_ne c.args.part.now c.args.text.now (λ e. c.if-part-i.true (ap (λ (l : List ℕ). get_or l c.loop-i.i 0) e)))
 
--- src/lib.rt:26:5
-pub loop-i-preserved : goal.loop-i-preserved
-loop-i-preserved c = ?
-
--- src/lib.rt:19:1
 pub returns : goal.returns
-returns c = ?
+returns c =
+    let inv = c.loop-i.invariant in
+    sym (same_at c.args.part.now c.args.text.now inv.0 (λ k l. inv.2 k (omega arith)))
