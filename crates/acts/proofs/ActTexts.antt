@@ -8,16 +8,15 @@ use Rattle.definitions.specs.Bounds.{last_move}
 use Rattle.definitions.specs.Forms.{act_text}
 use Rattle.definitions.specs.Texts.{bytes, decimal}
 use Rattle.definitions.specs.Threads.{list_of}
-use Rattle.basics.proofs.Matches.{NoneOf, down_from, above}
 use Rattle.basics.proofs.Numbers.{decimal-short}
 
 -- a number that is no move's
-pub no_act : (mv target : ℕ) → NoneOf mv (down_from 7) → act_text mv target ≡ []
+pub no_act : (mv target : ℕ) → 7 ≤ mv → act_text mv target ≡ []
 unfolding act_text list_of
-no_act mv target none =
+no_act mv target past =
     let texts : List (List ℕ) = list_of 7 (λ k. act_text k target) in
     let row : act_text mv target ≡ get_or texts mv [] = refl in
-    row ∙ get_or-eq_default texts [] (above 7 mv none)
+    row ∙ get_or-eq_default texts [] past
 
 -- what stands behind T, where the move is known, and its length
 pub act_text_lem : {mv k : ℕ} (target : ℕ) → mv ≡ k → act_text mv target ≡ act_text k target

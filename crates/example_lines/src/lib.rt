@@ -2,53 +2,54 @@
 // they are shown.
 #![tactic(auto)]
 
-use libc::STDOUT_FILENO;
+use std::io;
 
-pub fn say(text: &[u8]) {
-    io::write_all(STDOUT_FILENO, text);
+pub fn say(rt: &HostRuntime, text: &[u8]) -> io::Result<()> {
+    rt.write_all(text)
 }
 
-fn say_number(number: u64) {
-    io::print_decimal(STDOUT_FILENO, number);
+fn say_number(rt: &HostRuntime, number: u64) -> io::Result<()> {
+    print!(rt; "{number}")
 }
 
 // The refusal's number and the value of an answer.
-pub fn say_answer(name: &[u8], answer: u64) {
-    say(name);
-    say(b": ");
-    say_number(answer % 256);
-    say(b" ");
-    say_number(answer / 256);
+pub fn say_answer(rt: &HostRuntime, name: &[u8], answer: u64) -> io::Result<()> {
+    say(rt, name)?;
+    say(rt, b": ")?;
+    say_number(rt, answer % 256)?;
+    say(rt, b" ")?;
+    say_number(rt, answer / 256)
 }
 
-fn say_byte(byte: u8) {
-    say(b" ");
-    say_number(byte as u64);
+fn say_byte(rt: &HostRuntime, byte: u8) -> io::Result<()> {
+    say(rt, b" ")?;
+    say_number(rt, byte as u64)
 }
 
-fn say_each(bytes: &[u8]) {
+fn say_each(rt: &HostRuntime, bytes: &[u8]) -> io::Result<()> {
     for i in 0..bytes.len() {
         let byte = bytes[i];
-        say_byte(byte);
+        say_byte(rt, byte)?;
     }
+    Ok(())
 }
 
-pub fn say_bytes(bytes: &[u8]) {
-    say(b" |");
-    say_each(bytes);
-    say(b"\n");
+pub fn say_bytes(rt: &HostRuntime, bytes: &[u8]) -> io::Result<()> {
+    say(rt, b" |")?;
+    say_each(rt, bytes)?;
+    say(rt, b"\n")
 }
 
 // One move, and the table after it.
-pub fn show_move(name: &[u8], table: &mut [u8], thread: u16, mv: u16, target: u16) {
+pub fn show_move(rt: &HostRuntime, name: &[u8], table: &mut [u8], thread: u16, mv: u16, target: u16) -> io::Result<()> {
     let answer = wospinzo::wospinzo_move(table, thread, mv, target);
-    say_answer(name, answer);
-    say_bytes(table);
+    say_answer(rt, name, answer)?;
+    say_bytes(rt, table)
 }
 
 // A check for two threads.
-pub fn show_check(name: &[u8], history: &[u8]) {
+pub fn show_check(rt: &HostRuntime, name: &[u8], history: &[u8]) -> io::Result<()> {
     let answer = wospinzo::wospinzo_check(2, history);
-    say_answer(name, answer);
-    say(b"\n");
+    say_answer(rt, name, answer)?;
+    say(rt, b"\n")
 }

@@ -6,59 +6,60 @@
 ghost use Rattle.std.specs.Prelude.{◌≤◌};
 
 use example_lines::{say, say_answer, say_bytes, show_check, show_move};
+use std::io;
 
 // The longest history that is checked, and a pair more.
 const LONG: usize = 60_002;
 
 // Tables that are turned down.
-fn tables() {
+fn tables(rt: &HostRuntime) -> io::Result<()> {
     let mut held = [2, 1, 255, 0, 0, 0, 0, 0, 0];
-    show_move(b"2 1 255 and six zeros", &mut held, 0, 1, 0);
+    show_move(rt, b"2 1 255 and six zeros", &mut held, 0, 1, 0)?;
     let mut short = [1, 0, 255, 0, 0];
-    show_move(b"five bytes", &mut short, 0, 1, 0);
+    show_move(rt, b"five bytes", &mut short, 0, 1, 0)?;
     let mut most = [0u8; 606];
     let answer = wospinzo::wospinzo_fresh(200, &mut most);
-    say_answer(b"N of 200", answer);
-    say(b"\n");
+    say_answer(rt, b"N of 200", answer)?;
+    say(rt, b"\n")?;
     let answer = wospinzo::wospinzo_fresh(201, &mut most);
-    say_answer(b"N of 201", answer);
-    say(b"\n");
+    say_answer(rt, b"N of 201", answer)?;
+    say(rt, b"\n")
 }
 
 // Tables that no moves leave, with every thread in 3, 4 and 18, and one that they leave, with a thread elsewhere.
-fn kept_tables() {
+fn kept_tables(rt: &HostRuntime) -> io::Result<()> {
     let mut backed_off = [2, 0, 255, 3, 1, 0, 4, 0, 0];
-    show_move(b"both in 3 and 4", &mut backed_off, 0, 0, 0);
+    show_move(rt, b"both in 3 and 4", &mut backed_off, 0, 0, 0)?;
     let mut at_mutex = [2, 1, 255, 18, 0, 0, 4, 0, 0];
-    show_move(b"both in 18 and 4", &mut at_mutex, 0, 0, 0);
+    show_move(rt, b"both in 18 and 4", &mut at_mutex, 0, 0, 0)?;
     let mut elsewhere = [2, 0, 255, 3, 1, 0, 9, 0, 0];
-    show_move(b"one in 3, one in 9", &mut elsewhere, 0, 0, 0);
+    show_move(rt, b"one in 3, one in 9", &mut elsewhere, 0, 0, 0)
 }
 
-fn show_run(name: &[u8], script: &[u8]) {
+fn show_run(rt: &HostRuntime, name: &[u8], script: &[u8]) -> io::Result<()> {
     let mut out = [0u8; 16];
     let answer = wospinzo::wospinzo_run(script, &mut out);
-    say_answer(name, answer);
-    say_bytes(&out);
+    say_answer(rt, name, answer)?;
+    say_bytes(rt, &out)
 }
 
-fn show_read(name: &[u8], script: &[u8]) {
+fn show_read(rt: &HostRuntime, name: &[u8], script: &[u8]) -> io::Result<()> {
     let mut out = [7u8; 3];
     let answer = wospinzo::wospinzo_read_script(script, &mut out);
-    say_answer(name, answer);
-    say_bytes(&out);
+    say_answer(rt, name, answer)?;
+    say_bytes(rt, &out)
 }
 
 // Scripts: the most threads and one more, the deepest note and one deeper.
-fn scripts() {
-    show_run(b"threads 200", b"(threads 200)\n");
-    show_run(b"threads 201", b"(threads 201)\n");
+fn scripts(rt: &HostRuntime) -> io::Result<()> {
+    show_run(rt, b"threads 200", b"(threads 200)\n")?;
+    show_run(rt, b"threads 201", b"(threads 201)\n")?;
     let deepest = b"(threads 1)\n(note (((((((((((((((()))))))))))))))))\n";
-    show_run(b"depth 16", deepest);
-    show_read(b"depth 16, read", deepest);
+    show_run(rt, b"depth 16", deepest)?;
+    show_read(rt, b"depth 16, read", deepest)?;
     let deeper = b"(threads 1)\n(note ((((((((((((((((())))))))))))))))))\n";
-    show_run(b"depth 17", deeper);
-    show_read(b"depth 17, read", deeper);
+    show_run(rt, b"depth 17", deeper)?;
+    show_read(rt, b"depth 17, read", deeper)
 }
 
 // Rounds of thread 0, 1 to 4 again and again: permitted as far as they go.
@@ -69,18 +70,18 @@ fn fill_rounds(history: &mut [u8]) {
     }
 }
 
-fn long_history(name: &[u8], length: usize)
+fn long_history(rt: &HostRuntime, name: &[u8], length: usize) -> io::Result<()>
     requires { length ≤ 60_002 }
 {
     let mut history = [0u8; LONG];
     fill_rounds(&mut history);
-    show_check(name, &history[..length]);
+    show_check(rt, name, &history[..length])
 }
 
-fn main() {
-    tables();
-    kept_tables();
-    scripts();
-    long_history(b"60,000 bytes", 60_000);
-    long_history(b"60,002 bytes", 60_002);
+fn main(rt: HostRuntime) -> io::Result<()> {
+    tables(&rt)?;
+    kept_tables(&rt)?;
+    scripts(&rt)?;
+    long_history(&rt, b"60,000 bytes", 60_000)?;
+    long_history(&rt, b"60,002 bytes", 60_002)
 }

@@ -1,5 +1,5 @@
-// The part's entries for C and Rust: thin functions on numbers and byte slices, each with its promise. An answer is one
-// number (crate answer_numbers).
+// The part's entries: thin functions on numbers and byte slices, each with its promise. An answer is one number (crate
+// answer_numbers). The crate wospinzo_c exports them to C under the same names and promises.
 #![tactic(auto)]
 
 ghost use Rattle.std.specs.Prelude.{◌≡◌};
@@ -32,8 +32,8 @@ const MINOR: u32 = 7;
 const PATCH: u32 = 1;
 
 // A fresh table for N threads.
-#[unsafe(no_mangle)]
-pub extern "C" fn wospinzo_fresh(threads: u16, out: &mut [u8]) -> u64
+#[tactic(auto, using(answer_numbers::proofs::Small::fresh_small))]
+pub fn wospinzo_fresh(threads: u16, out: &mut [u8]) -> u64
     ensures value { result ≡ count_number (delivery_reply (fresh_entry threads) out.old) }
     ensures out_after { out.new ≡ delivery_output (fresh_entry threads) out.old }
 {
@@ -42,8 +42,7 @@ pub extern "C" fn wospinzo_fresh(threads: u16, out: &mut [u8]) -> u64
 }
 
 // One move of one thread, which also says whether it was a retry; the table stays in the lent bytes.
-#[unsafe(no_mangle)]
-pub extern "C" fn wospinzo_move(table: &mut [u8], thread: u16, mv: u16, target: u16) -> u64
+pub fn wospinzo_move(table: &mut [u8], thread: u16, mv: u16, target: u16) -> u64
     ensures value { result ≡ move_number (move_reply table.old (ask thread mv target)) }
     ensures table_after { table.new ≡ move_table table.old (ask thread mv target) }
 {
@@ -52,8 +51,7 @@ pub extern "C" fn wospinzo_move(table: &mut [u8], thread: u16, mv: u16, target: 
 }
 
 // One turn of the dispatcher: a move that is no call, no retry and no leaving, for the lowest thread that has one.
-#[unsafe(no_mangle)]
-pub extern "C" fn wospinzo_dispatch(table: &mut [u8]) -> u64
+pub fn wospinzo_dispatch(table: &mut [u8]) -> u64
     ensures value { result ≡ turn_number (dispatch_reply table.old) }
     ensures table_after { table.new ≡ dispatch_table table.old }
 {
@@ -62,8 +60,8 @@ pub extern "C" fn wospinzo_dispatch(table: &mut [u8]) -> u64
 }
 
 // The nodes of all threads.
-#[unsafe(no_mangle)]
-pub extern "C" fn wospinzo_nodes(table: &[u8], out: &mut [u8]) -> u64
+#[tactic(auto, using(answer_numbers::proofs::Small::nodes_small))]
+pub fn wospinzo_nodes(table: &[u8], out: &mut [u8]) -> u64
     ensures value { result ≡ count_number (delivery_reply (nodes_entry table.now) out.old) }
     ensures out_after { out.new ≡ delivery_output (nodes_entry table.now) out.old }
 {
@@ -72,8 +70,8 @@ pub extern "C" fn wospinzo_nodes(table: &[u8], out: &mut [u8]) -> u64
 }
 
 // The moves that a thread's requests would have accepted.
-#[unsafe(no_mangle)]
-pub extern "C" fn wospinzo_open_moves(table: &[u8], thread: u16, out: &mut [u8]) -> u64
+#[tactic(auto, using(answer_numbers::proofs::Small::open_small))]
+pub fn wospinzo_open_moves(table: &[u8], thread: u16, out: &mut [u8]) -> u64
     ensures value { result ≡ count_number (delivery_reply (open_entry table.now thread) out.old) }
     ensures out_after { out.new ≡ delivery_output (open_entry table.now thread) out.old }
 {
@@ -82,8 +80,8 @@ pub extern "C" fn wospinzo_open_moves(table: &[u8], thread: u16, out: &mut [u8])
 }
 
 // Whether the plain lock permits a history.
-#[unsafe(no_mangle)]
-pub extern "C" fn wospinzo_check(threads: u16, history: &[u8]) -> u64
+#[tactic(auto, using(answer_numbers::proofs::Small::check_small))]
+pub fn wospinzo_check(threads: u16, history: &[u8]) -> u64
     ensures { result ≡ count_number (check_reply threads history.now) }
 {
     let answer = history::check(threads, history);
@@ -91,8 +89,8 @@ pub extern "C" fn wospinzo_check(threads: u16, history: &[u8]) -> u64
 }
 
 // How many requests make a permitted history happen: the plan's count, without the plan.
-#[unsafe(no_mangle)]
-pub extern "C" fn wospinzo_plan_length(threads: u16, history: &[u8]) -> u64
+#[tactic(auto, using(answer_numbers::proofs::Small::length_small))]
+pub fn wospinzo_plan_length(threads: u16, history: &[u8]) -> u64
     ensures { result ≡ count_number (plan_length_reply threads history.now) }
 {
     let answer = shares::plan_length(threads, history);
@@ -100,8 +98,8 @@ pub extern "C" fn wospinzo_plan_length(threads: u16, history: &[u8]) -> u64
 }
 
 // The requests that make a permitted history happen.
-#[unsafe(no_mangle)]
-pub extern "C" fn wospinzo_plan(threads: u16, history: &[u8], out: &mut [u8]) -> u64
+#[tactic(auto, using(answer_numbers::proofs::Small::plan_small))]
+pub fn wospinzo_plan(threads: u16, history: &[u8], out: &mut [u8]) -> u64
     ensures value { result ≡ count_number (delivery_reply (plan_entry threads history.now) out.old) }
     ensures out_after { out.new ≡ delivery_output (plan_entry threads history.now) out.old }
 {
@@ -110,8 +108,8 @@ pub extern "C" fn wospinzo_plan(threads: u16, history: &[u8], out: &mut [u8]) ->
 }
 
 // The run of a script, with the number of retries among its moves.
-#[unsafe(no_mangle)]
-pub extern "C" fn wospinzo_run(script: &[u8], out: &mut [u8]) -> u64
+#[tactic(auto, using(answer_numbers::proofs::Small::run_small))]
+pub fn wospinzo_run(script: &[u8], out: &mut [u8]) -> u64
     ensures value { result ≡ run_number (delivery_reply (run_entry script.now) out.old) }
     ensures out_after { out.new ≡ delivery_output (run_entry script.now) out.old }
 {
@@ -120,8 +118,8 @@ pub extern "C" fn wospinzo_run(script: &[u8], out: &mut [u8]) -> u64
 }
 
 // A list of moves, byte triples, as a script.
-#[unsafe(no_mangle)]
-pub extern "C" fn wospinzo_write_script(threads: u16, triples: &[u8], out: &mut [u8]) -> u64
+#[tactic(auto, using(answer_numbers::proofs::Small::write_small))]
+pub fn wospinzo_write_script(threads: u16, triples: &[u8], out: &mut [u8]) -> u64
     ensures value { result ≡ count_number (held (delivery_reply (write_entry threads triples.now) out.old)) }
     ensures out_after { out.new ≡ delivery_output (write_entry threads triples.now) out.old }
 {
@@ -131,8 +129,8 @@ pub extern "C" fn wospinzo_write_script(threads: u16, triples: &[u8], out: &mut 
 }
 
 // The moves of a script, as byte triples, and its N.
-#[unsafe(no_mangle)]
-pub extern "C" fn wospinzo_read_script(script: &[u8], out: &mut [u8]) -> u64
+#[tactic(auto, using(answer_numbers::proofs::Small::read_small))]
+pub fn wospinzo_read_script(script: &[u8], out: &mut [u8]) -> u64
     ensures value { result ≡ read_number (delivery_reply (read_entry script.now) out.old) }
     ensures out_after { out.new ≡ delivery_output (read_entry script.now) out.old }
 {
@@ -193,8 +191,7 @@ fn ask_record(watcher: Watcher) -> u64
 }
 
 // A watcher's record for N threads, before any event.
-#[unsafe(no_mangle)]
-pub extern "C" fn wospinzo_watch_start(threads: u16, watcher: &mut Watcher) -> u64
+pub fn wospinzo_watch_start(threads: u16, watcher: &mut Watcher) -> u64
     ensures value { result ≡ watch_number (start_reply threads) }
     ensures watcher_after { watcher.new ≡ start_record threads watcher.old }
 {
@@ -204,8 +201,7 @@ pub extern "C" fn wospinzo_watch_start(threads: u16, watcher: &mut Watcher) -> u
 }
 
 // One event, judged and added where the record is kept.
-#[unsafe(no_mangle)]
-pub extern "C" fn wospinzo_watch_event(watcher: &mut Watcher, thread: u16, event: u16) -> u64
+pub fn wospinzo_watch_event(watcher: &mut Watcher, thread: u16, event: u16) -> u64
     ensures value { result ≡ watch_number (event_reply watcher.old (record { thread = thread; event = event })) }
     ensures watcher_after { watcher.new ≡ event_record watcher.old (record { thread = thread; event = event }) }
 {
@@ -218,16 +214,14 @@ pub extern "C" fn wospinzo_watch_event(watcher: &mut Watcher, thread: u16, event
 }
 
 // "Is anybody inside?"
-#[unsafe(no_mangle)]
-pub extern "C" fn wospinzo_watch_inside(watcher: &Watcher) -> u64
+pub fn wospinzo_watch_inside(watcher: &Watcher) -> u64
     ensures { result ≡ inside_number (question_reply watcher.now) }
 {
     ask_record(*watcher)
 }
 
 // The version, for a maker's program to compare with the header's that it was built with.
-#[unsafe(no_mangle)]
-pub extern "C" fn wospinzo_version() -> u32
+pub fn wospinzo_version() -> u32
     ensures { result ≡ version }
 {
     65_536 * MAJOR + 256 * MINOR + PATCH

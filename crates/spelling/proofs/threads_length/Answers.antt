@@ -1,0 +1,6 @@
+use native.Mathlib.Omega.{arith}
+use Rattle.spelling.proofs.LineTexts.{threads-size}
+use Rattle.spelling.proofs.threads_length.Goals as goal
+
+pub returns : goal.returns
+returns c = omega (arith, threads-size c.args.threads)
