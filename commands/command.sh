@@ -1,5 +1,6 @@
 # What ./plan and ./draw share: opening the input, and building the command where it is out of date. They set `top`, the
 # repository, and `name`, the command, and define `usage` before they read this file.
+. "$top/commands/sources.sh"
 archive=$top/target/staticlib/libwospinzo.a
 binary=$top/target/cargo/release/$name
 
@@ -29,14 +30,13 @@ up_to_date() { # FILE PLACE...
     shift
     [ -f "$file" ] && [ -z "$(find "$@" -newer "$file" -print -quit)" ]
 }
-archive_up_to_date() { up_to_date "$archive" "$top/crates" "$top/crates.txt"; }
+archive_up_to_date() { [ -f "$archive" ] && ! sources_newer "$archive"; }
 binary_up_to_date() { up_to_date "$binary" "$top/commands" "$top/rust/wospinzo" "$archive"; }
 
 build_archive() {
     echo "$name: proving and building the archive, once" >&2
-    (cd "$top" && rt staticlib wospinzo 2>&1 9>&-) </dev/null | tee "$top/target/log/archive.out" | grep --line-buffered '^rt: [a-z_]* proved' >&2
+    (cd "$top" && ./archive 2>&1 9>&-) </dev/null | tee "$top/target/log/archive.out" | grep --line-buffered '^rt: [a-z_]* proved' >&2
     [ "${PIPESTATUS[0]}" -eq 0 ] && [ -f "$archive" ] || fail 3 'the archive could not be built: see target/log/archive.out'
-    touch "$archive"
 }
 
 build_binary() {

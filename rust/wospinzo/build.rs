@@ -14,7 +14,7 @@ fn main() {
     println!("cargo:rerun-if-changed={}", archive.display());
     if !archive.is_file() {
         eprintln!("there is no {}", archive.display());
-        eprintln!("`rt staticlib wospinzo` in the repository builds it;");
+        eprintln!("`./archive` in the repository builds it;");
         eprintln!("WOSPINZO_LIB_DIR names another folder that has it");
         std::process::exit(1);
     }

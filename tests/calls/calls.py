@@ -1,10 +1,10 @@
 """Graphs of calls, {function: the functions that it calls}: of the sources, and what is looked for in any of them."""
 import functools
+import json
 import re
 import subprocess
-
-# Libraries of the kit that every crate may use without naming them, and the empty program that the kit puts before a library.
-KIT = {"std", "rt_empty"}
+import tempfile
+from pathlib import Path
 
 
 def cycle(graph):
@@ -48,15 +48,24 @@ def reached(graph, start):
     return found
 
 
+def listed(root):
+    """The crates of crates.txt, each with the libraries that it names."""
+    found = {}
+    for line in (root / "crates.txt").read_text().splitlines():
+        head, colon, needs = line.partition("#")[0].partition(":")
+        if colon:
+            found[head.split()[0]] = needs.split()
+    return found
+
+
 def crates_held(root, names):
-    """The crates that these ones hold, by crates.txt: themselves and what they need, the kit's libraries among them."""
-    needs = dict(line.split(":") for line in (root / "crates.txt").read_text().splitlines() if re.match(r"\w+:", line))
-    held, ahead = set(), list(names)
+    """The crates of the repository that these ones hold, by crates.txt: themselves and what they need."""
+    needs, held, ahead = listed(root), set(), list(names)
     while ahead:
         name = ahead.pop()
-        if name not in held:
+        if name in needs and name not in held:
             held.add(name)
-            ahead += needs.get(name, "").split()
+            ahead += needs[name]
     return held
 
 
@@ -78,18 +87,70 @@ def functions_written(root, crate):
     return found
 
 
+def kit():
+    """The folder of the kit."""
+    return Path(subprocess.run(["rt", "doc"], capture_output=True, text=True, check=True).stdout.strip()).parent
+
+
+def lowered(file):
+    """The calls of a library as it was built, by the file of its functions that are linked: (graph, how many calls name no function and
+    how many functions are used as values, by function)."""
+    graph, others = {}, {}
+
+    def read(part, name):
+        if isinstance(part, dict):
+            for word, inside in part.items():
+                if word == "Call" and "Fn" in inside[0]:
+                    graph[name].add(inside[0]["Fn"][0])
+                    read([inside[0]["Fn"][1:], inside[1:]], name)
+                    continue
+                if word in ("Call", "CallV", "Fn") or word == "Impl" and inside[0]:
+                    others[name] += 1
+                read(inside, name)
+        elif isinstance(part, list):
+            for inside in part:
+                read(inside, name)
+
+    for name, function in json.loads(file.read_text()):
+        graph[name], others[name] = set(), 0
+        read(function["body"], name)
+    return graph, others
+
+
+def read_text(root, crate):
+    """The same of a crate that is not built as a library, by the texts that the check makes of its functions. Nothing is proved."""
+    graph, others = {}, {}
+    with tempfile.TemporaryDirectory() as folder:
+        done = subprocess.run(["rt", "check", "--generated", folder], cwd=root / "crates" / crate, capture_output=True, text=True)
+        if not re.search(r"(?m)^generated=\d+$", done.stdout):
+            raise SystemExit(f"calls: rt check --generated failed in crates/{crate}\n{(done.stdout + done.stderr)[-2000:]}\n0 passed, 1 failed")
+        for file in sorted(Path(folder).glob(f"Rattle-{crate}-proofs/**/Code/**/*.antt")):
+            # FUNCTION/Code/Mir.antt, or of functions that call one another +CYCLE/Code/+FUNCTION.antt
+            above, _, below = file.relative_to(Path(folder) / f"Rattle-{crate}-proofs").with_suffix("").as_posix().partition("/Code/")
+            name = "::".join([crate] + (above if below == "Mir" else below.lstrip("+")).split("/"))
+            text = file.read_text()
+            known = {alias or path.split(".")[-1]: path for path, alias in re.findall(r"(?m)^use (\S+)(?: as (\S+))?$", text)}
+            text = text[text.index("\nabbrev "):]
+            named = re.findall(r"Syntax\.call\s+(?:\(Syntax\.fn\s+)?([^\s()]+)\.(?:name|symbol)\b", text)
+            graph[name] = {function_at(known[alias]) for alias in named}
+            mentions = [alias for alias in re.findall(r"([^\s()]+)\.(?:name|symbol)(?![\w-])", text) if alias in known]
+            words = re.findall(r"Syntax\.(?:call|call_v|fn_addr|vtable|method|impl|forked|awaited)(?![\w-])", text)
+            others[name] = len(words) - len(named) + len(mentions) - len(named)
+    return graph, others
+
+
+def function_at(path):
+    """The function whose symbol a module has: Rattle.CRATE.proofs.PLACE.Symbol, or Rattle.CRATE.specs.contracts.PLACE.Key."""
+    place = re.fullmatch(r"Rattle\.(\w+)\.(?:proofs|specs\.contracts)\.(.+)\.(?:Symbol|Key)", path)
+    return "::".join([place[1]] + place[2].split("."))
+
+
 def sources(root, crate):
     """The calls of a crate and of what it needs, as the kit's front end reads the sources, where each call has the full name
     of the function called: (graph, how many calls name no function and how many functions are used as values, in all)."""
-    done = subprocess.run(["rt", "mir", crate], cwd=root, capture_output=True, text=True)
-    if done.returncode:
-        raise SystemExit(f"calls: rt mir {crate} failed\n{done.stderr[-2000:]}\n0 passed, 1 failed")
-    graph, named = {}, 0
-    for part in done.stdout.split('(fn-def "')[1:]:
-        name, body = part.split('"', 1)
-        callees = re.findall(r'\(call \(direct \(fnRef "([^"]*)"\)\)', body)
-        graph.setdefault(name, set()).update(callees)
-        named += len(callees)
-    # One name of a function is no call: that of the program's main, at the end.
-    others = done.stdout.count("(call ") - named + done.stdout.count("(fnRef ") - named - 1
-    return graph, others
+    graph, others = read_text(root, crate)
+    for library in sorted(crates_held(root, [crate]) - {crate}):
+        found = lowered(root / "crates" / library / "out" / "rlib" / f"{library}.rlib" / "toolchain" / "mir.json")
+        graph.update(found[0])
+        others.update(found[1])
+    return graph, sum(others.values())
