@@ -36,7 +36,7 @@ def read():
     text = (SPECS / "Nodes.antt").read_text()
     arrows = [(a, b, int(e or 0), re.findall(r"[A-Za-z]+", g)) for a, b, e, g in re.findall(
         r"arrow (\w+) (\w+) (?:\(shown (\d+)\)|quiet) (\[\]|\([^)]*\))", text[text.index("arrows ="):])]
-    last = int(re.search(r"(?m)^lastPhase = (\d+)$", (SPECS / "Bounds.antt").read_text())[1])
+    last = int(re.search(r"(?m)^last_phase = (\d+)$", (SPECS / "Bounds.antt").read_text())[1])
     if len(codes) != 11 or len(arrows) != 12 or sum(map(len, phases.values())) != last + 1:
         sys.exit("figure1: the tables of the definitions were not read whole")
     return codes, phases, arrows

@@ -49,18 +49,21 @@ def reached(graph, start):
 
 
 def listed(root):
-    """The crates of crates.txt, each with the libraries that it names."""
-    found = {}
+    """The crates of crates.txt: (name, line, the libraries that it names) of each."""
     for line in (root / "crates.txt").read_text().splitlines():
         head, colon, needs = line.partition("#")[0].partition(":")
         if colon:
-            found[head.split()[0]] = needs.split()
-    return found
+            yield head.split()[0], line, needs.split()
+
+
+def lines_of(root, crates):
+    """The lines of crates.txt for these crates."""
+    return "".join(f"{line}\n" for name, line, needs in listed(root) if name in crates)
 
 
 def crates_held(root, names):
     """The crates of the repository that these ones hold, by crates.txt: themselves and what they need."""
-    needs, held, ahead = listed(root), set(), list(names)
+    needs, held, ahead = {name: needs for name, line, needs in listed(root)}, set(), list(names)
     while ahead:
         name = ahead.pop()
         if name in needs and name not in held:
@@ -87,11 +90,22 @@ def functions_written(root, crate):
     return found
 
 
+@functools.cache
 def kit():
     """The folder of the kit."""
     return Path(subprocess.run(["rt", "doc"], capture_output=True, text=True, check=True).stdout.strip()).parent
 
 
+def library_of_kit(name):
+    """The file of the kit's linked functions that has a function of this name, if it is the kit's."""
+    return kit() / "rlibs" / f"{name.split('::')[0]}.rlib" / "toolchain" / "mir.json"
+
+
+def is_of_kit(name):
+    return library_of_kit(name).exists()
+
+
+@functools.cache
 def lowered(file):
     """The calls of a library as it was built, by the file of its functions that are linked: (graph, how many calls name no function and
     how many functions are used as values, by function)."""
@@ -153,4 +167,12 @@ def sources(root, crate):
         found = lowered(root / "crates" / library / "out" / "rlib" / f"{library}.rlib" / "toolchain" / "mir.json")
         graph.update(found[0])
         others.update(found[1])
+    # Of the kit's libraries the functions that are reached.
+    ahead = [name for callees in graph.values() for name in callees]
+    while ahead:
+        name = ahead.pop()
+        if name not in graph and is_of_kit(name):
+            found = lowered(library_of_kit(name))
+            graph[name], others[name] = found[0][name], found[1][name]
+            ahead += graph[name]
     return graph, sum(others.values())
