@@ -32,7 +32,7 @@ returns-then-script-at-eq-LINE_FEED-2 c =
     omega (
       arith,
       passed_1 c.args.script.now c.args.at c.requires c.if-script-at-eq-LINE_FEED.false,
-      at_feed c.args.script.now (c.args.at + 1) (omega arith) c.if-script-at-eq-LINE_FEED-2.true
+      at_feed c.args.script.now (c.args.at + 1) (omega arith) c.if-script-at-eq-LINE_FEED-2.true,
     )
 
 pub returns-then-script-at-eq-LINE_FEED-3 : goal.returns-then-script-at-eq-LINE_FEED-3
@@ -40,7 +40,7 @@ returns-then-script-at-eq-LINE_FEED-3 c =
     omega (
       arith,
       passed_2 c.args.script.now c.args.at c.requires c.if-script-at-eq-LINE_FEED.false c.if-script-at-eq-LINE_FEED-2.false,
-      at_feed c.args.script.now (c.args.at + 2) (omega arith) c.if-script-at-eq-LINE_FEED-3.true
+      at_feed c.args.script.now (c.args.at + 2) (omega arith) c.if-script-at-eq-LINE_FEED-3.true,
     )
 
 pub returns-then-script-at-eq-LINE_FEED-4 : goal.returns-then-script-at-eq-LINE_FEED-4
@@ -48,7 +48,7 @@ returns-then-script-at-eq-LINE_FEED-4 c =
     omega (
       arith,
       passed_3 c.args.script.now c.args.at c.requires c.if-script-at-eq-LINE_FEED.false c.if-script-at-eq-LINE_FEED-2.false c.if-script-at-eq-LINE_FEED-3.false,
-      at_feed c.args.script.now (c.args.at + 3) (omega arith) c.if-script-at-eq-LINE_FEED-4.true
+      at_feed c.args.script.now (c.args.at + 3) (omega arith) c.if-script-at-eq-LINE_FEED-4.true,
     )
 
 pub returns : goal.returns

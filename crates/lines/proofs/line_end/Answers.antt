@@ -9,9 +9,9 @@ returns-then-script-i-eq-LINE_FEED c =
 
 pub loop-i-2-preserved : goal.loop-i-2-preserved
 loop-i-2-preserved c = (
-      omega arith,
-      omega (arith, c.loop-i-2.invariant.1, past_byte c.args.script.now c.loop-i-2.i c.loop-i-2-test.true (c.loop-i-2.i + 1) refl c.if-script-i-eq-LINE_FEED.false),
-    )
+  omega arith,
+  omega (arith, c.loop-i-2.invariant.1, past_byte c.args.script.now c.loop-i-2.i c.loop-i-2-test.true (c.loop-i-2.i + 1) refl c.if-script-i-eq-LINE_FEED.false),
+)
 
 pub returns : goal.returns
 returns c = omega (arith, c.loop-i-2.invariant.1, past_end c.args.script.now c.loop-i-2.i c.loop-i-2-test.false)
