@@ -34,9 +34,9 @@ module _ {M : Type 1} {𝓤 : Ura M} {𝓛 : Logic 𝓤} {K : Type 0} {Γ : List
 
   pub answered : K → Soaks G → (Q : RattleType) (P : Q.Denot → SProp 𝓤) (φ : Q.Denot → Type 0) → ((r : Q.Denot) → ent 𝓤 (P r) (fact 𝓤 (φ r))) → (v : Val)
       → ((r : Q.Denot) → φ r → Is Q r (v ∷ []) → Seq K 𝓛 Γ G)
-      → Seq K 𝓛 (raw (H.⇛ (ex 𝓤 (λ (r : Q.Denot). sep 𝓤 (sep 𝓤 (emp 𝓤) (sem 𝓛 (Q.own r (v ∷ [])))) (P r)))) ∷ Γ) G
+      → Seq K 𝓛 (raw (H.⇛ (ex 𝓤 (λ (r : Q.Denot). sep 𝓤 (sep 𝓤 (emp 𝓤) (sem 𝓛 (Q.own_val r (v ∷ [])))) (P r)))) ∷ Γ) G
   answered t z Q P φ say v k =
-      use1 𝓛 (later (some (λ (r : Q.Denot). (‵ ftrue ⊛ ‵ (Q.own r (v ∷ []))) ⊛ raw (P r)))) (id⊢ 𝓤 _) $ await t z $ pick t (λ r. split t $
+      use1 𝓛 (later (some (λ (r : Q.Denot). (‵ ftrue ⊛ ‵ (Q.own_val r (v ∷ []))) ⊛ raw (P r)))) (id⊢ 𝓤 _) $ await t z $ pick t (λ r. split t $
       move t (1 ∷ []) $ use1 𝓛 (raw (fact 𝓤 (φ r))) (say r) $ heard t (φ r) (λ s. split t $ drop t $ facts t Q (Is Q) (shows 𝓛 Q) r (v ∷ []) (λ is. k r s is)))
 
 module _ {M : Type 1} {𝓤 : Ura M} {𝓛 : Logic 𝓤} {K : Type 0} {Γ : List (Item 𝓤)} {E : Env 𝓤 𝓛.H} where

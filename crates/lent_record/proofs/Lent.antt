@@ -8,18 +8,20 @@ use mathlib.Core.List.{List, [], ◌∷◌}
 use mathlib.Core.Path.{◌≡◌, ap}
 use Prim.Native.Nat.{ℕ}
 use seplogic.Ra.Ura.{Ura}
-use seplogic.Ra.TreeShare.{full_share}
+use base.Fraction.{full_share}
 use mir.Val.{Val}
 use base.Stored.{Gv}
-use base.Fml.{GName, Lft, Share, flft, fobs, fauth, fbor, fobor, fshr_bor}
+use base.Fml.{GName, Lft, Share, flft, fobs, fauth, fbor, fobor}
 use types.Logic.{Logic}
 use types.Kit.{Item, Goal, Soaks, Seq, Step, step, ‵, ◌$◌, move}
 use types.SemTy.{Body}
 use denote.Laws.{Is, Typed, shows}
-use denote.Memory.{cell_at, part_at, mem}
+use denote.Copied.{Copied}
+use denote.Memory.{cell_at, part_at, mem, hidden_shr}
+use denote.Opens.{Shut}
 use denote.Steps.{opens, closes, looks, shuts, facts, owned, only}
 use denote.Struct.Declared.{Declared, fields, row}
-use denote.Struct.Laws.{Laws, Copyables, vals, tells, lawful, makes, copy}
+use denote.Struct.Laws.{Laws, Copyables, vals, tells, lawful, makes, copied}
 use denote.Struct.Steps.{spelt}
 use denote.Struct.Struct.{Plains}
 
@@ -36,13 +38,13 @@ module _ (T : Declared) (L : Laws T) where
 module _ {M : Type 1} {𝓤 : Ura M} {𝓛 : Logic 𝓤} {K : Type 0} {Γ : List (Item 𝓤)} {G : Goal 𝓤 𝓛.H} (T : Declared) (L : Laws T) where
   -- the cell's machine value is written out, and of what is owned the facts are kept
   spelt_out : K → (q : Share) (h : T.D) (vs : List Val) (b o : ℕ) → (Holds T L h → Seq K 𝓛 (‵ (cell_at q (row T).mir (vals T L h) b o) ∷ Γ) G)
-      → Seq K 𝓛 (‵ (cell_at q (row T).mir vs b o) ∷ ‵ ((row T).own h vs) ∷ Γ) G
+      → Seq K 𝓛 (‵ (cell_at q (row T).mir vs b o) ∷ ‵ ((row T).own_val h vs) ∷ Γ) G
   spelt_out t q h vs b o k =
       spelt t (row T) (Is (row T)) (shows 𝓛 (row T)) (vals T L) (tells T L) q h vs b o $ move t (1 ∷ []) $ facts t (row T) (Is (row T)) (shows 𝓛 (row T)) h (vals T L h) k
 
   -- what the value owns is put beside its cell
   owns_it : K → Plains (fields T) → (q : Share) (h : T.D) → Holds T L h → (b o : ℕ)
-      → Step K 𝓛 (‵ (cell_at q (row T).mir (vals T L h) b o) ∷ ‵ ((row T).own h (vals T L h)) ∷ Γ) G (‵ (cell_at q (row T).mir (vals T L h) b o) ∷ Γ) G
+      → Step K 𝓛 (‵ (cell_at q (row T).mir (vals T L h) b o) ∷ ‵ ((row T).own_val h (vals T L h)) ∷ Γ) G (‵ (cell_at q (row T).mir (vals T L h) b o) ∷ Γ) G
   owns_it t p q h is b o = step (λ s. owned t (row T) (Is (row T)) (makes T p 𝓛) h (vals T L h) is $ move t (1 ∷ 0 ∷ []) $ s)
 
 module _ {M : Type 1} {𝓤 : Ura M} {𝓛 : Logic 𝓤} {K : Type 0} {Γ : List (Item 𝓤)} {G : Goal 𝓤 𝓛.H} (T : Declared) (L : Laws T) where
@@ -58,11 +60,10 @@ module _ {M : Type 1} {𝓤 : Ura M} {𝓛 : Logic 𝓤} {K : Type 0} {Γ : List
   restored t z p h' is b o = step (λ s. owns_it T L t p full_share h' is b o $ closes t z (row T) h' (vals T L h') b o $ s)
 
   pub lent : K → Soaks G → Copyables T.parts → {κ : Lft} {q : Share} (h : T.D) (b o : ℕ)
-      → ((q' : Share) → Holds T L h → Seq K 𝓛 (‵ (cell_at q' (row T).mir (vals T L h) b o) ∷ ‵ (fobor κ q (part_at (row T) q' h b o)) ∷ ‵ (fshr_bor κ (λ s. part_at (row T) s h b o)) ∷ Γ) G)
-      → Seq K 𝓛 (‵ (fshr_bor κ (λ s. part_at (row T) s h b o)) ∷ ‵ (flft κ q) ∷ Γ) G
-  lent t z c h b o k =
-      looks t z (row T) (Is (row T)) (shows 𝓛 (row T)) (vals T L) (tells T L) (copy T c 𝓛) h b o (λ q' vs. spelt_out T L t q' h vs b o (k q'))
+      → ((q' : Share) → Holds T L h → Seq K 𝓛 (‵ (cell_at q' (row T).mir (vals T L h) b o) ∷ Shut 𝓛 κ q (part_at (row T) q' h b o) ∷ ‵ (hidden_shr (row T) κ h b o) ∷ Γ) G)
+      → Seq K 𝓛 (‵ (hidden_shr (row T) κ h b o) ∷ ‵ (flft κ q) ∷ Γ) G
+  lent t z c h b o k = looks t z (row T) (copied T c 𝓛).opens h b o (λ q' vs. spelt_out T L t q' h vs b o (k q'))
 
   pub returned : K → Soaks G → Plains (fields T) → {κ : Lft} {q : Share} (q' : Share) (h : T.D) → Holds T L h → (b o : ℕ)
-      → Step K 𝓛 (‵ (flft κ q) ∷ Γ) G (‵ (cell_at q' (row T).mir (vals T L h) b o) ∷ ‵ (fobor κ q (part_at (row T) q' h b o)) ∷ Γ) G
+      → Step K 𝓛 (‵ (flft κ q) ∷ Γ) G (‵ (cell_at q' (row T).mir (vals T L h) b o) ∷ Shut 𝓛 κ q (part_at (row T) q' h b o) ∷ Γ) G
   returned t z p q' h is b o = step (λ s. owns_it T L t p q' h is b o $ shuts t z (row T) q' h (vals T L h) b o $ s)

@@ -33,15 +33,15 @@ pub record Entries (M : Type 1) : Type 2 where
   pub wospinzo_move : move.statement M
   pub wospinzo_dispatch : dispatch.statement M
   pub wospinzo_nodes : nodes.statement M
-  pub wospinzo_open_moves : open_moves_call.statement M
+  pub wospinzo_open_moves : open-moves.statement M
   pub wospinzo_check : check.statement M
   pub wospinzo_plan_length : plan-length.statement M
   pub wospinzo_plan : plan-bytes.statement M
   pub wospinzo_run : run.statement M
-  pub wospinzo_write_script : write_script.statement M
+  pub wospinzo_write_script : write-script.statement M
   pub wospinzo_read_script : read-script.statement M
-  pub wospinzo_watch_start : watch_start.statement M
-  pub wospinzo_watch_event : watch_event.statement M
+  pub wospinzo_watch_start : watch-start.statement M
+  pub wospinzo_watch_event : watch-event.statement M
   pub wospinzo_watch_inside : watch-inside.statement M
   -- The program's printing (crates/printout). What it prints and what it reads: printout/specs/ProgramRooms.
   pub print_input : printing.statement M
