@@ -16,7 +16,6 @@ use types.Logic.{Logic}
 use types.Kit.{Item, Goal, Soaks, Seq, Step, step, ‵, ◌$◌, move}
 use types.SemTy.{Body}
 use denote.Laws.{Is, Typed, shows}
-use denote.Copied.{Copied}
 use denote.Memory.{cell_at, part_at, mem, hidden_shr}
 use denote.Opens.{Shut}
 use denote.Steps.{opens, closes, looks, shuts, facts, owned, only}
