@@ -5,7 +5,7 @@
  *   cc  -std=c99   -Iinclude -o executive executive.c   target/staticlib/libwospinzo.a
  *   c++ -std=c++11 -Iinclude -o executive executive.cpp target/staticlib/libwospinzo.a
  *
- * The archive is for x86-64; `rt staticlib wospinzo` builds it.
+ * The archive is for x86-64; `./archive` builds it.
  *
  * A readers-writer lock for N threads (tasks of an executive) kept in one
  * table of bytes that the caller owns. Every step of a thread through the lock

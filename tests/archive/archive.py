@@ -77,12 +77,12 @@ def names_register(operands, register):
 
 def is_switch(code, at):
     """Whether a jump goes by a table of distances to the table itself, as a switch does: the distance is loaded, the table's
-    place is added and the sum jumped to. Between the last two, moves may stand that do not name the register."""
+    place is added and the sum jumped to. Between the last two, moves and sums may stand that do not name the register."""
     jump, register, _ = code[at]
     if jump != "jmp" or not re.match(r"r\w+$", register):
         return False
     before = at - 1
-    while before > 0 and code[before][0] in ("mov", "movzx") and not names_register(code[before][1], register):
+    while before > 0 and code[before][0] in ("mov", "movzx", "lea") and not names_register(code[before][1], register):
         before -= 1
     if before < 1:
         return False

@@ -96,38 +96,80 @@ def kit():
     return Path(subprocess.run(["rt", "doc"], capture_output=True, text=True, check=True).stdout.strip()).parent
 
 
-def library_of_kit(name):
-    """The file of the kit's linked functions that has a function of this name, if it is the kit's."""
-    return kit() / "rlibs" / f"{name.split('::')[0]}.rlib" / "toolchain" / "mir.json"
-
-
 def is_of_kit(name):
-    return library_of_kit(name).exists()
+    """Whether a function is of a library of the kit."""
+    return (kit() / "rlibs" / f"{name.split('::')[0]}.rlib").exists()
 
 
 @functools.cache
 def lowered(file):
-    """The calls of a library as it was built, by the file of its functions that are linked: (graph, how many calls name no function and
-    how many functions are used as values, by function)."""
-    graph, others = {}, {}
+    """The functions of a library as it was built, by the file of those that are linked: ({function: its body}, {(impl, number of a
+    method): the function that it is})."""
+    bodies, methods = {}, {}
+    for name, function in json.loads(file.read_text()):
+        bodies[name] = function["body"]
+        of = (function["generics"]["method_of"] or {}).get("Impl")
+        if of:
+            methods[tuple(of)] = name
+    return bodies, methods
 
-    def read(part, name):
+
+def callees(body):
+    """What a function of a library calls: for each call a function, or a method of an impl, with the impls that it is given; None for
+    a call that names none, and for each function that is used as a value."""
+    found = []
+
+    def read(part):
         if isinstance(part, dict):
             for word, inside in part.items():
-                if word == "Call" and "Fn" in inside[0]:
-                    graph[name].add(inside[0]["Fn"][0])
-                    read([inside[0]["Fn"][1:], inside[1:]], name)
-                    continue
-                if word in ("Call", "CallV", "Fn") or word == "Impl" and inside[0]:
-                    others[name] += 1
-                read(inside, name)
+                if word == "Call":
+                    kind, callee = next(iter(inside[0].items()))
+                    if kind in ("Fn", "Method"):
+                        found.append(callee)
+                        inside = inside[1:]
+                    elif kind != "Prim":
+                        found.append(None)
+                elif word in ("CallV", "Fn", "Method", "VtMethod", "Impl"):
+                    found.append(None)
+                read(inside)
         elif isinstance(part, list):
             for inside in part:
-                read(inside, name)
+                read(inside)
 
-    for name, function in json.loads(file.read_text()):
-        graph[name], others[name] = set(), 0
-        read(function["body"], name)
+    read(body)
+    return found
+
+
+def given(impl, impls):
+    """An impl as a function names it, where it has been given these."""
+    if "Given" in impl:
+        return impls[impl["Given"]]
+    name, types, below = impl["Impl"]
+    return {"Impl": [name, [], [given(it, impls) for it in below]]}
+
+
+def instances(starts, file_of):
+    """The calls of functions of libraries and of all that they reach, each with the impls that it is given, so that a call of a
+    method through a bound has the name of that method: (graph, how many calls name no function and how many functions are used
+    as values)."""
+    graph, others, seen, ahead = {}, 0, set(), [(name, []) for name in starts]
+    while ahead:
+        name, impls = ahead.pop()
+        if (name, str(impls)) in seen:
+            continue
+        seen.add((name, str(impls)))
+        reached = graph.setdefault(name, set())
+        for callee in callees(lowered(file_of(name))[0][name]):
+            if callee is None:
+                others += 1
+                continue
+            passed = [given(it, impls) for it in callee[-1]["dicts"]]
+            target = callee[0]
+            if len(callee) == 3:
+                impl, types, below = given(callee[0], impls)["Impl"]
+                target, passed = lowered(file_of(impl))[1][impl, callee[1]], below + passed
+            reached.add(target)
+            ahead.append((target, passed))
     return graph, others
 
 
@@ -150,7 +192,7 @@ def read_text(root, crate):
             mentions = [alias for alias in re.findall(r"([^\s()]+)\.(?:name|symbol)(?![\w-])", text) if alias in known]
             words = re.findall(r"Syntax\.(?:call|call_v|fn_addr|vtable|method|impl|forked|awaited)(?![\w-])", text)
             others[name] = len(words) - len(named) + len(mentions) - len(named)
-    return graph, others
+    return graph, sum(others.values())
 
 
 def function_at(path):
@@ -161,18 +203,16 @@ def function_at(path):
 
 def sources(root, crate):
     """The calls of a crate and of what it needs, as the kit's front end reads the sources, where each call has the full name
-    of the function called: (graph, how many calls name no function and how many functions are used as values, in all)."""
+    of the function called: (graph, how many calls name no function and how many functions are used as values, in all). Of the
+    repository's libraries it has every function, of the kit's those that are reached."""
     graph, others = read_text(root, crate)
-    for library in sorted(crates_held(root, [crate]) - {crate}):
-        found = lowered(root / "crates" / library / "out" / "rlib" / f"{library}.rlib" / "toolchain" / "mir.json")
-        graph.update(found[0])
-        others.update(found[1])
-    # Of the kit's libraries the functions that are reached.
-    ahead = [name for callees in graph.values() for name in callees]
-    while ahead:
-        name = ahead.pop()
-        if name not in graph and is_of_kit(name):
-            found = lowered(library_of_kit(name))
-            graph[name], others[name] = found[0][name], found[1][name]
-            ahead += graph[name]
-    return graph, sum(others.values())
+    below = crates_held(root, [crate]) - {crate}
+
+    def file_of(name):
+        library = name.split("::")[0]
+        folder = root / "crates" / library / "out" / "rlib" if library in below else kit() / "rlibs"
+        return folder / f"{library}.rlib" / "toolchain" / "mir.json"
+
+    starts = {name for library in below for name in lowered(file_of(library))[0]} | {name for found in graph.values() for name in found}
+    found = instances(sorted(starts - set(graph)), file_of)
+    return {**found[0], **graph}, found[1] + others
