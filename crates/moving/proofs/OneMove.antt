@@ -5,7 +5,6 @@ use native.Mathlib.Omega.{arith}
 use mathlib.Core.Bool.{Bool, cond}
 use mathlib.Core.Path.{◌≡◌, refl, sym, subst⁻¹, ap, ◌∙◌}
 use lib.Dec.{eqb}
-use Rattle.definitions.specs.Answers.{accepted}
 use Rattle.definitions.specs.Moves.{effect}
 use Rattle.definitions.specs.Table.{Table, Storage, applied}
 use Rattle.definitions.specs.declared.Request.{Request}
