@@ -67,6 +67,7 @@ fn note_fits(text: &[u8]) -> bool
 }
 
 // What follows `(note `: a text that fits, and the note's own bracket as the last byte.
+#[tactic(auto, using(crate::proofs::NoteText::note_empty, crate::proofs::NoteText::note_unclosed, crate::proofs::NoteText::note_closed))]
 pub fn ends_note(part: &[u8]) -> bool
     ensures { cond result note bad ≡ note_form part.now }
 {

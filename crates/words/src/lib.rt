@@ -1,7 +1,7 @@
 // Words and numbers of a script's line: comparisons of texts, and the number at the front of a part.
 #![tactic(auto)]
 
-ghost use Rattle.std.specs.Prelude.{◌≡◌, get_or};
+ghost use Rattle.std.specs.Prelude.{◌≡◌, ◌≤◌, true, length, get_or};
 ghost use Rattle.definitions.specs.Texts.{same, starts, is_digit};
 ghost use Rattle.words.specs.Numbers.{number_for, closed_for};
 
@@ -34,7 +34,8 @@ pub fn same_text(part: &[u8], text: &[u8]) -> bool
 
 // A part begins with a text.
 pub fn starts_with(part: &[u8], text: &[u8]) -> bool
-    ensures { result ≡ starts text.now part.now }
+    ensures value { result ≡ starts text.now part.now }
+    ensures long { result ≡ true → length text.now ≤ length part.now }
 {
     let n = text.len();
     if part.len() < n {

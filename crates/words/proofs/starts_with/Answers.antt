@@ -3,5 +3,5 @@ use Rattle.std.proofs.Common.{sym}
 use Rattle.words.proofs.Comparisons.{starts-short}
 use Rattle.words.proofs.starts_with.Goals as goal
 
-pub returns-then-part-n : goal.returns-then-part-n
-returns-then-part-n c = sym (starts-short c.args.text.now c.args.part.now c.if-part-n.true)
+pub returns-then-part-n-clause-value : goal.returns-then-part-n-clause-value
+returns-then-part-n-clause-value c = sym (starts-short c.args.text.now c.args.part.now c.if-part-n.true)
