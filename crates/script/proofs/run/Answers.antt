@@ -1,9 +1,10 @@
 -- By the length of the script, then by that of its output (proofs/EntryLaws).
+use native.Mathlib.Omega.{arith}
 use Rattle.script.proofs.EntryLaws.{too_long, measurable, run-printed, run-refused}
 use Rattle.script.proofs.run.Goals as goal
 
 pub returns-then-script-gt-MOST_SCRIPT : goal.returns-then-script-gt-MOST_SCRIPT
-returns-then-script-gt-MOST_SCRIPT c = too_long _ _ c.if-script-gt-MOST_SCRIPT.true
+returns-then-script-gt-MOST_SCRIPT c = too_long _ _ (omega arith)
 
 pub print-answer-requires : goal.print-answer-requires
 print-answer-requires c = measurable _ c.args.out.now c.if-script-gt-MOST_SCRIPT.false c.run_script-ran.ensures
