@@ -41,7 +41,14 @@ pub fn say_bytes(rt: &HostRuntime, bytes: &[u8]) -> io::Result<()> {
 }
 
 // One move, and the table after it.
-pub fn show_move(rt: &HostRuntime, name: &[u8], table: &mut [u8], thread: u16, mv: u16, target: u16) -> io::Result<()> {
+pub fn show_move(
+    rt: &HostRuntime,
+    name: &[u8],
+    table: &mut [u8],
+    thread: u16,
+    mv: u16,
+    target: u16,
+) -> io::Result<()> {
     let answer = wospinzo::wospinzo_move(table, thread, mv, target);
     say_answer(rt, name, answer)?;
     say_bytes(rt, table)
