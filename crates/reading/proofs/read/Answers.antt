@@ -11,42 +11,41 @@ long : (n : ℕ) → n ≤ most_script → n ≤ 3 * length {A = ℕ} (replicate
 long n h = omega (arith, length-replicate {A = ℕ} (most_script / 3) 0)
 
 pub returns-then-script-gt-MOST_SCRIPT : goal.returns-then-script-gt-MOST_SCRIPT
-returns-then-script-gt-MOST_SCRIPT c = too_long _ _ c.if-script-gt-MOST_SCRIPT.true
+returns-then-script-gt-MOST_SCRIPT c = search (arith, too_long)
 
 pub returns-in_default : goal.returns-in_default
-returns-in_default c = bad_first _ _ c.if-script-gt-MOST_SCRIPT.false (rw c.in_default.is at c.first_line-first.ensures)
+returns-in_default c = bad_first _ _ (omega arith) (rw c.in_default.is at c.first_line-first.ensures)
 
 pub returns-then-not-count_fits : goal.returns-then-not-count_fits
 returns-then-not-count_fits c =
-    bad-count _ _ c.if-script-gt-MOST_SCRIPT.false _ _ c.in-Threads.ensures (sym c.count_fits.ensures ∙ c.if-not-count_fits.true)
+    bad-count _ _ (omega arith) _ _ c.in-Threads.ensures (sym c.count_fits.ensures ∙ c.if-not-count_fits.true)
 
 pub returns-then-out-bytes : goal.returns-then-out-bytes
 returns-then-out-bytes c =
-    no_room_left _ _ c.if-script-gt-MOST_SCRIPT.false _ _ c.in-Threads.ensures (sym c.count_fits.ensures ∙ c.if-not-count_fits.false) c.in-Done.ensures c.if-out-bytes.true
+    no_room_left _ _ (omega arith) _ _ c.in-Threads.ensures (sym c.count_fits.ensures ∙ c.if-not-count_fits.false) c.in-Done.ensures c.if-out-bytes.true
 
 pub slice_bounds-moves-end : goal.slice_bounds-moves-end
 slice_bounds-moves-end c =
-    within c.args.script.now c.args.out.now c.if-script-gt-MOST_SCRIPT.false _ _ c.in-Threads.ensures (sym c.count_fits.ensures ∙ c.if-not-count_fits.false)
-    c.in-Done.ensures (long _ c.if-script-gt-MOST_SCRIPT.false) c.take_lines-taken.auto.moves
+    within c.args.script.now c.args.out.now (omega arith) _ _ c.in-Threads.ensures (sym c.count_fits.ensures ∙ c.if-not-count_fits.false)
+    c.in-Done.ensures (long _ (omega arith)) c.take_lines-taken.auto.moves
 
 pub slice_bounds-put_triples-end : goal.slice_bounds-put_triples-end
 slice_bounds-put_triples-end c =
-    sym (length-take-le _ _ (within c.args.script.now c.args.out.now c.if-script-gt-MOST_SCRIPT.false _ _ c.in-Threads.ensures
-    (sym c.count_fits.ensures ∙ c.if-not-count_fits.false) c.in-Done.ensures (long _ c.if-script-gt-MOST_SCRIPT.false) c.take_lines-taken.auto.moves))
+    sym (length-take-le _ _ (within c.args.script.now c.args.out.now (omega arith) _ _ c.in-Threads.ensures
+    (sym c.count_fits.ensures ∙ c.if-not-count_fits.false) c.in-Done.ensures (long _ (omega arith)) c.take_lines-taken.auto.moves))
 
 pub put_triples-requires : goal.put_triples-requires
 put_triples-requires c =
-    let counts = sym c.count_fits.ensures ∙ c.if-not-count_fits.false in
-    let room = long _ c.if-script-gt-MOST_SCRIPT.false in (
-      triples_room c.args.script.now c.args.out.now c.if-script-gt-MOST_SCRIPT.false _ _ c.in-Threads.ensures counts c.in-Done.ensures room c.take_lines-taken.auto.moves c.if-out-bytes.false,
-      triples_whole c.args.script.now c.args.out.now c.if-script-gt-MOST_SCRIPT.false _ _ c.in-Threads.ensures counts c.in-Done.ensures room c.take_lines-taken.auto.moves c.if-out-bytes.false,
+    let counts = sym c.count_fits.ensures ∙ c.if-not-count_fits.false in (
+      triples_room c.args.script.now c.args.out.now (omega arith) _ _ c.in-Threads.ensures counts c.in-Done.ensures (long _ (omega arith)) c.take_lines-taken.auto.moves c.if-out-bytes.false,
+      triples_whole c.args.script.now c.args.out.now (omega arith) _ _ c.in-Threads.ensures counts c.in-Done.ensures (long _ (omega arith)) c.take_lines-taken.auto.moves c.if-out-bytes.false,
     )
 
 pub returns-in-Refused : goal.returns-in-Refused
 returns-in-Refused c =
-    bad_line _ _ c.if-script-gt-MOST_SCRIPT.false _ _ c.in-Threads.ensures (sym c.count_fits.ensures ∙ c.if-not-count_fits.false) _ _ c.in-Refused.ensures
+    bad_line _ _ (omega arith) _ _ c.in-Threads.ensures (sym c.count_fits.ensures ∙ c.if-not-count_fits.false) _ _ c.in-Refused.ensures
 
 pub returns-else-out-bytes : goal.returns-else-out-bytes
 returns-else-out-bytes c =
-    all_read _ _ c.if-script-gt-MOST_SCRIPT.false _ _ c.in-Threads.ensures (sym c.count_fits.ensures ∙ c.if-not-count_fits.false) c.in-Done.ensures
-    (long _ c.if-script-gt-MOST_SCRIPT.false) c.take_lines-taken.auto.moves c.if-out-bytes.false _ _ c.put_triples.ensures
+    all_read _ _ (omega arith) _ _ c.in-Threads.ensures (sym c.count_fits.ensures ∙ c.if-not-count_fits.false) c.in-Done.ensures
+    (long _ (omega arith)) c.take_lines-taken.auto.moves c.if-out-bytes.false _ _ c.put_triples.ensures
