@@ -180,25 +180,21 @@ def read_text(root, crate):
         done = subprocess.run(["rt", "check", "--generated", folder], cwd=root / "crates" / crate, capture_output=True, text=True)
         if not re.search(r"(?m)^generated=\d+$", done.stdout):
             raise SystemExit(f"calls: rt check --generated failed in crates/{crate}\n{(done.stdout + done.stderr)[-2000:]}\n0 passed, 1 failed")
-        for file in sorted(Path(folder).glob(f"Rattle-{crate}-proofs/**/Code/**/*.antt")):
-            # FUNCTION/Code/Mir.antt, or of functions that call one another +CYCLE/Code/+FUNCTION.antt
-            above, _, below = file.relative_to(Path(folder) / f"Rattle-{crate}-proofs").with_suffix("").as_posix().partition("/Code/")
-            name = "::".join([crate] + (above if below == "Mir" else below.lstrip("+")).split("/"))
-            text = file.read_text()
-            known = {alias or path.split(".")[-1]: path for path, alias in re.findall(r"(?m)^use (\S+)(?: as (\S+))?$", text)}
+        proofs = Path(folder) / f"Rattle-{crate}-proofs"
+        for code in sorted(proofs.glob("**/Code/**/*.antt")):
+            # Of a function FUNCTION/Code/Mir.antt and FUNCTION/Lts.antt, of some that call one another +CYCLE/Code/+FUNCTION.antt and
+            # +CYCLE/Lts-FUNCTION.antt. The first has the calls by names of its own, the second the full names.
+            above, _, below = code.relative_to(proofs).with_suffix("").as_posix().partition("/Code/")
+            function = above if below == "Mir" else below.lstrip("+")
+            name = "::".join([crate] + function.split("/"))
+            text = code.read_text()
             text = text[text.index("\nabbrev "):]
-            named = re.findall(r"Syntax\.call\s+(?:\(Syntax\.fn\s+)?([^\s()]+)\.(?:name|symbol)\b", text)
-            graph[name] = {function_at(known[alias]) for alias in named}
-            mentions = [alias for alias in re.findall(r"([^\s()]+)\.(?:name|symbol)(?![\w-])", text) if alias in known]
-            words = re.findall(r"Syntax\.(?:call|call_v|fn_addr|vtable|method|impl|forked|awaited)(?![\w-])", text)
-            others[name] = len(words) - len(named) + len(mentions) - len(named)
+            graph[name] = set(re.findall(r'Syntax\.fn₀?\s+"([^"]+)"', (proofs / above / ("Lts.antt" if below == "Mir" else f"Lts-{function}.antt")).read_text()))
+            named = re.findall(r"Syntax\.call\s+\(?([^\s()]+)\.name(?![\w-])", text)
+            mentions = re.findall(r"(?:Symbol|Key)'*\d*\.(?:name|symbol)(?![\w-])", text)
+            words = re.findall(r"Syntax\.(?:call|call_v|fn|fn₀|fn_addr|vtable|method|impl|forked|awaited)(?![\w-])", text)
+            others[name] = len(words) - len(named) + len(mentions) - len(named) + abs(len(set(named)) - len(graph[name]))
     return graph, sum(others.values())
-
-
-def function_at(path):
-    """The function whose symbol a module has: Rattle.CRATE.proofs.PLACE.Symbol, or Rattle.CRATE.specs.contracts.PLACE.Key."""
-    place = re.fullmatch(r"Rattle\.(\w+)\.(?:proofs|specs\.contracts)\.(.+)\.(?:Symbol|Key)", path)
-    return "::".join([place[1]] + place[2].split("."))
 
 
 def sources(root, crate):
