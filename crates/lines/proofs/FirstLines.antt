@@ -2,7 +2,7 @@
 use Prim.Native.Nat.{ℕ, suc, ◌+◌, ◌-◌, ◌≤◌, ◌<◌}
 use native.Mathlib.Numerals.{add-one}
 use native.Mathlib.Omega.{arith}
-use mathlib.Core.Bool.{Bool, true, false}
+use mathlib.Core.Bool.{Bool, true, false, cond}
 use mathlib.Core.List.{List, [], ◌∷◌}
 use mathlib.Core.Logic.{⊎_elim}
 use mathlib.Core.Path.{◌≡◌, refl, sym, ap, ◌∙◌}
@@ -56,6 +56,14 @@ module _ (xs : List ℕ) (i : ℕ) (below : i < length xs) where
 pub past_end : (xs : List ℕ) (i : ℕ) → length xs ≤ i → line_length (drop i xs) ≡ 0
 unfolding line_length
 past_end xs i h = rw (drop_of_length-le xs h)
+
+-- four bytes at a time
+module _ (xs : List ℕ) (i place : ℕ) (e : line_length (drop i xs) ≡ cond (ltb place 4) place (4 + line_length (drop (i + 4) xs))) where
+  pub four_found : place < 4 → line_length (drop i xs) ≡ place
+  four_found h = rw (lt-ltb place 4 h) at e
+
+  pub four_more : 4 ≤ place → line_length (drop i xs) ≡ 4 + line_length (drop (i + 4) xs)
+  four_more h = rw (le-ltb place 4 h) at e
 
 -- ---- the lines from a place on
 

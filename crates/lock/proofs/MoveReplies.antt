@@ -4,7 +4,7 @@ use mathlib.Core.Bool.{not}
 use mathlib.Core.List.{List, []}
 use mathlib.Core.Path.{◌≡◌, sym, subst, ap, ◌∙◌}
 use lib.Dec.{T}
-use Rattle.definitions.specs.Answers.{Reply, refused, MoveAnswer, number_of, is_accepted, answered, passes_all}
+use Rattle.definitions.specs.Answers.{Reply, accepted, refused, MoveAnswer, number_of, is_accepted, answered, passes_all}
 use Rattle.definitions.specs.Moves.{request_tests, move_tests, move_answer, step_reply, reply_in, move_reply}
 use Rattle.definitions.specs.Sound.{table_tests}
 use Rattle.definitions.specs.Table.{byte_table, table_of}

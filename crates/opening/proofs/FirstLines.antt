@@ -1,10 +1,12 @@
--- What the first line of a script makes of the run and of reading.
-use Prim.Native.Nat.{ℕ}
+-- The first line by what stands at the script's front, and what it makes of the run and of reading.
+use Prim.Native.Nat.{ℕ, ◌+◌, ◌-◌}
+use native.Mathlib.Omega.{arith}
 use mathlib.Core.Bool.{false}
-use mathlib.Core.List.{List, ◌∷◌, ◌++◌}
-use mathlib.Core.Path.{◌≡◌, refl, subst, ap, ◌∙◌}
+use mathlib.Core.List.{List, [], ◌∷◌, ◌++◌}
+use mathlib.Core.Logic.{⊎_elim}
+use mathlib.Core.Path.{◌≡◌, refl, sym, subst, ap, ◌∙◌}
 use lib.Dec.{T}
-use lib.ListN.{drop}
+use lib.ListN.{take, drop}
 use Rattle.definitions.specs.Answers.{refused, Test, test_at, answered}
 use Rattle.definitions.specs.Forms as spec
 use Rattle.definitions.specs.Forms.{form_of, first_form, first_tests, threads_first}
@@ -13,7 +15,44 @@ use Rattle.definitions.specs.Scripts.{lines_tests, script_tests, threads_of, mov
 use Rattle.definitions.specs.Table.{count_fits}
 use Rattle.definitions.specs.Texts as texts
 use Rattle.definitions.specs.Texts.{lines_of}
+use Rattle.act_forms.specs.Readings.{form_for}
+use Rattle.act_forms.specs.declared.Form.{Form}
+use Rattle.act_forms.specs.declared.Form.TheVariants as form
+use Rattle.lines.specs.Lines.{LineAt, NextAt}
+use Rattle.lines.specs.declared.Next.{Next}
+use Rattle.lines.specs.declared.Next.TheVariants.{Line, Unended, Done}
+use denote.Enum.Declared.{tag_of}
+use types.Run.{OneOf}
 use Rattle.opening.specs.FirstLine.{says_threads, ThreadsAt, NoThreads}
+use Rattle.act_forms.specs.contracts.Form as form'
+use Rattle.lines.specs.contracts.Next as next
+
+-- ---- what stands at the front
+
+module _ (script : List ℕ) where
+  -- no line, or one that lacks its line feed: the tags 1 and 2 of `Next`
+  pub no_line : (x : Next) → NextAt script 0 x → OneOf (1 ∷ 2 ∷ []) (tag_of next.the_type x) → NoThreads script
+  no_line (Line end) l k = absurd (⊎_elim (λ e. omega arith) (λ e. omega arith) k)
+  no_line Unended u k = record { says = ap (λ (ls : List texts.Line). says_threads (first_form ls)) u.lines }
+  no_line Done d k = record { says = ap (λ (ls : List texts.Line). says_threads (first_form ls)) d.lines }
+
+  module _ (end : ℕ) (l : LineAt script 0 end) (f : Form) (read : form_for f ≡ form_of (take (end - 0) (drop 0 script))) where
+    by_form : (g : Form) → f ≡ g → first_form (lines_of script) ≡ form_for g
+    by_form g e = ap first_form l.lines ∙ (sym read ∙ ap form_for e)
+
+    -- it says N
+    pub threads_line_lem : (n : ℕ) → f ≡ form.Threads n → ThreadsAt script n (end + 1)
+    threads_line_lem n e = record { within = omega (arith, l.ends); says = by_form (form.Threads n) e; behind = ap (drop 1) l.lines }
+
+    -- it says something else: the tags 1 to 3 of `Form`
+    pub other_line : OneOf (1 ∷ 2 ∷ 3 ∷ []) (tag_of form'.the_type f) → NoThreads script
+    other_line k = by f refl k
+      where
+        by : (g : Form) → f ≡ g → OneOf (1 ∷ 2 ∷ 3 ∷ []) (tag_of form'.the_type g) → NoThreads script
+        by (form.Threads n) e k = absurd (⊎_elim (λ q. omega arith) (⊎_elim (λ q. omega arith) (λ q. omega arith)) k)
+        by (form.Request r) e k = record { says = ap says_threads (by_form (form.Request r) e) }
+        by form.Note e k = record { says = ap says_threads (by_form form.Note e) }
+        by form.Bad e k = record { says = ap says_threads (by_form form.Bad e) }
 
 -- ---- the run
 

@@ -1,5 +1,5 @@
 -- What the loop over the lines knows at each of them, and that each turn of it keeps that.
-use Prim.Native.Nat.{ℕ, ◌+◌, ◌-◌, ◌*◌, ◌%◌, ◌≤◌}
+use Prim.Native.Nat.{ℕ, ◌+◌, ◌-◌, ◌*◌, ◌%◌, ◌^◌, ◌≤◌, ◌<◌}
 use native.Mathlib.Nat.{zero-add}
 use native.Mathlib.Numerals.{add-one}
 use native.Mathlib.Omega.{arith}
@@ -186,6 +186,12 @@ module _ {script table₀ history₀ whole : List ℕ} {all : ℕ} {table histor
       module _ (moves retries count' at' : ℕ) (e : s ≡ Passed moves retries count' at') where
         passed : PassedOn turn table history at table' history' moves retries count' at'
         passed = subst (Stepped turn table history at table' history') e stepped
+
+        pub steps_fit : steps + moves < 2 ^ 64
+        steps_fit = omega (arith, passed.made, made-most turn, g.moves-few, g.within, room.short)
+
+        pub retries_fit : retried + retries < 2 ^ 64
+        retries_fit = omega (arith, passed.retried, retried-most turn, g.retries-few, g.within, room.short)
 
         pub next : length table' ≡ length table → AtLine script table₀ history₀ whole all table' history' (end + 1) (line + 1) (steps + moves) (retried + retries) count' at'
         next k = passed_on table' history' moves retries count' at' k passed

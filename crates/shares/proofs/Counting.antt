@@ -1,6 +1,6 @@
 -- The plan of the pairs from an index on (`plan_from`), and what a loop that adds up the events' shares has counted of the pairs before it (`Counting`).
 use Prim.Native.Nat.{ℕ, ◌+◌, ◌*◌, ◌/◌, ◌%◌, ◌≤◌, ◌<◌}
-use native.Mathlib.Nat.{add-mul}
+use native.Mathlib.Nat.{add-mul, mul-le-mul_left}
 use native.Mathlib.Omega.{arith}
 use mathlib.Core.List.{List, [], ◌++◌}
 use mathlib.Core.Path.{◌≡◌, ap}
@@ -84,6 +84,10 @@ module _ (n : ℕ) (bytes : List ℕ) (events k shares : ℕ) (a : Counting n by
 
       each_sum : (shares + share) / each ≡ shares / each + share / each
       each_sum = omega (arith, a.short, a.all, a.within, a.once_most, f.once_most)
+
+  -- what is made for each thread, at most 200
+  pub counting_each : shares / each * n ≤ 2 * most_threads * k
+  counting_each = omega (arith, mul-le-mul_left (shares / each) a.few, a.each-most)
 
   -- past the last event
   pub counting_all : events ≤ k → moves_by_shares n shares ≡ length (plan n (pairs_of bytes))

@@ -3,7 +3,7 @@ use Prim.Native.Nat.{ℕ, ◌+◌, ◌/◌, ◌≤◌, ◌<◌}
 use native.Mathlib.Numerals.{add-one}
 use native.Mathlib.Omega.{arith}
 use mathlib.Core.List.{List, ◌++◌}
-use mathlib.Core.Path.{◌≡◌, sym, subst, ap, ◌∙◌}
+use mathlib.Core.Path.{◌≡◌, refl, sym, subst, ap, ◌∙◌}
 use lib.Dec.{T}
 use lib.ListN.{length}
 use Rattle.definitions.specs.Answers.{Reply, accepted, refused, is_accepted, number_of, answered, passes_all}
@@ -26,6 +26,9 @@ module _ (n : ℕ) (triples : List ℕ) where
   pub record Tried (k : ℕ) : Type 0 where
     pub within : k ≤ length triples / 3
     pub left : from 0 ≡ from k
+
+  pub tried_none : Tried 0
+  tried_none = record { within = omega arith; left = refl }
 
   pub tried_all : (k : ℕ) → length triples / 3 ≤ k → Tried k → accepted (length triples / 3) ≡ from 0
   unfolding triples_tests answered

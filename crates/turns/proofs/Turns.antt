@@ -2,10 +2,10 @@
 use Prim.Native.Nat.{ℕ, ◌<◌}
 use native.Mathlib.Omega.{arith}
 use mathlib.Core.Bool.{true, false, cond}
-use mathlib.Core.List.{List}
+use mathlib.Core.List.{List, [], ◌∷◌}
 use mathlib.Core.Path.{◌≡◌, refl, sym, subst, ap, ◌∙◌}
 use lib.Dec.{T}
-use Rattle.definitions.specs.Answers.{Reply, is_accepted, quiet, MoveAnswer, moved, outcome_reply, answered}
+use Rattle.definitions.specs.Answers.{Reply, is_accepted, shown, quiet, MoveAnswer, moved, code_of, number_of, outcome_reply, answered}
 use Rattle.definitions.specs.Forms.{form_of}
 use Rattle.definitions.specs.Moves.{move_reply}
 use Rattle.definitions.specs.Run.{Turn, makes, turn_for, turn_of}
@@ -13,6 +13,7 @@ use Rattle.definitions.specs.Table.{table_of, byte_table}
 use Rattle.definitions.specs.declared.Event.{Event}
 use Rattle.definitions.specs.declared.Outcome.{Outcome}
 use Rattle.definitions.specs.declared.Outcome.TheVariants as outcome
+use Rattle.definitions.specs.declared.Refusal.{Refusal}
 use Rattle.definitions.specs.declared.Request.{Request}
 use Rattle.apply.specs.MoveMade.{TestedTable, MoveTried}
 use Rattle.moving.specs.declared.Made.{Made}
@@ -38,7 +39,11 @@ module _ (bytes : List ℕ) (r : Request) (after : List ℕ) (m : Made) (tried :
   turn_by : (o : Outcome) → m.outcome ≡ o → turn_for r (move_reply bytes r) ≡ turn_for r (outcome_reply o)
   turn_by o e = ap (turn_for r) (reply-by o e)
 
-  -- a move that is no refusal lets the run go on
+  -- a refusal stops the run
+  pub refused-stops : (x : Refusal) (history : List ℕ) → m.outcome ≡ outcome.Refused x → StoppedBy (turn_for r (move_reply bytes r)) history history (number_of x)
+  refused-stops x history e = record { stopped = turn_by (outcome.Refused x) e; kept = refl }
+
+  -- anything else lets it go on
   passed_on : (turn : Turn) (answer : MoveAnswer) {history : List ℕ} {at : ℕ} {history' : List ℕ} {n : ℕ} → turn ≡ makes r answer
       → PutAt history at (pair_bytes r.thread answer.seen) history' n
       → PassedOn turn bytes history at after history' 1 (cond answer.retry 1 0) m.forbidden n
@@ -51,11 +56,23 @@ module _ (bytes : List ℕ) (r : Request) (after : List ℕ) (m : Made) (tried :
   pub retry-passes : (history : List ℕ) (at : ℕ) → m.outcome ≡ outcome.Retry → PassedOn (turn_for r (move_reply bytes r)) bytes history at after history 1 1 m.forbidden at
   retry-passes history at e = passed_on (turn_for r (move_reply bytes r)) (moved quiet true) (turn_by outcome.Retry e) (none history at)
 
-  -- the thread of a move that shows an event is one of the table's, so it fits a byte
-  pub mover-fits : (x : Event) → m.outcome ≡ outcome.Shown x → r.thread < 256
-  mover-fits x e =
-      let a = accepts_e byte_table bytes r (subst (λ (y : Reply MoveAnswer). T (is_accepted y)) (sym (reply-by (outcome.Shown x) e)) tt) in
-      omega (arith, (accepted_e (table_of bytes) r a.1).thread-fits, (sized_e bytes a.0).most)
+  module _ (x : Event) (e : m.outcome ≡ outcome.Shown x) where
+    -- its thread is one of the table's, so it fits a byte
+    pub mover-fits : r.thread < 256
+    mover-fits =
+        let a = accepts_e byte_table bytes r (subst (λ (x : Reply MoveAnswer). T (is_accepted x)) (sym (reply-by (outcome.Shown x) e)) tt) in
+        omega (arith, (accepted_e (table_of bytes) r a.1).thread-fits, (sized_e bytes a.0).most)
+
+    module _ (code : ℕ) (coded : code ≡ code_of x) where
+      event-turn : turn_for r (move_reply bytes r) ≡ makes r (moved (shown code) false)
+      event-turn = turn_by (outcome.Shown x) e ∙ ap (λ (k : ℕ). makes r (moved (shown k) false)) (sym coded)
+
+      pub event-room : (history : List ℕ) (at : ℕ) → RoomAt history at (added (turn_for r (move_reply bytes r))) → RoomAt history at (r.thread ∷ code ∷ [])
+      event-room history at h = subst (λ (t : Turn). RoomAt history at (added t)) event-turn h
+
+      pub event-passes : (history : List ℕ) (at : ℕ) (history' : List ℕ) (n : ℕ) → PutAt history at (r.thread ∷ code ∷ []) history' n
+          → PassedOn (turn_for r (move_reply bytes r)) bytes history at after history' 1 0 m.forbidden n
+      event-passes history at history' n p = passed_on (turn_for r (move_reply bytes r)) (moved (shown code) false) event-turn p
 
 -- ---- from its form
 

@@ -121,7 +121,19 @@ module _ (xs : List ℕ) where
       record { fits = f; value_is = cc; rest = ap (λ (k : ℕ). drop k xs) size; within = omega (arith, digits_within xs) })
       (λ f. let same : Known value digits ≡ Unknown = rw f at e in let no : ◌≡◌ {A = ℕ} 0 1 = cc in absurd (omega arith))
 
+  pub missing : Unknown ≡ number_for xs → (number_read xs).fits ≡ false
+  missing e =
+      by_fits ((number_read xs).fits ≡ false)
+      (λ f.
+      let same : Unknown ≡ Known (number_read xs).value (length (digits_of xs)) = rw f at e in
+      let no : ◌≡◌ {A = ℕ} 0 1 = cc in
+      absurd (omega arith))
+      (λ f. f)
+
   -- ---- a number that a text follows, and nothing else
+
+  pub closed_missing : (closing : List ℕ) → Unknown ≡ number_for xs → Unknown ≡ closed_for xs closing
+  closed_missing closing e = rw (missing e)
 
   -- by the comparison of what follows it
   pub closed_by : (closing : List ℕ) (value digits : ℕ) → Known value digits ≡ number_for xs → (s b : Bool) → s ≡ same (take (length xs - digits) (drop digits xs)) closing → s ≡ b

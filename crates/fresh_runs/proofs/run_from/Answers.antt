@@ -1,10 +1,10 @@
 -- The fresh entry turns a bad number of threads down, else the table's bytes are a fresh table.
 use Prim.Native.Nat.{ℕ, ◌≤◌}
 use native.Mathlib.Omega.{arith}
-use mathlib.Core.Path.{sym, ap}
+use mathlib.Core.Path.{◌≡◌, sym, ap}
 use lib.ListN.{length, replicate, length-replicate}
 use lib.Seq.{length-take-le}
-use Rattle.definitions.specs.Answers.{answer_reply}
+use Rattle.definitions.specs.Answers.{accepted, answer_reply}
 use Rattle.definitions.specs.Bounds.{most_threads}
 use Rattle.definitions.specs.Table.{size}
 use Rattle.definitions.specs.declared.Refusal.TheVariants.{BadSize}

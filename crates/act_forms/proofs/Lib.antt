@@ -1,0 +1,2 @@
+-- Laws of the readers' answers.
+pub mod Closings
