@@ -82,12 +82,12 @@ def is_switch(code, at):
     if jump != "jmp" or not re.match(r"r\w+$", register):
         return False
     before = at - 1
-    while before > 0 and code[before][0] in ("mov", "movzx", "lea") and not names_register(code[before][1], register):
+    while before > 0 and code[before][0] in ("mov", "movabs", "movzx", "lea") and not names_register(code[before][1], register):
         before -= 1
     if before < 1:
         return False
     (load, from_table, _), (add, summands, _) = code[before - 1:before + 1]
-    entry = re.match(r"(r\w+),DWORD PTR \[(r\w+)\+r\w+\*4\]$", from_table)
+    entry = re.match(r"(r\w+),DWORD PTR \[(r\w+)\+r\w+\*4(?:\+0x0)?\]$", from_table)
     return bool((load, add) == ("movsxd", "add") and entry and entry[1] == register and summands == f"{register},{entry[2]}")
 
 

@@ -72,22 +72,65 @@ def crates_held(root, names):
     return held
 
 
+def spelled(name):
+    """A type or a trait as the kit spells it in the name of an impl: without its lifetimes, each word with a capital."""
+    words = re.findall(r"\w+", re.sub(r"'\w+", "", name))
+    return "".join(word[0].upper() + word[1:] for word in words) or "Unit"
+
+
+def owner_of(line):
+    """The type whose functions a block holds that begins with this line, or the impl as the kit names it: the type and then the
+    trait; None for another line."""
+    block = re.match(r"impl(?:<[^>]*>)? (.+?)(?: for (.+?))?(?: where .*)? \{", line)
+    if not block:
+        return None
+    return spelled(block[1].partition("<")[0]) if block[2] is None else spelled(block[2]) + spelled(block[1])
+
+
 def functions_written(root, crate):
-    """The functions of a crate by the text of its sources."""
+    """The functions of a crate by the text of its sources. Those that a trait only declares are left out."""
     found = set()
     for file in sorted((root / "crates" / crate / "src").glob("**/*.rt")):
         inside = [crate] + [part for part in file.relative_to(root / "crates" / crate / "src").with_suffix("").parts if part not in ("lib", "main")]
         owner = []
         for line in file.read_text().splitlines():
-            block = re.match(r"impl (\w+)", line)
+            block = owner_of(line)
             function = re.match(r"\s*(?:pub )?(?:extern \"C\" )?fn (\w+)", line)
             if block:
-                owner = [block[1]]
+                owner = [block]
+            elif re.match(r"(pub )?trait ", line):
+                owner = None
             elif line.startswith("}"):
                 owner = []
-            elif function:
+            elif function and owner is not None:
                 found.add("::".join(inside + owner + [function[1]]))
     return found
+
+
+def impls_derived(root, crate):
+    """The impls that derives write, as the kit names them."""
+    found, ahead = set(), []
+    for file in sorted((root / "crates" / crate / "src").glob("**/*.rt")):
+        for line in file.read_text().splitlines():
+            derive, of = re.match(r"\s*#\[derive\((.*)\)\]", line), re.match(r"\s*(?:pub )?(?:struct|enum) (\w+)", line)
+            if derive:
+                ahead = [word.strip() for word in derive[1].split(",")]
+            elif of:
+                found |= {of[1] + word for word in ahead}
+                ahead = []
+    return found
+
+
+def is_part(name, derived):
+    """Whether a function is one that nobody wrote by itself: a closure, which is a part of the function in which it stands, what
+    hands a function on by its name, or a function of a derive."""
+    return "+" in name or "::fn::" in name or bool(derived & set(name.split("::")))
+
+
+def impls_written(root, crate):
+    """The impls of traits by the text of a crate's sources. What one does not write it takes over from its trait."""
+    return {owner_of(line) for file in sorted((root / "crates" / crate / "src").glob("**/*.rt"))
+            for line in file.read_text().splitlines() if " for " in line and owner_of(line)}
 
 
 @functools.cache
@@ -104,14 +147,16 @@ def is_of_kit(name):
 @functools.cache
 def lowered(file):
     """The functions of a library as it was built, by the file of those that are linked: ({function: its body}, {(impl, number of a
-    method): the function that it is})."""
-    bodies, methods = {}, {}
+    method): the function that it is}, the functions that need no impl to be known)."""
+    bodies, methods, whole = {}, {}, set()
     for name, function in json.loads(file.read_text()):
         bodies[name] = function["body"]
+        if not function["generics"]["bounds"] and not name.endswith("+decl"):
+            whole.add(name)
         of = (function["generics"]["method_of"] or {}).get("Impl")
         if of:
             methods[tuple(of)] = name
-    return bodies, methods
+    return bodies, methods, whole
 
 
 def callees(body):
@@ -141,24 +186,49 @@ def callees(body):
 
 
 def given(impl, impls):
-    """An impl as a function names it, where it has been given these."""
+    """An impl as a function names it, where it has been given these; None for one that is not known."""
     if "Given" in impl:
-        return impls[impl["Given"]]
+        return impls[impl["Given"]] if impl["Given"] < len(impls) else None
     name, types, below = impl["Impl"]
     return {"Impl": [name, [], [given(it, impls) for it in below]]}
+
+
+def instance(name, impls):
+    """The name of a function where it has been given these impls."""
+    shown = ", ".join(instance(it["Impl"][0], it["Impl"][2]) if it else "_" for it in impls)
+    return f"{name}<{shown}>" if shown else name
+
+
+def base(name):
+    """The name of a function without the impls that it has been given."""
+    return name.partition("<")[0]
+
+
+def compiled(name):
+    """The name of a function by its name in a compiled file, where the types and impls that it was made for stand behind it."""
+    return name.partition("::<")[0]
+
+
+def based(graph):
+    """The same graph with the functions' own names."""
+    merged = {}
+    for name, found in graph.items():
+        merged.setdefault(base(name), set()).update(map(base, found))
+    return merged
 
 
 def instances(starts, file_of):
     """The calls of functions of libraries and of all that they reach, each with the impls that it is given, so that a call of a
     method through a bound has the name of that method: (graph, how many calls name no function and how many functions are used
-    as values)."""
+    as values). A method of an impl that is not known is left to whoever knows it."""
     graph, others, seen, ahead = {}, 0, set(), [(name, []) for name in starts]
     while ahead:
         name, impls = ahead.pop()
-        if (name, str(impls)) in seen:
+        here = instance(name, impls)
+        if here in seen:
             continue
-        seen.add((name, str(impls)))
-        reached = graph.setdefault(name, set())
+        seen.add(here)
+        reached = graph.setdefault(here, set())
         for callee in callees(lowered(file_of(name))[0][name]):
             if callee is None:
                 others += 1
@@ -166,9 +236,12 @@ def instances(starts, file_of):
             passed = [given(it, impls) for it in callee[-1]["dicts"]]
             target = callee[0]
             if len(callee) == 3:
-                impl, types, below = given(callee[0], impls)["Impl"]
+                known = given(callee[0], impls)
+                if known is None:
+                    continue
+                impl, types, below = known["Impl"]
                 target, passed = lowered(file_of(impl))[1][impl, callee[1]], below + passed
-            reached.add(target)
+            reached.add(instance(target, passed))
             ahead.append((target, passed))
     return graph, others
 
@@ -192,8 +265,12 @@ def read_text(root, crate):
             graph[name] = set(re.findall(r'Syntax\.fn₀?\s+"([^"]+)"', (proofs / above / ("Lts.antt" if below == "Mir" else f"Lts-{function}.antt")).read_text()))
             named = re.findall(r"Syntax\.call\s+\(?([^\s()]+)\.name(?![\w-])", text)
             mentions = re.findall(r"(?:Symbol|Key)'*\d*\.(?:name|symbol)(?![\w-])", text)
-            words = re.findall(r"Syntax\.(?:call|call_v|fn|fn₀|fn_addr|vtable|method|impl|forked|awaited)(?![\w-])", text)
+            words = re.findall(r"Syntax\.(?:call|call_v|fn|fn₀|fn_addr|vtable|method|forked|awaited)(?![\w-])", text)
             others[name] = len(words) - len(named) + len(mentions) - len(named) + abs(len(set(named)) - len(graph[name]))
+            # The methods of an impl that a call is given are its own to call.
+            impls = re.findall(r'Syntax\.impl\s+((?:\(List\.◌∷◌\s+"[^"]+"\s+)+)List\.\[\]', text)
+            others[name] += len(re.findall(r"Syntax\.impl(?![\w-])", text)) - len(impls)
+            graph[name] |= {method for methods in impls for method in re.findall(r'"([^"]+)"', methods)}
     return graph, sum(others.values())
 
 
@@ -209,6 +286,6 @@ def sources(root, crate):
         folder = root / "crates" / library / "out" / "rlib" if library in below else kit() / "rlibs"
         return folder / f"{library}.rlib" / "toolchain" / "mir.json"
 
-    starts = {name for library in below for name in lowered(file_of(library))[0]} | {name for found in graph.values() for name in found}
+    starts = {name for library in below for name in lowered(file_of(library))[2]} | {name for found in graph.values() for name in found}
     found = instances(sorted(starts - set(graph)), file_of)
     return {**found[0], **graph}, found[1] + others

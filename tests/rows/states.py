@@ -35,8 +35,9 @@ ghost use Rattle.rows.specs.Rows.{{row_at}};
 
 // The row of a state, which is forbidden + 2 busy + 4 phase: four a phase, with busy 0 and forbidden 0 and 1, then with busy 1.
 // A row's fields are in hexadecimal digits, as the crate rows has them. All 128 stand here, so that the compiler makes one
-// table of them.
+// table of them: a constant array would be stored to the stack at each look-up.
 #[tactic(auto, unfolding(rows::specs::Rows::row_at, rows::specs::Rows::row_for, definitions::specs::Phases::rows))]
+#[inline(always)]
 pub fn row_of(state: u64) -> u64
     ensures {{ result ≡ row_at state }}
 {{

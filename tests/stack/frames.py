@@ -15,4 +15,5 @@ RED_ZONE, RETURN = 128, 8
 functions = archive.functions()
 for name in sorted(n for n in functions if n.startswith("wospinzo_")):
     size, chain = archive.stack(functions, name)
-    print(f"{name} {size + RETURN + RED_ZONE} {' '.join(chain)}")
+    # A function that was made for a type stands by its own name.
+    print(f"{name} {size + RETURN + RED_ZONE} {' '.join(function.partition('::<')[0] for function in chain)}")

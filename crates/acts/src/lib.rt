@@ -1,61 +1,81 @@
 // What stands behind T in the line of a move: how long it is, and the same put into an output.
 #![tactic(auto)]
 
-ghost use Rattle.std.specs.Prelude.{◌++◌, ◌≡◌, length};
+ghost use Rattle.std.specs.Prelude.{◌++◌, ◌≤◌, ◌≡◌, ℕ, length};
 ghost use Rattle.definitions.specs.Forms.{act_text};
-ghost use Rattle.definitions.specs.Texts.{decimal};
-ghost use Rattle.basics.specs.Outputs.{RoomAt, PutAt};
+ghost use Rattle.definitions.specs.Texts.{bytes, decimal};
+ghost use Rattle.text.specs.Cursors.{HasRoom, Puts};
 
-use decimals::{decimal_length, put_decimal};
-use definitions::{CALL_EXCLUSIVE, CALL_SHARED, CLEAR, GO, HOLD, RELENT, SET};
-use text::put_text;
+use decimals::decimal_length;
+use definitions::Move;
+use text::Output;
 
-// The bytes of ` (set ` and ` (clear `, each with `))`.
-const AROUND_SET: u8 = 8;
+// The moves' texts, of a set and a clear as far as the target.
+const GO: &[u8] = b" (go))";
 
-const AROUND_CLEAR: u8 = 10;
+const CALL_SHARED: &[u8] = b" (call shared))";
 
-// A word, a number and what closes it.
-pub fn put_around(out: &mut [u8], at: usize, word: &[u8], number: u16, close: &[u8]) -> usize
-    requires { RoomAt out.old at (word.now ++ (decimal number ++ close.now)) }
-    ensures { PutAt out.old at (word.now ++ (decimal number ++ close.now)) out.new result }
-{
-    let a = put_text(out, at, word);
-    let b = put_decimal(out, a, number as usize);
-    put_text(out, b, close)
-}
+const CALL_EXCLUSIVE: &[u8] = b" (call exclusive))";
 
-// What stands behind T, by the move's number; a number that is no move's has nothing.
+const SET: &[u8] = b" (set ";
+
+const CLEAR: &[u8] = b" (clear ";
+
+const RELENT: &[u8] = b" (relent))";
+
+const HOLD: &[u8] = b" (hold))";
+
+// What stands behind a target.
+const CLOSING: &[u8] = b"))";
+
+// How long what stands behind T is, by the move's number, which may be any byte; a number that is no move's has nothing there.
 #[tactic(auto, unfolding(definitions::specs::Texts::bytes, definitions::specs::Forms::act_text))]
-pub fn act_length(mv: u8, target: u8) -> u8
-    ensures { result ≡ length (act_text mv target) }
+pub fn act_length(mv: u8, target: u8) -> usize
+    ensures size { result ≡ length (act_text mv target) }
+    ensures short { result ≤ 38 }
 {
-    let digits = decimal_length(target as usize);
+    let Ok(mv) = Move::try_from(mv as u16) else {
+        return 0;
+    };
+    let aimed = decimal_length(target as usize) + CLOSING.len();
     match mv {
-        GO => 6,
-        CALL_SHARED => 15,
-        CALL_EXCLUSIVE => 18,
-        SET => AROUND_SET + digits,
-        CLEAR => AROUND_CLEAR + digits,
-        RELENT => 10,
-        HOLD => 8,
-        _ => 0,
+        Move::Go => GO.len(),
+        Move::CallShared => CALL_SHARED.len(),
+        Move::CallExclusive => CALL_EXCLUSIVE.len(),
+        Move::Set => SET.len() + aimed,
+        Move::Clear => CLEAR.len() + aimed,
+        Move::Relent => RELENT.len(),
+        Move::Hold => HOLD.len(),
     }
 }
 
-#[tactic(auto, unfolding(definitions::specs::Texts::bytes, definitions::specs::Forms::act_text))]
-pub fn put_act(out: &mut [u8], at: usize, mv: u8, target: u8) -> usize
-    requires { RoomAt out.old at (act_text mv target) }
-    ensures { PutAt out.old at (act_text mv target) out.new result }
+// A word and its target.
+fn put_aimed(out: &mut Output, word: &[u8], target: u8)
+    requires { HasRoom out.old (word.now ++ (decimal target ++ bytes "))")) }
+    ensures { Puts out.old (word.now ++ (decimal target ++ bytes "))")) out.new }
 {
+    out.put(word);
+    out.put_decimal(target as usize);
+    out.put(CLOSING);
+}
+
+// What stands behind T, put. Each text has a call of its own, so that a constant text is compiled to stores: with one call for
+// all texts a script took a quarter longer to write.
+#[tactic(auto, unfolding(definitions::specs::Texts::bytes, definitions::specs::Forms::act_text))]
+pub fn put_act(out: &mut Output, mv: u8, target: u8)
+    requires { HasRoom out.old (act_text mv target) }
+    ensures { Puts out.old (act_text mv target) out.new }
+{
+    let Ok(mv) = Move::try_from(mv as u16) else {
+        return;
+    };
     match mv {
-        GO => put_text(out, at, b" (go))"),
-        CALL_SHARED => put_text(out, at, b" (call shared))"),
-        CALL_EXCLUSIVE => put_text(out, at, b" (call exclusive))"),
-        SET => put_around(out, at, b" (set ", target as u16, b"))"),
-        CLEAR => put_around(out, at, b" (clear ", target as u16, b"))"),
-        RELENT => put_text(out, at, b" (relent))"),
-        HOLD => put_text(out, at, b" (hold))"),
-        _ => at,
+        Move::Go => out.put(GO),
+        Move::CallShared => out.put(CALL_SHARED),
+        Move::CallExclusive => out.put(CALL_EXCLUSIVE),
+        Move::Set => put_aimed(out, SET, target),
+        Move::Clear => put_aimed(out, CLEAR, target),
+        Move::Relent => out.put(RELENT),
+        Move::Hold => out.put(HOLD),
     }
 }

@@ -1,15 +1,27 @@
 -- An answer as one number, for C: the low byte is the refusal's number, 0 where the request is accepted; the rest is the value of what is answered, or the refusal's place.
 -- The number tells the entry's reply (proofs/Told), but that writing's places above the largest that is held are answered as that one.
-use Rattle.std.specs.Prelude.{ℕ, ◌+◌, ◌-◌, ◌*◌, ◌<◌, Bool, cond, leb}
-use Rattle.definitions.specs.Answers.{Reply, accepted, refused, Seen, shown, quiet, MoveAnswer}
+use Rattle.std.specs.Prelude.{ℕ, ◌+◌, ◌-◌, ◌*◌, ◌<◌, Bool, Result, cond, leb}
+use Rattle.definitions.specs.Answers.{Reply, accepted, refused, Seen, shown, quiet, MoveAnswer, reply_by, reply_by_0, outcome_answer}
 use Rattle.definitions.specs.Dispatch.{DispatchAnswer, made, waiting}
-use Rattle.definitions.specs.Run.{RunCounts}
-use Rattle.definitions.specs.Scripts.{Listed}
+use Rattle.definitions.specs.Run.{RunCounts, counts_of}
+use Rattle.definitions.specs.Scripts.{Listed, listed_of}
+use Rattle.definitions.specs.declared.Outcome.{Outcome}
+use Rattle.definitions.specs.declared.Reading.{Reading}
+use Rattle.definitions.specs.declared.Refusal.{Refusal}
+use Rattle.definitions.specs.declared.Refused.{Refused}
+use Rattle.definitions.specs.declared.Running.{Running}
 
 -- one rule for every entry, given the value of what it answers
 unfoldable pub encoded : {A : Type 0} → (A → ℕ) → Reply A → ℕ
 encoded value (accepted a) = 256 * value a
 encoded value (refused number place) = 256 * place + number
+
+-- the replies of a result whose value is answered as it is, and of one whose refusals have no place
+abbrev pub reply_of : {A : Type 0} → Result A Refused → Reply A
+reply_of = reply_by (λ a. a)
+
+abbrev pub reply_of_0 : {A : Type 0} → Result A Refusal → Reply A
+reply_of_0 = reply_by_0 (λ a. a)
 
 -- the value of what is seen of a move: the event's code, 0 for quiet
 abbrev pub seen_value : Seen → ℕ
@@ -50,6 +62,16 @@ inside_value inside = cond inside 1 0
 -- of reading, N in the lowest byte, and the number of bytes above it
 abbrev pub listed_value : Listed → ℕ
 listed_value l = l.threads + 256 * l.bytes
+
+-- the values of what the code has of a move, of a run and of reading
+abbrev pub outcome_value : Outcome → ℕ
+outcome_value o = move_value (outcome_answer o)
+
+abbrev pub running_value : Running → ℕ
+running_value r = run_value (counts_of r)
+
+abbrev pub reading_value : Reading → ℕ
+reading_value r = listed_value (listed_of r)
 
 -- what the move entry answers for its reply, the dispatcher and the run for theirs, the watcher's for theirs, and every other entry for its own
 abbrev pub move_number : Reply MoveAnswer → ℕ
@@ -95,6 +117,10 @@ run_in = value_of run_value
 -- values stay below this, so that an answer fits 64 bits
 abbrev pub value_bound : ℕ
 value_bound = 36_028_797_018_963_968
+
+-- every value stays below it
+abbrev pub AllSmall : {A : Type 0} → (A → ℕ) → Type 0
+AllSmall {A} value = (a : A) → value a < value_bound
 
 -- a place that stands beside the refusal's number: writing's is the index of a triple in a list of any length, and a larger one than this is answered as this
 abbrev pub held_place : ℕ → ℕ

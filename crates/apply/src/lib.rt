@@ -2,49 +2,45 @@
 // decided is written.
 #![tactic(auto)]
 
-ghost use Rattle.std.specs.Prelude.{◌≡◌};
+ghost use Rattle.std.specs.Prelude.{◌≡◌, Ok};
 ghost use Rattle.definitions.specs.Table.{byte_table};
 ghost use Rattle.theory.specs.Tables.{put_back};
 ghost use Rattle.apply.specs.MoveMade.{MoveTried, Accepting, TwoThreads};
 
-use definitions::{Head, Request, Task};
+use definitions::{Move, Request, Task};
 use layout::{read_head, read_task, write_head, write_task};
-use moving::Made;
+use moving::{Made, recount, view_of};
+use rules::decide;
+use views::{Decided, subject_of};
 
 // The mover is written first, and the subject is read again: they may be one thread.
-fn store(table: &mut [u8], thread: usize, number: usize, head: Head, mover: Task, forbidden: u8)
+#[tactic(auto, using(crate::proofs::Written::put_sized, crate::proofs::Written::put_below))]
+fn store(table: &mut [u8], thread: usize, number: usize, decided: Decided)
     requires { TwoThreads table.old thread number }
-    ensures { table.new ≡ put_back byte_table table.old thread number head mover forbidden }
+    ensures { table.new ≡ put_back byte_table table.old thread number decided.head decided.mover decided.forbidden }
 {
-    write_task(table, thread, mover);
-    let was = read_task(table, number);
+    write_task(table, thread, decided.mover);
     let subject = Task {
-        phase: was.phase,
-        busy: was.busy,
-        forbidden,
+        forbidden: decided.forbidden,
+        ..read_task(table, number)
     };
     write_task(table, number, subject);
-    write_head(table, head);
+    write_head(table, decided.head);
 }
 
-pub fn apply_request(table: &mut [u8], forbidden: usize, request: Request) -> Made
-    requires { Accepting table.old forbidden request }
-    ensures { MoveTried table.old request table.new result }
+pub fn apply_request(table: &mut [u8], forbidden: usize, request: Request, mv: Move) -> Made
+    requires { Accepting table.old forbidden request mv }
+    ensures { MoveTried table.old request table.new (Ok result) }
 {
     let thread = request.thread as usize;
     let head = read_head(table);
     let mover = read_task(table, thread);
-    let number = views::subject_of(head, mover, request);
+    let number = subject_of(head, mover, request, mv);
     let subject = read_task(table, number);
-    let v = moving::view_of(head, mover, number, subject, forbidden);
-    let d = rules::decide(v, request.mv as u8);
-    let after = d.head;
-    let left = d.mover;
-    store(table, thread, number, after, left, d.forbidden);
-    let count = moving::recount(forbidden, subject.forbidden, d.forbidden);
-    let outcome = d.outcome;
+    let decided = decide(view_of(head, mover, number, subject, forbidden), mv);
+    store(table, thread, number, decided);
     Made {
-        outcome,
-        forbidden: count,
+        outcome: decided.outcome,
+        forbidden: recount(forbidden, subject.forbidden, decided.forbidden),
     }
 }

@@ -4,7 +4,7 @@ use mathlib.Core.Bool.{Bool, true, false, cond, ◌||◌, or-false}
 use mathlib.Core.List.{[], ◌∷◌}
 use mathlib.Core.Path.{◌≡◌, refl, sym, subst, subst⁻¹, ap, ◌∙◌}
 use lib.Dec.{T, eqb}
-use Rattle.definitions.specs.Answers.{accepted, quiet, moved, outcome_reply}
+use Rattle.definitions.specs.Answers.{quiet, moved, outcome_answer}
 use Rattle.definitions.specs.Codes.{set_move, clear_move}
 use Rattle.definitions.specs.Moves.{ask, Effect, none_forbidden_but, set_effect, clear_effect, effect, is_retry, accepts}
 use Rattle.definitions.specs.Table.{Table, phase≔, target≔, forbidden≔}
@@ -26,15 +26,12 @@ asking r mv = ask r.thread mv r.target
 -- a decision follows an effect that equals the one it was made by
 pub follows : (e e' : Effect) (b b' : Bool) (v : View) (d d' : Decided) → e ≡ e' → b ≡ b' → d ≡ d' → Follows e' b' v d' → Follows e b v d
 follows e e' b b' v d d' p o q f =
-    subst⁻¹ (λ (x : Effect). Follows x b v d) p (subst⁻¹ (λ (x : Bool). Follows e' x v d) o (subst⁻¹ (λ (x : Decided). Follows e' b' v x) q f))
+    rw (p, o, q) f
 
 -- what a decision without an event says
-pub unseen-says : (b retry : Bool) → b ≡ retry → outcome_reply (unseen_by b) ≡ accepted (moved quiet retry)
-unseen-says b retry e = by b ∙ ap (λ (x : Bool). accepted (moved quiet x)) e
-  where
-    by : (x : Bool) → outcome_reply (unseen_by x) ≡ accepted (moved quiet x)
-    by true = refl
-    by false = refl
+pub unseen_says : (b retry : Bool) → b ≡ retry → outcome_answer (unseen_by b) ≡ moved quiet retry
+unseen_says true retry e = rw e
+unseen_says false retry e = rw e
 
 -- an arm of the moves
 pub move_arm : (v : View) (mv m : ℕ) (d d' : Decided) → mv ≡ m → d ≡ d'
@@ -52,17 +49,21 @@ move_arm v mv m d d' k q f s r a e seen =
 abbrev set_by : View → Bool → Bool → Decided
 set_by v ten again = cond ten (aimed_by v 11 v.number 1 (unseen_by again)) (aimed_by v v.mover.phase v.head.target 1 (unseen_by again))
 
+-- what clear leaves, by whether every other forbidden is 0
+abbrev pub clear_by : View → Bool → Bool → Decided
+clear_by v last again = aimed_by v (cond last 16 v.mover.phase) v.head.target 0 (unseen_by again)
+
 module _ (v : View) (i t : ℕ) (again retry : Bool) (says : again ≡ retry) where
   setting : (ten : Bool) → v.number ≡ t
       → Follows (record { writes = cond ten (phase≔ i 11 ∷ forbidden≔ t 1 ∷ target≔ t ∷ []) (forbidden≔ t 1 ∷ []); shows = quiet }) retry v (set_by v ten again)
-  setting true e = record { head = ap (λ (x : ℕ). head_with v.head (target≔ x)) e; mover = refl; flag = refl; says = unseen-says again retry says }
-  setting false e = record { head = refl; mover = refl; flag = refl; says = unseen-says again retry says }
+  setting true e = record { head = ap (λ (x : ℕ). head_with v.head (target≔ x)) e; mover = refl; flag = refl; says = unseen_says again retry says }
+  setting false e = record { head = refl; mover = refl; flag = refl; says = unseen_says again retry says }
 
   clearing : (last : Bool)
       → Follows (record { writes = forbidden≔ t 0 ∷ cond last (phase≔ i 16 ∷ []) []; shows = quiet }) retry v
-      (cond last (aimed_by v 16 v.head.target 0 (unseen_by again)) (aimed_by v v.mover.phase v.head.target 0 (unseen_by again)))
-  clearing true = record { head = refl; mover = refl; flag = refl; says = unseen-says again retry says }
-  clearing false = record { head = refl; mover = refl; flag = refl; says = unseen-says again retry says }
+      (clear_by v last again)
+  clearing true = record { head = refl; mover = refl; flag = refl; says = unseen_says again retry says }
+  clearing false = record { head = refl; mover = refl; flag = refl; says = unseen_says again retry says }
 
 -- set exists in 10 and 15: in 15 it is a retry, in 10 where the flag is 1 before it
 set-retry : (s : Table) (r : Request) → T (accepts s (asking r set_move)) → (eqb (s.phase r.thread) 15 || eqb (s.forbidden r.target) 1) ≡ is_retry s (asking r set_move)
@@ -76,8 +77,8 @@ pub set_arm : (v : View) (d : Decided) → d ≡ set_by v (eqb v.mover.phase 10)
 unfolding subject_by effect set_effect
 set_arm v d q =
     move_arm v set_move set_move d _ refl q (λ s r a seen.
-    subst⁻¹ (λ (ten : Bool). Follows (effect s (asking r set_move)) (is_retry s (asking r set_move)) v (set_by v ten (eqb v.mover.phase 15 || eqb v.subject.forbidden 1)))
-    (ap (λ (x : View). eqb x.mover.phase 10) seen)
+    let ten : eqb v.mover.phase 10 ≡ eqb (s.phase r.thread) 10 = ap (λ (x : View). eqb x.mover.phase 10) seen in
+    rw ten
     (setting v r.thread r.target _ _ (ap (λ (x : View). eqb x.mover.phase 15 || eqb x.subject.forbidden 1) seen ∙ set-retry s r a) (eqb (s.phase r.thread) 10)
     (ap (λ (x : View). x.number) seen)))
 
@@ -85,9 +86,6 @@ set_arm v d q =
 clear_retry : (s : Table) (r : Request) → T (accepts s (asking r clear_move)) → eqb (s.forbidden r.target) 0 ≡ is_retry s (asking r clear_move)
 unfolding is_retry
 clear_retry s r a = rw (only 4 (s.phase r.thread) 15 phases_4 (accepted_e s (asking r clear_move) a).has_move_lem)
-
-abbrev clear_by : View → Bool → Bool → Decided
-clear_by v last again = cond last (aimed_by v 16 v.head.target 0 (unseen_by again)) (aimed_by v v.mover.phase v.head.target 0 (unseen_by again))
 
 pub clear_arm : (v : View) (d : Decided) → d ≡ clear_by v v.others.clear (eqb v.subject.forbidden 0) → Decides v clear_move d
 unfolding subject_by effect clear_effect

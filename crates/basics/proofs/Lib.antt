@@ -1,4 +1,4 @@
--- Facts on tests, on all, some and many threads, on lists, columns and sums, on texts and numbers, on replies, and on outputs; each file says what it shows.
+-- Facts on tests, on all, some and many threads, on lists, columns and sums, on texts and numbers, on replies, on outputs, and on loops over chunks; each file says what it shows.
 pub mod Tests
 pub mod Quantifiers
 pub mod Lowest
@@ -19,3 +19,4 @@ pub mod Columns
 pub mod Sums
 pub mod EachOnce
 pub mod FlagCounts
+pub mod Chunks

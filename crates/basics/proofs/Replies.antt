@@ -1,11 +1,14 @@
--- Laws of replies: a request that passes its tests one by one, a list of tests behind another, and what is left; then those of an entry that writes.
+-- Laws of replies: a request that passes its tests one by one, a list of tests behind another, what is left, and the reply of a refusal that `?` hands on.
 use Prim.Native.Nat.{ℕ}
 use mathlib.Core.Bool.{Bool, true, false, cond, not, ◌&&◌}
 use mathlib.Core.List.{List, [], ◌∷◌, ◌++◌}
 use mathlib.Core.Logic.{◌⊎◌, inl, inr}
 use mathlib.Core.Path.{◌≡◌, refl, sym, subst, ap, ◌∙◌}
 use lib.Dec.{T}
-use Rattle.definitions.specs.Answers.{Reply, accepted, refused, is_accepted, leaves, Test, answered, passes_all}
+use Rattle.std.specs.Prelude.{Result, Ok, Err, IsErrAnd}
+use Rattle.definitions.specs.Answers.{Reply, accepted, refused, number_of, reply_by, is_accepted, leaves, Test, answered, passes_all}
+use Rattle.definitions.specs.declared.Refusal.{Refusal}
+use Rattle.definitions.specs.declared.Refused.{Refused}
 use Rattle.basics.proofs.Tests.{and_l, and_r, and_i, cond_yes, cond_no}
 
 -- ---- one test
@@ -85,3 +88,10 @@ module _ {ℓ} {A : Type 0} {B : Type ℓ} (x y : B) where
   pub leaves_no : (r : Reply A) → T (not (is_accepted r)) → leaves r x y ≡ y
   leaves_no (accepted a) t = absurd t
   leaves_no (refused number place) t = refl
+
+-- ---- a refusal handed on
+
+-- what `?` hands on of a refusal that has no place of its own
+pub handed_on : {A B : Type 0} (f : A → B) (r : Result A Refused) (x : Refusal) → IsErrAnd r (λ (e : Refused). e ≡ record { refusal = x; place = 0 }) → reply_by f r ≡ refused (number_of x) 0
+handed_on f (Ok a) x h = absurd h
+handed_on f (Err e) x h = ap (λ (r : Refused). refused (number_of r.refusal) r.place) h

@@ -2,7 +2,7 @@
 // and the target of its move, the lowest with a forbidden.
 #![tactic(auto)]
 
+mod counted;
 mod request;
-mod searches;
 
-pub use request::{Choice, choose};
+pub use request::{Chosen, choose};

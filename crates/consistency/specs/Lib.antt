@@ -1,3 +1,2 @@
--- A record as its totals and its places, and what one pass over the places finds.
-pub mod Records
+-- What one pass over the places of a record finds.
 pub mod Pass

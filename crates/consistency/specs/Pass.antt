@@ -2,9 +2,9 @@
 use Rattle.std.specs.Prelude.{ℕ, ◌+◌, ◌<◌, Bool, cond, not, ◌&&◌, ◌||◌, List, leb, eqb}
 use Rattle.definitions.specs.Bounds.{most_threads}
 use Rattle.definitions.specs.PlainLock.{places_in, how_many_at}
-use Rattle.definitions.specs.Threads.{every, implies}
+use Rattle.definitions.specs.Threads.{every}
+use Rattle.definitions.specs.declared.Watcher.{Watcher}
 use Rattle.consistency.specs.declared.Found.{Found}
-use Rattle.consistency.specs.declared.Totals.{Totals}
 
 -- a place of a round: 0, 1, 2, 3, 5, 6 or 7
 abbrev pub in_round : ℕ → Bool
@@ -33,12 +33,12 @@ found_in places k =
       rounds = every k (λ t. in_round (places_in places t));
     }
 
--- whether those of the first k entries that stand from n upward are 0
-abbrev pub empty_up_to : ℕ → List ℕ → ℕ → Bool
-empty_up_to n places k = every k (λ t. implies (leb n t) (eqb (places_in places t) 0))
+-- whether the first k entries are 0
+abbrev pub all_zero : List ℕ → ℕ → Bool
+all_zero places k = every k (λ t. eqb (places_in places t) 0)
 
 -- the record's totals are those found, and nobody is inside beside a thread in exclusive
-abbrev pub found_fits : Totals → Found → Bool → Bool
-found_fits totals found empty =
-    (eqb totals.shared found.shared && eqb totals.exclusive found.exclusive)
+abbrev pub found_fits : Watcher → Found → Bool → Bool
+found_fits w found empty =
+    (eqb w.shared found.shared && eqb w.exclusive found.exclusive)
     && (empty && (found.rounds && (leb found.exclusive 1 && (eqb found.exclusive 0 || eqb found.shared 0))))

@@ -1,18 +1,19 @@
 -- Answers in the scope paper's numbers, refusals in their order, and entries that write an output.
--- First the events' codes and the refusals' numbers, as the code's enums have them.
+-- First the events' codes, the refusals' numbers and the moves' numbers, as the code's enums have them.
 -- Then `Reply`, what an entry answers, and the reply that each case of an answer enum stands for. Then `answered`: a request is tried for its refusals in their order.
 -- Last `Delivery`: an entry that writes is tested, and its output then delivered whole or not at all.
-use Rattle.std.specs.Prelude.{ℕ, Bool, true, false, cond, ◌&&◌, List, [], ◌∷◌, ◌++◌, leb, length, get_or, drop}
-use Rattle.definitions.specs.declared.Answer.{Answer}
-use Rattle.definitions.specs.declared.Answer.TheVariants as answer
+use Rattle.std.specs.Prelude.{◌≡◌, ℕ, ◌<◌, Option, Some, None, Result, Ok, Err, MatchResult, Bool, true, false, cond, ◌&&◌, List, [], ◌∷◌, ◌++◌, leb, length, get_or, drop}
+use Rattle.definitions.specs.Bounds.{last_move}
+use Rattle.definitions.specs.Codes.{go, call_shared, call_exclusive, set_move, clear_move, relent, hold}
 use Rattle.definitions.specs.declared.Event.{Event}
 use Rattle.definitions.specs.declared.Event.TheVariants.{EnterSharedCall, EnterSharedReturn, LeaveSharedCall, LeaveSharedReturn}
 use Rattle.definitions.specs.declared.Event.TheVariants.{EnterExclusiveCall, EnterExclusiveReturn, LeaveExclusiveCall, LeaveExclusiveReturn}
-use Rattle.definitions.specs.declared.MaybeEvent.{MaybeEvent}
-use Rattle.definitions.specs.declared.MaybeEvent.TheVariants.{Known, Unknown}
+use Rattle.definitions.specs.declared.Move.{Move}
+use Rattle.definitions.specs.declared.Move.TheVariants.{Go, CallShared, CallExclusive, Set, Clear, Relent, Hold}
 use Rattle.definitions.specs.declared.Outcome.{Outcome}
 use Rattle.definitions.specs.declared.Outcome.TheVariants as outcome
 use Rattle.definitions.specs.declared.Refusal.{Refusal}
+use Rattle.definitions.specs.declared.Refused.{Refused}
 use Rattle.definitions.specs.declared.Refusal.TheVariants.{BadSize, Unsound, NoThread, NoMove, BadTarget, NotInPhase, MutexHeld, BadForm, UnknownPair, NotNext, Occupied, NoRoom, Inconsistent}
 
 -- ---- events and refusals by number
@@ -29,22 +30,22 @@ code_of LeaveExclusiveCall = 7
 code_of LeaveExclusiveReturn = 8
 
 -- the events by their codes; no event has code 0
-unfoldable pub events : List MaybeEvent
+unfoldable pub events : List (Option Event)
 events =
-    Unknown
-    ∷ Known EnterSharedCall
-    ∷ Known EnterSharedReturn
-    ∷ Known LeaveSharedCall
-    ∷ Known LeaveSharedReturn
-    ∷ Known EnterExclusiveCall
-    ∷ Known EnterExclusiveReturn
-    ∷ Known LeaveExclusiveCall
-    ∷ Known LeaveExclusiveReturn
+    None
+    ∷ Some EnterSharedCall
+    ∷ Some EnterSharedReturn
+    ∷ Some LeaveSharedCall
+    ∷ Some LeaveSharedReturn
+    ∷ Some EnterExclusiveCall
+    ∷ Some EnterExclusiveReturn
+    ∷ Some LeaveExclusiveCall
+    ∷ Some LeaveExclusiveReturn
     ∷ []
 
 -- the event of a code, if there is one
-unfoldable pub event_of : ℕ → MaybeEvent
-event_of code = get_or events code Unknown
+unfoldable pub event_of : ℕ → Option Event
+event_of code = get_or events code None
 
 -- "Turned down, in checking order": the numbers 1 to 12; "New: 13, the watcher record is inconsistent" (02 §2)
 abbrev pub number_of : Refusal → ℕ
@@ -61,6 +62,22 @@ number_of NotNext = 10
 number_of Occupied = 11
 number_of NoRoom = 12
 number_of Inconsistent = 13
+
+-- ---- moves by number
+
+-- "Moves: 0 go, 1 call shared, 2 call exclusive, 3 set, 4 clear, 5 relent."; "New move 6, hold" (02 §1)
+abbrev pub number_of_move : Move → ℕ
+number_of_move Go = go
+number_of_move CallShared = call_shared
+number_of_move CallExclusive = call_exclusive
+number_of_move Set = set_move
+number_of_move Clear = clear_move
+number_of_move Relent = relent
+number_of_move Hold = hold
+
+-- the move of a number, or refusal 4 of one above the last
+abbrev pub MoveRead : ℕ → Result Move Refusal → Type 0
+MoveRead number r = MatchResult r (λ mv. number_of_move mv ≡ number) (λ why. (why ≡ NoMove) × (last_move < number))
 
 -- ---- replies
 
@@ -82,17 +99,39 @@ pub record MoveAnswer : Type 0 where
 abbrev pub moved : Seen → Bool → MoveAnswer
 moved seen retry = record { seen = seen; retry = retry }
 
--- the reply that each case of a move's outcome stands for; a move's refusal has place 0
-abbrev pub outcome_reply : Outcome → Reply MoveAnswer
-outcome_reply (outcome.Shown e) = accepted (moved (shown (code_of e)) false)
-outcome_reply outcome.Quiet = accepted (moved quiet false)
-outcome_reply outcome.Retry = accepted (moved quiet true)
-outcome_reply (outcome.Refused r) = refused (number_of r) 0
+-- what is seen of a move that shows an event or none
+abbrev pub event_seen : Option Event → Seen
+event_seen (Some e) = shown (code_of e)
+event_seen None = quiet
 
--- the reply that each case of another entry's answer stands for
-abbrev pub answer_reply : Answer → Reply ℕ
-answer_reply (answer.Done n) = accepted n
-answer_reply (answer.Refused r place) = refused (number_of r) place
+-- the answer that each case of a move's outcome stands for, and the event in it
+abbrev pub outcome_answer : Outcome → MoveAnswer
+outcome_answer (outcome.Shown e) = moved (shown (code_of e)) false
+outcome_answer outcome.Quiet = moved quiet false
+outcome_answer outcome.Retry = moved quiet true
+
+abbrev pub shown_in : Outcome → Option Event
+shown_in (outcome.Shown e) = Some e
+shown_in outcome.Quiet = None
+shown_in outcome.Retry = None
+
+-- the reply that a result of the code stands for, by what its value stands for: accepted, or refused with the number and the place
+abbrev pub reply_by : {A B : Type 0} → (A → B) → Result A Refused → Reply B
+reply_by f (Ok a) = accepted (f a)
+reply_by f (Err r) = refused (number_of r.refusal) r.place
+
+-- the same where a refusal has no place of its own, "else 0"
+abbrev pub reply_by_0 : {A B : Type 0} → (A → B) → Result A Refusal → Reply B
+reply_by_0 f (Ok a) = accepted (f a)
+reply_by_0 f (Err r) = refused (number_of r) 0
+
+-- a move's
+abbrev pub outcome_reply : Result Outcome Refusal → Reply MoveAnswer
+outcome_reply = reply_by_0 outcome_answer
+
+-- that of another entry that answers a count
+abbrev pub answer_reply : Result ℕ Refused → Reply ℕ
+answer_reply = reply_by (λ n. n)
 
 -- "Accepted means answered with a shown event or quiet.", and of any entry: answered with no refusal
 abbrev pub is_accepted : {A : Type 0} → Reply A → Bool

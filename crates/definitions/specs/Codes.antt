@@ -1,4 +1,4 @@
--- The codes of the nodes and the numbers of the moves. Those of the events and refusals stand in Answers, beside the code's enums.
+-- The codes of the nodes and the numbers of the moves. Those of the events and refusals stand in Answers, where the code's enums get their numbers, the moves' too.
 use Rattle.std.specs.Prelude.{ℕ}
 
 -- "node codes 0 to 10 in this order"

@@ -2,7 +2,7 @@
 -- It makes a request of Moves and no other: what that request answers and writes is stated there. "It" in the sentences below is the dispatcher.
 -- `dispatch_reply` and `dispatch_table` are those of the byte table, and are what the entry's promise cites.
 use Rattle.std.specs.Prelude.{ℕ, suc, Bool, false, cond, not, ◌&&◌, ◌||◌, List, [], ◌∷◌, eqb}
-use Rattle.definitions.specs.Answers.{Reply, accepted, refused, Seen, shown, quiet, MoveAnswer, moved, code_of, number_of, leaves, test, answered}
+use Rattle.definitions.specs.Answers.{Reply, accepted, refused, MoveAnswer, moved, event_seen, number_of_move, number_of, leaves, test, answered}
 use Rattle.definitions.specs.Bounds.{last_move}
 use Rattle.definitions.specs.Codes.{go}
 use Rattle.definitions.specs.Moves.{ask, is_call, is_retry, move_answer, accepts, step_in}
@@ -11,8 +11,6 @@ use Rattle.definitions.specs.Table.{Table, Storage, byte_table}
 use Rattle.definitions.specs.Threads.{some, lowest}
 use Rattle.definitions.specs.declared.Dispatched.{Dispatched}
 use Rattle.definitions.specs.declared.Dispatched.TheVariants as dispatched
-use Rattle.definitions.specs.declared.MoveEvent.{MoveEvent}
-use Rattle.definitions.specs.declared.MoveEvent.TheVariants as event
 use Rattle.definitions.specs.declared.Request.{Request}
 
 -- ---- the moves that it may make
@@ -98,11 +96,7 @@ abbrev pub dispatch_table : List ℕ → List ℕ
 dispatch_table = dispatch_in byte_table
 
 -- the reply that each case of the dispatcher's answer stands for; it makes no retry, and its refusal has place 0
-abbrev pub event_seen : MoveEvent → Seen
-event_seen (event.Shown e) = shown (code_of e)
-event_seen event.Quiet = quiet
-
 abbrev pub dispatched_reply : Dispatched → Reply DispatchAnswer
-dispatched_reply (dispatched.Moved thread mv target event) = accepted (made (ask thread mv target) (moved (event_seen event) false))
+dispatched_reply (dispatched.Moved thread mv target event) = accepted (made (ask thread (number_of_move mv) target) (moved (event_seen event) false))
 dispatched_reply dispatched.Waiting = accepted waiting
 dispatched_reply (dispatched.Refused r) = refused (number_of r) 0

@@ -1,16 +1,16 @@
 -- The run of a script, with what it prints, and what the program prints.
 -- A line's form is judged by the line alone; a line that lacks its line feed is a bad form; `(refused R L)` follows the events already printed.
-use Rattle.std.specs.Prelude.{ℕ, suc, ◌+◌, cond, List, [], ◌∷◌, ◌++◌, leb, length, get_or, drop}
-use Rattle.definitions.specs.Answers.{Reply, accepted, refused, Seen, shown, quiet, MoveAnswer, number_of, test, answered, Delivery}
+use Rattle.std.specs.Prelude.{Result, ℕ, suc, ◌+◌, cond, List, [], ◌∷◌, ◌++◌, leb, length, get_or, drop}
+use Rattle.definitions.specs.Answers.{Reply, accepted, refused, Seen, shown, quiet, MoveAnswer, reply_by, test, answered, Delivery}
 use Rattle.definitions.specs.Bounds.{most_script}
 use Rattle.definitions.specs.Forms.{Form, line_form, first_form, first_tests, threads_first, line_tests, request_in}
 use Rattle.definitions.specs.Moves.{move_reply, move_table}
 use Rattle.definitions.specs.PlainLock.{Pair}
 use Rattle.definitions.specs.Table.{table_of, fresh}
 use Rattle.definitions.specs.Texts.{bytes, Line, lines_of, decimal}
+use Rattle.definitions.specs.declared.Refused.{Refused}
 use Rattle.definitions.specs.declared.Request.{Request}
 use Rattle.definitions.specs.declared.Running.{Running}
-use Rattle.definitions.specs.declared.Running.TheVariants as running
 
 -- "the name as listed above", by the event's code
 unfoldable pub event_name : ℕ → List ℕ
@@ -124,10 +124,12 @@ pub record RunCounts : Type 0 where
   pub bytes : ℕ
   pub retries : ℕ
 
--- the reply that each case of its answer stands for
-abbrev pub running_reply : Running → Reply RunCounts
-running_reply (running.Ran bytes retries) = accepted (record { bytes = bytes; retries = retries })
-running_reply (running.Refused r place) = refused (number_of r) place
+abbrev pub counts_of : Running → RunCounts
+counts_of ran = record { bytes = ran.bytes; retries = ran.retries }
+
+-- the reply that its result stands for
+abbrev pub running_reply : Result Running Refused → Reply RunCounts
+running_reply = reply_by counts_of
 
 -- "Only a script too long (8) or a short output (12) refuses the run itself."
 abbrev pub run_entry : List ℕ → Delivery RunCounts

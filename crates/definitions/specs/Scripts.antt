@@ -1,7 +1,7 @@
 -- Scripts written out and read (02 §3): the script of a list of moves, and the entries that write one and read one.
 -- What a line says to N threads stands in Forms, and is what the run goes by too.
-use Rattle.std.specs.Prelude.{ℕ, suc, ◌%◌, List, [], ◌∷◌, ◌++◌, leb, eqb, length, drop}
-use Rattle.definitions.specs.Answers.{Reply, accepted, refused, number_of, Test, test, Delivery, counted}
+use Rattle.std.specs.Prelude.{Result, ℕ, suc, ◌%◌, List, [], ◌∷◌, ◌++◌, leb, eqb, length, drop}
+use Rattle.definitions.specs.Answers.{Reply, reply_by, Test, test, Delivery, counted}
 use Rattle.definitions.specs.Bounds.{most_script}
 use Rattle.definitions.specs.Chains.{requests_of}
 use Rattle.definitions.specs.Forms.{threads_line, spelled, line_form, first_form, first_tests, threads_first, line_tests, request_in}
@@ -10,7 +10,7 @@ use Rattle.definitions.specs.Plan.{bytes_of}
 use Rattle.definitions.specs.Table.{count_fits}
 use Rattle.definitions.specs.Texts.{line_feed, Line, lines_of}
 use Rattle.definitions.specs.declared.Reading.{Reading}
-use Rattle.definitions.specs.declared.Reading.TheVariants as reading
+use Rattle.definitions.specs.declared.Refused.{Refused}
 use Rattle.definitions.specs.declared.Request.{Request}
 
 -- ---- writing
@@ -81,10 +81,12 @@ pub record Listed : Type 0 where
   pub threads : ℕ
   pub bytes : ℕ
 
--- the reply that each case of its answer stands for
-abbrev pub reading_reply : Reading → Reply Listed
-reading_reply (reading.Read threads bytes) = accepted (record { threads = threads; bytes = bytes })
-reading_reply (reading.Refused r place) = refused (number_of r) place
+abbrev pub listed_of : Reading → Listed
+listed_of read = record { threads = read.threads; bytes = read.bytes }
+
+-- the reply that its result stands for
+abbrev pub reading_reply : Result Reading Refused → Reply Listed
+reading_reply = reply_by listed_of
 
 -- "Reading a script gives N and the triples, and turns down exactly what the run would for form and numbers (1, 3, 5, 8), with the first such line as place (0 if too long), or 12."
 abbrev pub read_entry : List ℕ → Delivery Listed

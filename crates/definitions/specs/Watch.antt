@@ -1,16 +1,13 @@
 -- The watcher of 02 §2: a record that judges each event as it happens, without the history being kept. First the record and when it is consistent;
 -- then its three entries, the start, one event, and "Is anybody inside?"; last a watch, a list of events put to it one after the other.
 -- An event is judged by the plain lock's own tests (PlainLock), at the places that the record holds. A record's `places` are 200 bytes, as its type says.
-use Rattle.std.specs.Prelude.{ℕ, Bool, true, false, cond, not, ◌||◌, List, [], ◌∷◌, ◌++◌, leb, ltb, eqb, replicate}
-use Rattle.definitions.specs.Answers.{Reply, accepted, refused, number_of, Test, test, answered, leaves}
+use Rattle.std.specs.Prelude.{Result, ℕ, Bool, cond, not, ◌||◌, List, [], ◌∷◌, ◌++◌, leb, ltb, eqb, replicate}
+use Rattle.definitions.specs.Answers.{Reply, reply_by_0, Test, test, answered, leaves}
 use Rattle.definitions.specs.Bounds.{most_threads}
 use Rattle.definitions.specs.PlainLock.{Pair, Places, places_in, advanced, how_many_at, pair_tests}
 use Rattle.definitions.specs.Table.{count_fits}
 use Rattle.definitions.specs.Threads.{every, list_of, among, all_of, implies}
-use Rattle.definitions.specs.declared.Inside.{Inside}
-use Rattle.definitions.specs.declared.Inside.TheVariants as inside
-use Rattle.definitions.specs.declared.Watched.{Watched}
-use Rattle.definitions.specs.declared.Watched.TheVariants as watched
+use Rattle.definitions.specs.declared.Refusal.{Refusal}
 use Rattle.definitions.specs.declared.Watcher.{Watcher}
 
 -- ---- the record
@@ -55,16 +52,12 @@ consistent w =
 
 -- ---- the entries
 
--- the reply that each answer to the start or to an event stands for; a watcher's refusal has place 0
-abbrev pub watched_reply : Watched → Reply (Unit {0})
-watched_reply watched.Good = accepted tt
-watched_reply (watched.Refused r) = refused (number_of r) 0
+-- the reply that the result of the start or of an event stands for, and that of the question: yes or no
+abbrev pub watched_reply : Result (Unit {0}) Refusal → Reply (Unit {0})
+watched_reply = reply_by_0 (λ good. good)
 
--- and each answer to the question: yes or no
-abbrev pub inside_reply : Inside → Reply Bool
-inside_reply inside.Somebody = accepted true
-inside_reply inside.Nobody = accepted false
-inside_reply (inside.Refused r) = refused (number_of r) 0
+abbrev pub inside_reply : Result Bool Refusal → Reply Bool
+inside_reply = reply_by_0 (λ somebody. somebody)
 
 -- the start: 1 for a bad N, and then the record stays
 unfoldable pub start_reply : ℕ → Reply (Unit {0})

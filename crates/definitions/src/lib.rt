@@ -4,7 +4,7 @@
 #![tactic(auto)]
 
 ghost use Rattle.std.specs.Prelude.{◌≡◌};
-ghost use Rattle.definitions.specs.Answers.{event_of};
+ghost use Rattle.definitions.specs.Answers.{MoveRead, number_of_move, code_of, event_of, number_of, shown_in};
 
 // "N threads, 1 to 200"
 pub const MOST_THREADS: u8 = 200;
@@ -17,25 +17,6 @@ pub const PHASE_COUNT: usize = LAST_PHASE as usize + 1;
 
 // "the target (a thread number, or 255 for none)"
 pub const NO_TARGET: u8 = 255;
-
-// "Moves: 0 go, 1 call shared, 2 call exclusive, 3 set, 4 clear, 5 relent."
-pub const GO: u8 = 0;
-
-pub const CALL_SHARED: u8 = 1;
-
-pub const CALL_EXCLUSIVE: u8 = 2;
-
-pub const SET: u8 = 3;
-
-pub const CLEAR: u8 = 4;
-
-pub const RELENT: u8 = 5;
-
-// "New move 6, hold" (02 §1)
-pub const HOLD: u8 = 6;
-
-// "Refusal 4 is now a move above 6" (02 §1)
-pub const LAST_MOVE: u8 = HOLD;
 
 // "The history has an odd length or exceeds 60,000 bytes"
 pub const MOST_HISTORY: usize = 60_000;
@@ -78,24 +59,78 @@ pub struct Task {
     pub forbidden: u8,
 }
 
-// The eight events, in the order of their codes 1 to 8.
-#[derive(Clone, Copy)]
-pub enum Event {
-    EnterSharedCall,
-    EnterSharedReturn,
-    LeaveSharedCall,
-    LeaveSharedReturn,
-    EnterExclusiveCall,
-    EnterExclusiveReturn,
-    LeaveExclusiveCall,
-    LeaveExclusiveReturn,
+// "Moves: 0 go, 1 call shared, 2 call exclusive, 3 set, 4 clear, 5 relent."; "New move 6, hold" (02 §1)
+#[derive(Clone, Copy, PartialEq, Eq)]
+pub enum Move {
+    Go,
+    CallShared,
+    CallExclusive,
+    Set,
+    Clear,
+    Relent,
+    Hold,
 }
 
-// The event that a code stands for, if there is one.
-#[derive(Clone, Copy)]
-pub enum MaybeEvent {
-    Known(Event),
-    Unknown,
+impl Move {
+    // In the order of their numbers.
+    pub const ALL: [Move; 7] = [
+        Move::Go,
+        Move::CallShared,
+        Move::CallExclusive,
+        Move::Set,
+        Move::Clear,
+        Move::Relent,
+        Move::Hold,
+    ];
+}
+
+// Refusal 4: "Refusal 4 is now a move above 6" (02 §1)
+impl TryFrom<u16> for Move {
+    type Error = Refusal;
+
+    ghost try_from_gives = { MoveRead };
+
+    fn try_from(number: u16) -> Result<Move, Refusal> {
+        match number {
+            0 => Ok(Move::Go),
+            1 => Ok(Move::CallShared),
+            2 => Ok(Move::CallExclusive),
+            3 => Ok(Move::Set),
+            4 => Ok(Move::Clear),
+            5 => Ok(Move::Relent),
+            6 => Ok(Move::Hold),
+            _ => Err(Refusal::NoMove),
+        }
+    }
+}
+
+impl From<Move> for u8 {
+    ghost from_gives = { λ mv number. number ≡ number_of_move mv };
+
+    fn from(mv: Move) -> u8 {
+        mv as u8
+    }
+}
+
+impl From<Move> for u16 {
+    ghost from_gives = { λ mv number. number ≡ number_of_move mv };
+
+    fn from(mv: Move) -> u16 {
+        mv as u16
+    }
+}
+
+// "The eight events bear codes 1 to 8"
+#[derive(Clone, Copy, PartialEq, Eq)]
+pub enum Event {
+    EnterSharedCall = 1,
+    EnterSharedReturn = 2,
+    LeaveSharedCall = 3,
+    LeaveSharedReturn = 4,
+    EnterExclusiveCall = 5,
+    EnterExclusiveReturn = 6,
+    LeaveExclusiveCall = 7,
+    LeaveExclusiveReturn = 8,
 }
 
 impl Event {
@@ -105,42 +140,85 @@ impl Event {
     pub const LAST: u8 = 8;
 
     #[tactic(auto, unfolding(crate::specs::Answers::event_of, crate::specs::Answers::events))]
-    pub fn from_code(code: u8) -> MaybeEvent
+    pub fn from_code(code: u8) -> Option<Event>
         ensures { result ≡ event_of code }
     {
         match code {
-            Event::FIRST => MaybeEvent::Known(Event::EnterSharedCall),
-            2 => MaybeEvent::Known(Event::EnterSharedReturn),
-            3 => MaybeEvent::Known(Event::LeaveSharedCall),
-            4 => MaybeEvent::Known(Event::LeaveSharedReturn),
-            5 => MaybeEvent::Known(Event::EnterExclusiveCall),
-            6 => MaybeEvent::Known(Event::EnterExclusiveReturn),
-            7 => MaybeEvent::Known(Event::LeaveExclusiveCall),
-            Event::LAST => MaybeEvent::Known(Event::LeaveExclusiveReturn),
-            _ => MaybeEvent::Unknown,
+            Event::FIRST => Some(Event::EnterSharedCall),
+            2 => Some(Event::EnterSharedReturn),
+            3 => Some(Event::LeaveSharedCall),
+            4 => Some(Event::LeaveSharedReturn),
+            5 => Some(Event::EnterExclusiveCall),
+            6 => Some(Event::EnterExclusiveReturn),
+            7 => Some(Event::LeaveExclusiveCall),
+            Event::LAST => Some(Event::LeaveExclusiveReturn),
+            _ => None,
         }
     }
 }
 
-// Why a request is turned down: the numbers 1 to 12 in checking order, and 13 of the watcher, tested after 1 and before 9.
-#[derive(Clone, Copy)]
-pub enum Refusal {
-    BadSize,
-    Unsound,
-    NoThread,
-    NoMove,
-    BadTarget,
-    NotInPhase,
-    MutexHeld,
-    BadForm,
-    UnknownPair,
-    NotNext,
-    Occupied,
-    NoRoom,
-    Inconsistent,
+impl From<Event> for u8 {
+    ghost from_gives = { λ event code. code ≡ code_of event };
+
+    fn from(event: Event) -> u8 {
+        event as u8
+    }
 }
 
-// What a move answers. The table stays in the lent bytes.
+// Why a request is turned down: the numbers 1 to 12 in checking order, and 13 of the watcher, tested after 1 and before 9.
+#[derive(Clone, Copy, PartialEq, Eq)]
+pub enum Refusal {
+    BadSize = 1,
+    Unsound = 2,
+    NoThread = 3,
+    NoMove = 4,
+    BadTarget = 5,
+    NotInPhase = 6,
+    MutexHeld = 7,
+    BadForm = 8,
+    UnknownPair = 9,
+    NotNext = 10,
+    Occupied = 11,
+    NoRoom = 12,
+    Inconsistent = 13,
+}
+
+impl From<Refusal> for u8 {
+    ghost from_gives = { λ refusal number. number ≡ number_of refusal };
+
+    fn from(refusal: Refusal) -> u8 {
+        refusal as u8
+    }
+}
+
+// "The answer is the number and a place": a refusal with its place.
+#[derive(Clone, Copy)]
+pub struct Refused {
+    pub refusal: Refusal,
+    pub place: usize,
+}
+
+impl Refusal {
+    pub fn at(self, place: usize) -> Refused
+        ensures { result ≡ record { refusal = self; place = place } }
+    {
+        Refused {
+            refusal: self,
+            place,
+        }
+    }
+}
+
+// "else 0": the place of a refusal that has none of its own.
+impl From<Refusal> for Refused {
+    ghost from_gives = { λ why refused. refused ≡ record { refusal = why; place = 0 } };
+
+    fn from(refusal: Refusal) -> Refused {
+        refusal.at(0)
+    }
+}
+
+// What an accepted move answers. The table stays in the lent bytes.
 #[derive(Clone, Copy)]
 pub enum Outcome {
     Shown(Event),
@@ -148,14 +226,18 @@ pub enum Outcome {
     Quiet,
     // No event is shown, and the move was a retry (02 §7).
     Retry,
-    Refused(Refusal),
 }
 
-// What every other entry answers: a count, or the refusal and its place.
-#[derive(Clone, Copy)]
-pub enum Answer {
-    Done(usize),
-    Refused(Refusal, usize),
+impl Outcome {
+    // The event that is shown, if one is.
+    pub fn event(self) -> Option<Event>
+        ensures { result ≡ shown_in self }
+    {
+        match self {
+            Outcome::Shown(event) => Some(event),
+            Outcome::Quiet | Outcome::Retry => None,
+        }
+    }
 }
 
 // "A watcher record holds N, each thread's place in its round .., and how many are in shared and in exclusive." (02 §2): bytes
@@ -169,40 +251,18 @@ pub struct Watcher {
     pub places: [u8; 200],
 }
 
-// What a watcher answers to its start and to an event.
-#[derive(Clone, Copy)]
-pub enum Watched {
-    Good,
-    Refused(Refusal),
-}
-
-// What it answers to "Is anybody inside?".
-#[derive(Clone, Copy)]
-pub enum Inside {
-    Somebody,
-    Nobody,
-    Refused(Refusal),
-}
-
 // What a run answers: the number of bytes written, and how many of the moves made were retries (02 §7).
 #[derive(Clone, Copy)]
-pub enum Running {
-    Ran { bytes: usize, retries: usize },
-    Refused(Refusal, usize),
+pub struct Running {
+    pub bytes: usize,
+    pub retries: usize,
 }
 
 // What reading a script answers: N and the number of bytes written (02 §3).
 #[derive(Clone, Copy)]
-pub enum Reading {
-    Read { threads: u8, bytes: usize },
-    Refused(Refusal, usize),
-}
-
-// What is seen of a move that was made.
-#[derive(Clone, Copy)]
-pub enum MoveEvent {
-    Shown(Event),
-    Quiet,
+pub struct Reading {
+    pub threads: u8,
+    pub bytes: usize,
 }
 
 // What the dispatcher answers: "thread, move and target with the move's own answer"; or that no thread has a move of its
@@ -211,9 +271,9 @@ pub enum MoveEvent {
 pub enum Dispatched {
     Moved {
         thread: u8,
-        mv: u8,
+        mv: Move,
         target: u8,
-        event: MoveEvent,
+        event: Option<Event>,
     },
     Waiting,
     Refused(Refusal),

@@ -1,10 +1,10 @@
 // One turn of the dispatcher.
-ghost use Rattle.std.specs.Prelude.{◌≡◌};
-ghost use Rattle.dispatch.specs.Turned.{TurnTable, Turned, TurnTaken, event_in};
+ghost use Rattle.dispatch.specs.Turned.{TurnTable, Turned, TurnTaken};
 
-use choice::{Choice, choose};
-use definitions::{Dispatched, MoveEvent, Outcome, Request};
-use table::Examined;
+use choice::{Chosen, choose};
+use definitions::{Dispatched, Refusal, Request};
+use lock::try_move;
+use table::{Examined, examine};
 
 // What a turn answers, and how many threads have forbidden 1 after it.
 #[derive(Clone, Copy)]
@@ -13,60 +13,47 @@ struct Turn {
     forbidden: usize,
 }
 
-// What is seen of a move.
-fn event_of(outcome: Outcome) -> MoveEvent
-    ensures { result ≡ event_in outcome }
-{
-    match outcome {
-        Outcome::Shown(event) => MoveEvent::Shown(event),
-        Outcome::Quiet => MoveEvent::Quiet,
-        Outcome::Retry => MoveEvent::Quiet,
-        Outcome::Refused(_) => MoveEvent::Quiet,
-    }
-}
-
-// A turn on a table that was tested, of whose threads `forbidden` have forbidden 1.
-fn take_turn(table: &mut [u8], threads: usize, forbidden: usize) -> Turn
-    requires { TurnTable table.old threads forbidden }
+// A turn on a table that was tested, from what was told of it.
+fn take_turn(table: &mut [u8], examined: Examined) -> Result<Turn, Refusal>
+    requires { TurnTable table.old examined }
     ensures { TurnTaken table.old table.new result }
 {
-    let choice = choose(table, threads);
-    match choice {
-        Choice::Nobody => Turn {
+    let Some(Chosen { thread, mv, target }) = choose(table, examined.threads) else {
+        return Ok(Turn {
             answer: Dispatched::Waiting,
-            forbidden,
+            forbidden: examined.forbidden,
+        });
+    };
+    let request = Request {
+        thread: thread as u16,
+        mv: u16::from(mv),
+        target: target as u16,
+    };
+    let made = try_move(table, examined.forbidden, request)?;
+    Ok(Turn {
+        answer: Dispatched::Moved {
+            thread,
+            mv,
+            target,
+            event: made.outcome.event(),
         },
-        Choice::Makes { thread, mv, target } => {
-            let request = Request {
-                thread: thread as u16,
-                mv: mv as u16,
-                target: target as u16,
-            };
-            let made = lock::try_move(table, forbidden, request);
-            let outcome = made.outcome;
-            let event = event_of(outcome);
-            Turn {
-                answer: Dispatched::Moved {
-                    thread,
-                    mv,
-                    target,
-                    event,
-                },
-                forbidden: made.forbidden,
-            }
-        }
-    }
+        forbidden: made.forbidden,
+    })
+}
+
+// A turn on any table.
+fn make_turn(table: &mut [u8]) -> Result<Turn, Refusal>
+    ensures { TurnTaken table.old table.new result }
+{
+    let examined = examine(table)?;
+    take_turn(table, examined)
 }
 
 pub fn dispatch(table: &mut [u8]) -> Dispatched
     ensures { Turned table.old table.new result }
 {
-    let examined = table::examine(table);
-    match examined {
-        Examined::Refused(x) => Dispatched::Refused(x),
-        Examined::Sound(threads, forbidden) => {
-            let turn = take_turn(table, threads, forbidden);
-            turn.answer
-        }
+    match make_turn(table) {
+        Ok(turn) => turn.answer,
+        Err(refusal) => Dispatched::Refused(refusal),
     }
 }

@@ -1,2 +1,2 @@
--- The lines of a history as a text in parts.
-pub mod EventLines
+-- The lines of a history by its pairs.
+mod EventLines

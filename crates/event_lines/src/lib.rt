@@ -6,11 +6,11 @@ ghost use Rattle.definitions.specs.Answers.{shown};
 ghost use Rattle.definitions.specs.Bounds.{enough_output};
 ghost use Rattle.definitions.specs.PlainLock.{pairs_of};
 ghost use Rattle.definitions.specs.Run.{event_line, event_lines};
-ghost use Rattle.basics.specs.Outputs.{RoomAt, PutAt};
+ghost use Rattle.text.specs.Cursors.{HasRoom, Puts};
 
-use decimals::{decimal_length, put_decimal};
-use event_names::{name_length, put_name};
-use text::put_text;
+use decimals::decimal_length;
+use event_names::{event_name, put_name};
+use text::Output;
 
 // The bytes of `(event `, of ` (`, and of `))` with its line feed.
 const AROUND_EVENT: usize = 12;
@@ -19,9 +19,7 @@ const AROUND_EVENT: usize = 12;
 fn event_length(thread: u8, code: u8) -> usize
     ensures { result ≡ length (event_line thread (shown code)) }
 {
-    let number = decimal_length(thread as usize);
-    let name = name_length(code);
-    AROUND_EVENT + number as usize + name as usize
+    AROUND_EVENT + decimal_length(thread as usize) + event_name(code).len()
 }
 
 // The length of the lines of a history.
@@ -29,46 +27,32 @@ pub fn events_length(history: &[u8]) -> usize
     requires { length (event_lines (pairs_of history.now)) ≤ enough_output }
     ensures { result ≡ length (event_lines (pairs_of history.now)) }
 {
-    let events = history.len() / 2;
-    let mut total: usize = 0;
-    let mut k: usize = 0;
-    while k < events {
-        let i = 2 * k;
-        let thread = history[i];
-        let code = history[i + 1];
-        total += event_length(thread, code);
-        k += 1;
+    let mut total = 0;
+    for pair in history.chunks_exact(2) {
+        total += event_length(pair[0], pair[1]);
     }
     total
 }
 
 // `(event T (name))`
 #[tactic(auto, unfolding(definitions::specs::Texts::bytes, definitions::specs::Run::event_line))]
-fn put_event(out: &mut [u8], at: usize, thread: u8, code: u8) -> usize
-    requires { RoomAt out.old at (event_line thread (shown code)) }
-    ensures { PutAt out.old at (event_line thread (shown code)) out.new result }
+fn put_event(out: &mut Output, thread: u8, code: u8)
+    requires { HasRoom out.old (event_line thread (shown code)) }
+    ensures { Puts out.old (event_line thread (shown code)) out.new }
 {
-    let a = put_text(out, at, b"(event ");
-    let b = put_decimal(out, a, thread as usize);
-    let c = put_text(out, b, b" (");
-    let d = put_name(out, c, code);
-    put_text(out, d, b"))\n")
+    out.put(b"(event ");
+    out.put_decimal(thread as usize);
+    out.put(b" (");
+    put_name(out, code);
+    out.put(b"))\n");
 }
 
-// The lines of a history, from the front.
-pub fn put_events(out: &mut [u8], history: &[u8]) -> usize
-    requires { RoomAt out.old 0 (event_lines (pairs_of history.now)) }
-    ensures { PutAt out.old 0 (event_lines (pairs_of history.now)) out.new result }
+// The lines of a history.
+pub fn put_events(out: &mut Output, history: &[u8])
+    requires { HasRoom out.old (event_lines (pairs_of history.now)) }
+    ensures { Puts out.old (event_lines (pairs_of history.now)) out.new }
 {
-    let pairs = history.len() / 2;
-    let mut at: usize = 0;
-    let mut k: usize = 0;
-    while k < pairs {
-        let i = 2 * k;
-        let thread = history[i];
-        let code = history[i + 1];
-        at = put_event(out, at, thread, code);
-        k += 1;
+    for pair in history.chunks_exact(2) {
+        put_event(out, pair[0], pair[1]);
     }
-    at
 }

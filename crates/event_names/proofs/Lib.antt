@@ -1,2 +1,2 @@
--- The names by their codes.
-pub mod Names
+-- The names by the events.
+mod Names

@@ -8,36 +8,18 @@ pub fn say(rt: &HostRuntime, text: &[u8]) -> io::Result<()> {
     rt.write_all(text)
 }
 
-fn say_number(rt: &HostRuntime, number: u64) -> io::Result<()> {
-    print!(rt; "{number}")
-}
-
 // The refusal's number and the value of an answer.
 pub fn say_answer(rt: &HostRuntime, name: &[u8], answer: u64) -> io::Result<()> {
     say(rt, name)?;
-    say(rt, b": ")?;
-    say_number(rt, answer % 256)?;
-    say(rt, b" ")?;
-    say_number(rt, answer / 256)
-}
-
-fn say_byte(rt: &HostRuntime, byte: u8) -> io::Result<()> {
-    say(rt, b" ")?;
-    say_number(rt, byte as u64)
-}
-
-fn say_each(rt: &HostRuntime, bytes: &[u8]) -> io::Result<()> {
-    for i in 0..bytes.len() {
-        let byte = bytes[i];
-        say_byte(rt, byte)?;
-    }
-    Ok(())
+    print!(rt; ": {} {}", answer % 256, answer / 256)
 }
 
 pub fn say_bytes(rt: &HostRuntime, bytes: &[u8]) -> io::Result<()> {
-    say(rt, b" |")?;
-    say_each(rt, bytes)?;
-    say(rt, b"\n")
+    print!(rt; " |")?;
+    for byte in bytes {
+        print!(rt; " {byte}")?;
+    }
+    println!(rt;)
 }
 
 // One move, and the table after it.
@@ -56,7 +38,6 @@ pub fn show_move(
 
 // A check for two threads.
 pub fn show_check(rt: &HostRuntime, name: &[u8], history: &[u8]) -> io::Result<()> {
-    let answer = wospinzo::wospinzo_check(2, history);
-    say_answer(rt, name, answer)?;
-    say(rt, b"\n")
+    say_answer(rt, name, wospinzo::wospinzo_check(2, history))?;
+    println!(rt;)
 }

@@ -1,62 +1,64 @@
-// The reader of a script's forms: one line, handed over alone and without its line feed.
+// The reader of a script's forms. The text of a line is handed over alone, without its line feed.
 #![tactic(auto)]
 
 ghost use Rattle.std.specs.Prelude.{◌≡◌};
-ghost use Rattle.definitions.specs.Forms.{note_form, threads_form, move_form, form_of};
+ghost use Rattle.definitions.specs.Forms.{note_form, threads_form, move_form, form_of, line_form};
 ghost use Rattle.definitions.specs.Texts.{number_read};
 ghost use Rattle.act_forms.specs.Readings.{form_for};
+ghost use Rattle.lines.specs.Lines.{line_read};
 
 use act_forms::{Form, read_act};
+use lines::Line;
 use notes::ends_note;
-use words::{MaybeNumber, read_closed, read_number, starts_with};
+use words::{read_closed, read_number};
 
 // What follows `(threads `: `N)`.
 #[tactic(auto, unfolding(definitions::specs::Texts::bytes))]
-fn read_threads(part: &[u8]) -> Form
+fn read_threads(part: &[u8]) -> Option<Form>
     ensures { form_for result ≡ threads_form (number_read part.now) }
 {
-    let number = read_closed(part, b")");
-    match number {
-        MaybeNumber::Known(value, _) => Form::Threads(value),
-        MaybeNumber::Unknown => Form::Bad,
-    }
+    let count = read_closed(part, b")")?;
+    Some(Form::Threads(count.value))
 }
 
 // What follows a line's first bracket, where it is no threads line and no note: `T`, then the act.
-fn read_request(part: &[u8]) -> Form
+fn read_request(part: &[u8]) -> Option<Form>
     ensures { form_for result ≡ move_form (number_read part.now) }
 {
-    let number = read_number(part);
-    match number {
-        MaybeNumber::Known(thread, digits) => read_act(thread, &part[digits..]),
-        MaybeNumber::Unknown => Form::Bad,
-    }
+    let thread = read_number(part)?;
+    read_act(thread.value, &part[thread.digits..])
 }
 
 // What follows `(note `.
-fn read_note(part: &[u8]) -> Form
+fn read_note(part: &[u8]) -> Option<Form>
     ensures { form_for result ≡ note_form part.now }
 {
-    if ends_note(part) {
-        Form::Note
+    ends_note(part).then_some(Form::Note)
+}
+
+// The form of a line's text. proofs/Spelling.antt shows that this is the inverse of the spelling of forms.
+#[tactic(auto, using(words::proofs::Comparisons::same_is), unfolding(definitions::specs::Texts::bytes, definitions::specs::Forms::form_of))]
+pub fn read_form(text: &[u8]) -> Option<Form>
+    ensures { form_for result ≡ form_of text.now }
+{
+    if let Some(rest) = text.strip_prefix(b"(threads ") {
+        read_threads(rest)
+    } else if let Some(rest) = text.strip_prefix(b"(note ") {
+        read_note(rest)
+    } else if let Some(rest) = text.strip_prefix(b"(") {
+        read_request(rest)
     } else {
-        Form::Bad
+        None
     }
 }
 
-// The form of a line. proofs/Spelling.antt shows that this is the inverse of the spelling of forms.
-#[tactic(auto, unfolding(definitions::specs::Texts::bytes, definitions::specs::Forms::form_of))]
-pub fn read_form(line: &[u8]) -> Form
-    ensures { form_for result ≡ form_of line.now }
+// The form of a line. One that lacks its line feed has none.
+pub fn read_line(line: Line<'_>) -> Option<Form>
+    ensures { form_for result ≡ line_form (line_read line.entry) }
 {
-    if starts_with(line, b"(threads ") {
-        return read_threads(&line[9..]);
+    if line.ended {
+        read_form(line.text)
+    } else {
+        None
     }
-    if starts_with(line, b"(note ") {
-        return read_note(&line[6..]);
-    }
-    if starts_with(line, b"(") {
-        return read_request(&line[1..]);
-    }
-    Form::Bad
 }

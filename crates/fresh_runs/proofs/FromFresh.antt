@@ -18,7 +18,7 @@ use Rattle.definitions.specs.Texts as texts
 use Rattle.definitions.specs.declared.Refusal.{Refusal}
 use Rattle.apply.specs.MoveMade.{TestedTable}
 use Rattle.basics.specs.Outputs.{Delivered}
-use Rattle.endings.specs.declared.Ending.TheVariants.{Refused}
+use Rattle.std.specs.Prelude.{Err}
 use Rattle.theory.specs.Tables.{forbidden_count}
 use Rattle.running.specs.Records.{Roomy, Begun, Recorded}
 use Rattle.running.specs.declared.Ran.{Ran}
@@ -87,15 +87,14 @@ module _ (n : ℕ) (ls : List texts.Line) where
   pub from-fresh : count_fits n ≡ true → (printed_first (spec.threads n) ls ≡ printed (fresh n) 2 0 ls) × (retries_first (spec.threads n) ls ≡ retries_from (fresh n) ls)
   from-fresh e = (first_printed n ls ∙ rw e, first_retries n ls ∙ rw e)
 
-pub begins-fresh : {script : List ℕ} {start : ℕ} {history : List ℕ} (n : ℕ) → start ≤ length script → Roomy script history → (table : List ℕ) → count_fits n ≡ true → table ≡ fresh n
-    → Begun script start table history
-begins-fresh n s r table e f = rw f (record { starts = s; room = r; tested = fresh-tested n e })
+pub begins-fresh : {ls : List texts.Line} {history : List ℕ} (n : ℕ) → Roomy ls history → (table : List ℕ) → count_fits n ≡ true → table ≡ fresh n → Begun ls table history
+begins-fresh n r table e f = rw f (record { room = r; tested = fresh-tested n e })
 
 -- ---- what a run leaves
 
 -- it is stopped at its first line
 pub stopped_first : {output : List ℕ} {retries : ℕ} {history : List ℕ} (x : Refusal) {ran : Ran} → (output ≡ refused_line (number_of x) 1) × (retries ≡ 0)
-    → ran ≡ record { shown = 0; retries = 0; ending = Refused x 1 } → Recorded output retries history ran
+    → ran ≡ record { shown = 0; retries = 0; ending = Err (record { refusal = x; place = 1 }) } → Recorded output retries history ran
 unfolding pairs_of event_lines
 stopped_first x (e, none) r = rw r (record { fits = omega arith; prints = e; counts = none })
 
@@ -103,3 +102,7 @@ stopped_first x (e, none) r = rw r (record { fits = omega arith; prints = e; cou
 pub recorded_as : {output output' : List ℕ} {retries retries' : ℕ} {history : List ℕ} {ran : Ran} → (output ≡ output') × (retries ≡ retries')
     → Recorded output' retries' history ran → Recorded output retries history ran
 recorded_as (e, f) r = record { fits = r.fits; prints = e ∙ r.prints; counts = f ∙ r.counts }
+
+-- the same lines under other names
+pub lines_room : {ls more : List texts.Line} {history : List ℕ} → ls ≡ more → Roomy ls history → Roomy more history
+lines_room {history = history} e r = subst (λ (x : List texts.Line). Roomy x history) e r

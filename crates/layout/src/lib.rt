@@ -1,9 +1,10 @@
 // Where the bytes of a table stand, and the byte table as a storage: its head and its tasks, read and written by value. What
-// decides works on these, and knows of no bytes.
+// decides works on these, and knows of no bytes. Each of the four functions asks `Sized` of the bytes: a struct that keeps this
+// fact would be two, one over bytes that are read and one over bytes that are written.
 #![tactic(auto)]
 
 ghost use Rattle.std.specs.Prelude.{◌<◌, ◌^◌, ◌≡◌};
-ghost use Rattle.definitions.specs.Table.{size, phase_at, busy_at, forbidden_at, table_of, byte_table};
+ghost use Rattle.definitions.specs.Table.{size, phase_at, table_of, byte_table};
 ghost use Rattle.theory.specs.Tables.{Sized, head_of, task_of, put_head, put_task};
 
 use definitions::{Head, MOST_THREADS, Task};
@@ -15,7 +16,7 @@ pub const MUTEX_AT: usize = 1;
 
 pub const TARGET_AT: usize = 2;
 
-// "Then for each thread: phase, busy, forbidden."
+// "Then for each thread: phase, busy, forbidden.": where its three bytes begin.
 pub fn phase_at(thread: usize) -> usize
     requires { thread < 2 ^ 16 }
     ensures { result ≡ phase_at thread }
@@ -23,26 +24,12 @@ pub fn phase_at(thread: usize) -> usize
     3 + 3 * thread
 }
 
-pub fn busy_at(thread: usize) -> usize
-    requires { thread < 2 ^ 16 }
-    ensures { result ≡ busy_at thread }
-{
-    4 + 3 * thread
-}
-
-pub fn forbidden_at(thread: usize) -> usize
-    requires { thread < 2 ^ 16 }
-    ensures { result ≡ forbidden_at thread }
-{
-    5 + 3 * thread
-}
-
-// "3 + 3N bytes"
+// "3 + 3N bytes": up to where a thread N would begin.
 pub fn size_of(threads: usize) -> usize
     requires { threads < 2 ^ 16 }
     ensures { result ≡ size threads }
 {
-    3 + 3 * threads
+    phase_at(threads)
 }
 
 // The bytes of the largest table.
@@ -52,13 +39,10 @@ pub fn read_head(table: &[u8]) -> Head
     requires { Sized table.now }
     ensures { result ≡ head_of (table_of table.now) }
 {
-    let threads = table[THREADS_AT];
-    let mutex = table[MUTEX_AT];
-    let target = table[TARGET_AT];
     Head {
-        threads,
-        mutex,
-        target,
+        threads: table[THREADS_AT],
+        mutex: table[MUTEX_AT],
+        target: table[TARGET_AT],
     }
 }
 
@@ -66,13 +50,11 @@ pub fn read_task(table: &[u8], thread: usize) -> Task
     requires { Sized table.now × (thread < (table_of table.now).threads) }
     ensures { result ≡ task_of (table_of table.now) thread }
 {
-    let phase = table[phase_at(thread)];
-    let busy = table[busy_at(thread)];
-    let forbidden = table[forbidden_at(thread)];
+    let at = phase_at(thread);
     Task {
-        phase,
-        busy,
-        forbidden,
+        phase: table[at],
+        busy: table[at + 1],
+        forbidden: table[at + 2],
     }
 }
 
@@ -91,7 +73,8 @@ pub fn write_task(table: &mut [u8], thread: usize, task: Task)
     requires { Sized table.old × (thread < (table_of table.old).threads) }
     ensures { table.new ≡ put_task byte_table table.old thread task }
 {
-    table[phase_at(thread)] = task.phase;
-    table[busy_at(thread)] = task.busy;
-    table[forbidden_at(thread)] = task.forbidden;
+    let at = phase_at(thread);
+    table[at] = task.phase;
+    table[at + 1] = task.busy;
+    table[at + 2] = task.forbidden;
 }

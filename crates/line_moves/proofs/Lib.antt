@@ -1,2 +1,2 @@
--- What the two functions share.
-pub mod OneLine
+-- A request whose numbers pass.
+pub mod TestedNumbers

@@ -1,21 +1,28 @@
--- What a line leaves of the moves: its triple behind those before it, or a refusal.
-use Rattle.std.specs.Prelude.{ℕ, List, ◌≡◌, T}
+-- What a line behind the first gives: the triple of the move that it states, or a refusal.
+use Rattle.std.specs.Prelude.{ℕ, Option, Result, MatchResult, List, [], ◌∷◌, ◌≡◌, T, unwrap_or}
 use Rattle.definitions.specs.Answers.{Reply, refused, number_of, Test, answered, passes_all}
+use Rattle.definitions.specs.Forms.{Form, line_tests, request_in}
+use Rattle.definitions.specs.Moves.{number_tests}
 use Rattle.definitions.specs.Plan.{bytes_of}
-use Rattle.definitions.specs.declared.Answer.{Answer}
-use Rattle.definitions.specs.declared.Answer.TheVariants.{Done, Refused}
+use Rattle.definitions.specs.declared.Refusal.{Refusal}
 use Rattle.definitions.specs.declared.Request.{Request}
-use Rattle.basics.specs.Outputs.{PutAt}
 
--- the tests are passed, and the triples of the requests are put
-pub record AllTaken (tests : List Test) (rs : List Request) (before : List ℕ) (at : ℕ) (after : List ℕ) (next : ℕ) : Type 0 where
-  pub passed : T (passes_all tests)
-  pub put : PutAt before at (bytes_of rs) after next
-
--- or one of them isn't
+-- tests of which one isn't passed
 pub record TurnedDown (tests : List Test) (number place : ℕ) : Type 0 where
   pub refusal : ◌≡◌ {A = Reply (Unit {0})} (answered tests tt) (refused number place)
 
-abbrev pub MovesTaken : List Test → List Request → List ℕ → ℕ → List ℕ → Answer → Type 0
-MovesTaken tests rs before at after (Done next) = AllTaken tests rs before at after next
-MovesTaken tests rs before at after (Refused x place) = TurnedDown tests (number_of x) place
+-- the tests are passed, and these are the triples of the requests; or one of them isn't. The line may stand at any place
+pub record Stated (tests : ℕ → List Test) (rs : List Request) (triples : List ℕ) : Type 0 where
+  pub passed : (place : ℕ) → T (passes_all (tests place))
+  pub triples_are : triples ≡ bytes_of rs
+
+abbrev pub Taken : {A : Type 0} → (ℕ → List Test) → List Request → (A → List ℕ) → Result A Refusal → Type 0
+Taken tests rs bytes r = MatchResult r (λ a. Stated tests rs (bytes a)) (λ x. (place : ℕ) → TurnedDown (tests place) (number_of x) place)
+
+-- a request, for n threads
+abbrev pub TripleTested : ℕ → Request → Result (List ℕ) Refusal → Type 0
+TripleTested n r = Taken (λ place. number_tests place n r) (r ∷ []) (λ triple. triple)
+
+-- a form; the note gives no triple
+abbrev pub LineTaken : ℕ → Form → Result (Option (List ℕ)) Refusal → Type 0
+LineTaken n f = Taken (λ place. line_tests place n f) (request_in f) (λ triple. unwrap_or triple [])

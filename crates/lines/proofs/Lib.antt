@@ -1,2 +1,3 @@
--- Laws of lines, which the proofs of the walk share.
+-- Laws of lines, and of loops over them.
 pub mod FirstLines
+pub mod Walks

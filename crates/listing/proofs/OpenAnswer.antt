@@ -4,34 +4,24 @@ use mathlib.Core.List.{List, [], ◌∷◌}
 use mathlib.Core.Path.{◌≡◌, sym, subst, ◌∙◌}
 use borrow.Author.Tests.{le-ltb}
 use lib.Dec.{ltb, lt→ltb}
-use Rattle.definitions.specs.Answers.{Reply, refused, number_of, Test, test, counted}
+use Rattle.definitions.specs.Answers.{Reply, refused, Test, test, counted}
 use Rattle.definitions.specs.OpenMoves.{open_entry}
 use Rattle.definitions.specs.Sound.{table_tests}
 use Rattle.definitions.specs.Table.{table_of}
-use Rattle.definitions.specs.declared.Refusal.{Refusal}
 use Rattle.basics.specs.Outputs.{Delivered}
-use Rattle.table.specs.TableTests.{examined_of}
-use Rattle.table.specs.declared.tests.Examined.TheVariants as examined
 use Rattle.theory.specs.Tables.{SoundBytes}
 use Rattle.listing.specs.Pairs.{open_pairs}
-use Rattle.listing.specs.declared.Mover.{Mover}
+use Rattle.listing.specs.declared.mover.Mover.{Mover}
 use Rattle.basics.proofs.Outputs.{turned_down, with_tests}
-use Rattle.basics.proofs.Replies.{failed, behind, in_front_lem, pass, no_test}
+use Rattle.basics.proofs.Replies.{failed, behind, pass, no_test}
 use Rattle.basics.proofs.Tests.{false-T}
-use Rattle.table.proofs.TableTests.{refusal_is, sound-passes}
+use Rattle.table.proofs.TableTests.{sound-passes}
 use Rattle.theory.proofs.Bytes.{sized_e}
 use Rattle.listing.proofs.OpenList.{open_list}
 
 module _ (bytes : List ℕ) (i : ℕ) (out : List ℕ) where
   thread_test : Test
   thread_test = test 3 (ltb i (table_of bytes).threads)
-
-  pub table-refused : (x : Refusal) → examined_of bytes ≡ examined.Refused x → Delivered (open_entry bytes i) out out (refused (number_of x) 0)
-  unfolding thread_test
-  table-refused x e =
-      let none : ℕ = 0 in
-      turned_down (open_entry bytes i) out none (number_of x) 0
-      (in_front_lem none none (table_tests bytes) (thread_test ∷ []) (number_of x) 0 (refusal_is none bytes x e))
 
   module _ (h : SoundBytes bytes) where
     pub no_thread : (table_of bytes).threads ≤ i → Delivered (open_entry bytes i) out out (refused 3 0)

@@ -16,7 +16,7 @@ use Rattle.definitions.specs.Sound.{sound}
 use Rattle.definitions.specs.Table.{Table}
 use Rattle.definitions.specs.Threads.{gather}
 use Rattle.listing.specs.Pairs.{open_targets, pairs, pairs_below, open_pairs}
-use Rattle.listing.specs.declared.Mover.{Mover}
+use Rattle.listing.specs.declared.mover.Mover.{Mover}
 use Rattle.basics.proofs.Replies.{accepted_is}
 use Rattle.basics.proofs.Tests.{T_true}
 

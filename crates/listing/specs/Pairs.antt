@@ -1,18 +1,12 @@
 -- The open moves of a thread by where it stands: each move is open with no target, with 0 alone, or with every thread.
 -- That these are the pairs of `open_moves` stands in proofs/OpenList.
-use Rattle.std.specs.Prelude.{ℕ, suc, ◌≤◌, Bool, cond, not, ◌&&◌, List, [], ◌∷◌, ◌≡◌}
-use Rattle.definitions.specs.Bounds.{most_threads, last_phase, last_move}
+use Rattle.std.specs.Prelude.{ℕ, suc, Bool, cond, not, ◌&&◌, List, [], ◌∷◌}
+use Rattle.definitions.specs.Bounds.{last_move}
 use Rattle.definitions.specs.Moves.{must_wait}
 use Rattle.definitions.specs.Phases.{has_move}
 use Rattle.definitions.specs.Threads.{gather}
-use Rattle.phase_moves.specs.MoveBits.{move_bits, targets_of}
-use Rattle.listing.specs.declared.Mover.{Mover}
-
--- what is known of where a thread of a sound table stands
-pub record MoverFits (at : Mover) : Type 0 where
-  pub few : at.threads ≤ most_threads
-  pub known : at.phase ≤ last_phase
-  pub bits : at.moves ≡ move_bits at.phase
+use Rattle.phase_moves.specs.MoveBits.{targets_of}
+use Rattle.listing.specs.declared.mover.Mover.{Mover}
 
 -- a move is open: the phase has it, and it need not wait for the mutex
 abbrev pub is_open : Mover → ℕ → Bool

@@ -1,120 +1,83 @@
 // The open moves of a thread, listed as byte pairs: counted first, then written.
 #![tactic(auto)]
 
+mod mover;
+
 ghost use Rattle.std.specs.Prelude.{◌≤◌, [], ◌≡◌, length};
-ghost use Rattle.definitions.specs.Answers.{answer_reply, counted};
-ghost use Rattle.definitions.specs.Bounds.{most_threads, last_move};
+ghost use Rattle.definitions.specs.Answers.{answer_reply, counted, number_of_move};
+ghost use Rattle.definitions.specs.Bounds.{most_threads};
 ghost use Rattle.definitions.specs.OpenMoves.{open_entry};
-ghost use Rattle.basics.specs.Outputs.{RoomAt, PutAt, Delivered};
-ghost use Rattle.listing.specs.Pairs.{MoverFits, is_open, open_targets, pairs, open_pairs};
+ghost use Rattle.basics.specs.Outputs.{Delivered};
+ghost use Rattle.listing.specs.Pairs.{pairs, open_pairs};
+ghost use Rattle.text.specs.Cursors.{HasRoom, Puts};
 
-use definitions::{Answer, LAST_MOVE, Refusal};
+use definitions::{Move, Refusal, Refused};
 use layout::{read_head, read_task};
-use table::Examined;
+use mover::Mover;
+use text::Output;
 
-// What is known of the thread that would move: N, its phase, the moves that the phase has, a bit each, and the mutex.
-#[derive(Clone, Copy)]
-struct Mover {
-    threads: usize,
-    phase: u8,
-    moves: u8,
-    mutex: u8,
-}
-
-// Whether a move is open.
-fn is_open(at: Mover, mv: u8) -> bool
-    requires { MoverFits at × (mv ≤ last_move) }
-    ensures { result ≡ is_open at mv }
+// How many bytes the pairs of all moves have.
+#[tactic(auto, using(crate::proofs::PairLists::targets_most), unfolding(crate::specs::Pairs::pairs_below))]
+fn count_open(mover: Mover) -> usize
+    ensures { result ≡ length (open_pairs mover) }
 {
-    phase_moves::has_bit(at.moves, mv) & !phase_moves::must_wait(at.phase, at.mutex, mv)
-}
-
-// With how many targets, from 0 on.
-#[tactic(auto, unfolding(crate::specs::Pairs::open_targets))]
-fn open_targets(at: Mover, mv: u8) -> usize
-    requires { MoverFits at × (mv ≤ last_move) }
-    ensures { result ≡ open_targets at mv }
-{
-    if !is_open(at, mv) {
-        return 0;
-    }
-    phase_moves::targets_of(at.threads, mv)
-}
-
-#[tactic(auto, unfolding(crate::specs::Pairs::pairs_below))]
-fn count_open(at: Mover) -> usize
-    requires { MoverFits at }
-    ensures { result ≡ length (open_pairs at) }
-{
-    let mut bytes: usize = 0;
-    for mv in 0..=LAST_MOVE {
-        bytes = bytes + 2 * open_targets(at, mv);
+    let mut bytes = 0;
+    for mv in Move::ALL {
+        bytes += 2 * mover.open_targets(mv);
     }
     bytes
 }
 
-// The pairs of one move, from a position on. The position behind them is answered.
+// The pairs of one move.
 #[tactic(auto, unfolding(crate::specs::Pairs::pairs))]
-fn put_pairs(out: &mut [u8], start: usize, mv: u8, targets: usize) -> usize
-    requires { RoomAt out.old start (pairs mv targets) × (targets ≤ most_threads) }
-    ensures { PutAt out.old start (pairs mv targets) out.new result }
+fn put_pairs(out: &mut Output, mv: Move, targets: usize)
+    requires { HasRoom out.old (pairs (number_of_move mv) targets) × (targets ≤ most_threads) }
+    ensures { Puts out.old (pairs (number_of_move mv) targets) out.new }
 {
-    let mut at = start;
     for target in 0..targets {
-        out[at] = mv;
-        out[at + 1] = target as u8;
-        at += 2;
+        out.put_byte(mv.into());
+        out.put_byte(target as u8);
     }
-    at
 }
 
 // The pairs of all moves.
 #[tactic(auto, unfolding(crate::specs::Pairs::pairs_below))]
-fn put_open(out: &mut [u8], at: Mover) -> usize
-    requires { MoverFits at × RoomAt out.old 0 (open_pairs at) }
-    ensures { PutAt out.old 0 (open_pairs at) out.new result }
+fn put_open(out: &mut Output, mover: Mover)
+    requires { HasRoom out.old (open_pairs mover) }
+    ensures { Puts out.old (open_pairs mover) out.new }
 {
-    let mut next: usize = 0;
-    for mv in 0..=LAST_MOVE {
-        let targets = open_targets(at, mv);
-        next = put_pairs(out, next, mv, targets);
+    for mv in Move::ALL {
+        put_pairs(out, mv, mover.open_targets(mv));
     }
-    next
 }
 
-fn list_open(out: &mut [u8], at: Mover) -> Answer
-    requires { MoverFits at }
-    ensures { Delivered (counted [] (open_pairs at)) out.old out.new (answer_reply result) }
+// Where they have room. The number of bytes is answered.
+fn list_open(out: &mut [u8], mover: Mover) -> Result<usize, Refused>
+    ensures { Delivered (counted [] (open_pairs mover)) out.old out.new (answer_reply result) }
 {
-    let bytes = count_open(at);
+    let bytes = count_open(mover);
     if out.len() < bytes {
-        return Answer::Refused(Refusal::NoRoom, 0);
+        return Err(Refusal::NoRoom.into());
     }
-    put_open(out, at);
-    Answer::Done(bytes)
+    put_open(&mut Output::new(out), mover);
+    Ok(bytes)
 }
 
-pub fn open_moves(table: &[u8], thread: u16, out: &mut [u8]) -> Answer
+// The open moves of a thread of a table. The number of bytes is answered.
+pub fn open_moves(table: &[u8], thread: u16, out: &mut [u8]) -> Result<usize, Refused>
     ensures { Delivered (open_entry table.now thread) out.old out.new (answer_reply result) }
 {
-    let examined = table::examine(table);
-    match examined {
-        Examined::Refused(x) => Answer::Refused(x, 0),
-        Examined::Sound(threads, _) => {
-            let i = thread as usize;
-            if threads <= i {
-                return Answer::Refused(Refusal::NoThread, 0);
-            }
-            let head = read_head(table);
-            let task = read_task(table, i);
-            let moves = phase_moves::moves_in(task.phase);
-            let at = Mover {
-                threads,
-                phase: task.phase,
-                moves,
-                mutex: head.mutex,
-            };
-            list_open(out, at)
-        }
+    let threads = table::examine(table)?.threads;
+    let thread = usize::from(thread);
+    if threads <= thread {
+        return Err(Refusal::NoThread.into());
     }
+    let phase = read_task(table, thread).phase;
+    let mover = Mover {
+        threads,
+        phase,
+        moves: phase_moves::moves_in(phase),
+        mutex: read_head(table).mutex,
+    };
+    list_open(out, mover)
 }

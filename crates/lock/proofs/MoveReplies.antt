@@ -4,26 +4,24 @@ use mathlib.Core.Bool.{not}
 use mathlib.Core.List.{List, []}
 use mathlib.Core.Path.{◌≡◌, sym, subst, ap, ◌∙◌}
 use lib.Dec.{T}
-use Rattle.definitions.specs.Answers.{Reply, accepted, refused, MoveAnswer, number_of, is_accepted, answered, passes_all}
+use Rattle.std.specs.Prelude.{Ok, Err}
+use Rattle.definitions.specs.Answers.{Reply, accepted, refused, MoveAnswer, number_of, number_of_move, is_accepted, answered, passes_all}
 use Rattle.definitions.specs.Moves.{request_tests, move_tests, move_answer, step_reply, reply_in, move_reply}
 use Rattle.definitions.specs.Sound.{table_tests}
 use Rattle.definitions.specs.Table.{byte_table, table_of}
-use Rattle.definitions.specs.declared.Outcome.TheVariants as outcome
+use Rattle.definitions.specs.declared.Move.{Move}
 use Rattle.definitions.specs.declared.Refusal.{Refusal}
 use Rattle.definitions.specs.declared.Request.{Request}
 use Rattle.apply.specs.MoveMade.{MoveMade, MoveTried, TestedTable, Accepting}
-use Rattle.requests.specs.RequestTests.{tested_reply}
-use Rattle.requests.specs.declared.Tested.{Tested}
-use Rattle.requests.specs.declared.Tested.TheVariants.{Passed, Refused}
 use Rattle.table.specs.TableTests.{examined_of}
-use Rattle.table.specs.declared.tests.Examined.TheVariants as examined
-use Rattle.basics.proofs.Replies.{accepted_is, behind, in_front_lem, pass}
+use Rattle.table.specs.declared.tests.Examined.{Examined}
+use Rattle.basics.proofs.Replies.{accepted_is, all-passed, behind, in_front_lem, pass}
 use Rattle.table.proofs.TableTests.{refusal_is, sound_is, sound-passes}
 use Rattle.theory.proofs.Storages.{refused-stays}
 
 -- ---- a request that is turned down
 
-turned_down : (bytes : List ℕ) (r : Request) (x : Refusal) → move_reply bytes r ≡ refused (number_of x) 0 → MoveMade bytes r bytes (outcome.Refused x)
+turned_down : (bytes : List ℕ) (r : Request) (x : Refusal) → move_reply bytes r ≡ refused (number_of x) 0 → MoveMade bytes r bytes (Err x)
 turned_down bytes r x e =
     record {
       reply = sym e;
@@ -31,42 +29,41 @@ turned_down bytes r x e =
     }
 
 -- by the table's own tests
-pub table-refused : (bytes : List ℕ) (r : Request) (x : Refusal) → examined_of bytes ≡ examined.Refused x → MoveMade bytes r bytes (outcome.Refused x)
+pub table_refused : (bytes : List ℕ) (r : Request) (x : Refusal) → examined_of bytes ≡ Err x → MoveMade bytes r bytes (Err x)
 unfolding reply_in
-table-refused bytes r x e =
+table_refused bytes r x e =
     let answer = move_answer (table_of bytes) r in
     turned_down bytes r x (in_front_lem answer answer (table_tests bytes) (request_tests (table_of bytes) r) (number_of x) 0 (refusal_is answer bytes x e))
 
 -- by the request's
-pub request-refused : (bytes : List ℕ) (k : ℕ) (r : Request) (t : Tested) (x : Refusal) → TestedTable bytes k
-    → tested_reply t ≡ answered (request_tests (table_of bytes) r) tt → t ≡ Refused x
-    → MoveTried bytes r bytes (record { outcome = outcome.Refused x; forbidden = k })
+pub request_refused : (bytes : List ℕ) (k : ℕ) (r : Request) (x : Refusal) → TestedTable bytes k
+    → refused (number_of x) 0 ≡ answered (request_tests (table_of bytes) r) r.mv → MoveTried bytes r bytes (Err x)
 unfolding reply_in
-request-refused bytes k r t x h e d =
+request_refused bytes k r x h e =
     let answer = move_answer (table_of bytes) r in
     let tests = request_tests (table_of bytes) r in
     record {
       made =
           turned_down bytes r x
           (behind answer (table_tests bytes) tests (sound-passes bytes h.tested)
-          ∙ in_front_lem answer tt tests [] (number_of x) 0 (sym e ∙ ap tested_reply d));
-      count = h.count;
+          ∙ in_front_lem answer r.mv tests [] (number_of x) 0 (sym e));
+      count = tt;
     }
 
 -- ---- one that is accepted
 
-pub request-passed : (bytes : List ℕ) (k : ℕ) (r : Request) (t : Tested) → TestedTable bytes k
-    → tested_reply t ≡ answered (request_tests (table_of bytes) r) tt → t ≡ Passed → Accepting bytes k r
+pub request_passed : (bytes : List ℕ) (k : ℕ) (r : Request) (mv : Move) → TestedTable bytes k
+    → accepted (number_of_move mv) ≡ answered (request_tests (table_of bytes) r) r.mv → Accepting bytes k r mv
 unfolding step_reply
-request-passed bytes k r t h e d =
+request_passed bytes k r mv h e =
     let s = table_of bytes in
-    let tests : T (passes_all (request_tests s r)) =
-    subst T (ap is_accepted (sym (ap tested_reply d) ∙ e) ∙ accepted_is tt (request_tests s r)) tt in
+    let tests : T (passes_all (request_tests s r)) = subst T (ap is_accepted e ∙ accepted_is r.mv (request_tests s r)) tt in
     record {
       table = h;
       accepted = subst T (sym (accepted_is (move_answer s r) (move_tests s r))) (pass _ (request_tests s r) h.tested.is_sound tests);
+      same_move = let same = e ∙ all-passed r.mv (request_tests s r) tests in cc;
     }
 
 -- what `examine` found sound
-pub found-sound : (bytes : List ℕ) (n k : ℕ) → examined_of bytes ≡ examined.Sound n k → TestedTable bytes k
-found-sound bytes n k e = let f = sound_is bytes n k e in record { tested = f.tested; count = f.count }
+pub found_sound : (bytes : List ℕ) (found : Examined) → examined_of bytes ≡ Ok found → TestedTable bytes found.forbidden
+found_sound bytes found e = let f = sound_is bytes found e in record { tested = f.tested; count = f.count }

@@ -6,20 +6,20 @@ ghost use Rattle.definitions.specs.Table.{table_of};
 ghost use Rattle.requests.specs.RequestTests.{tested_reply};
 ghost use Rattle.theory.specs.Tables.{SoundBytes};
 
-use definitions::{Refusal, Request};
+use definitions::{Move, Refusal, Request};
 use layout::{read_head, read_task};
-use requests::Tested;
+use requests::test_move;
 
-#[tactic(auto, unfolding(definitions::specs::Answers::answered))]
-pub fn test_request(table: &[u8], request: Request) -> Tested
+#[tactic(auto, using(theory::proofs::Bytes::sized_e), unfolding(definitions::specs::Answers::answered))]
+pub fn test_request(table: &[u8], request: Request) -> Result<Move, Refusal>
     requires { SoundBytes table.now }
-    ensures { tested_reply result ≡ answered (request_tests (table_of table.now) request) tt }
+    ensures { tested_reply result ≡ answered (request_tests (table_of table.now) request) request.mv }
 {
     let head = read_head(table);
     let thread = request.thread as usize;
     if head.threads as usize <= thread {
-        return Tested::Refused(Refusal::NoThread);
+        return Err(Refusal::NoThread);
     }
     let mover = read_task(table, thread);
-    requests::test_move(head, mover, request)
+    test_move(head, mover, request)
 }

@@ -3,10 +3,13 @@
 use Prim.Native.Nat.{ℕ, ◌+◌, ◌≤◌, ◌<◌}
 use native.Mathlib.Omega.{arith}
 use mathlib.Core.Bool.{Bool, cond}
-use mathlib.Core.Path.{◌≡◌, refl, sym, subst⁻¹, ap, ◌∙◌}
+use mathlib.Core.Path.{◌≡◌, sym, subst⁻¹, ap, ◌∙◌}
 use lib.Dec.{eqb}
+use Rattle.std.specs.Prelude.{Ok}
+use Rattle.definitions.specs.Answers.{number_of_move, accepted}
 use Rattle.definitions.specs.Moves.{effect}
 use Rattle.definitions.specs.Table.{Table, Storage, applied}
+use Rattle.definitions.specs.declared.Move.{Move}
 use Rattle.definitions.specs.declared.Request.{Request}
 use Rattle.views.specs.View.{all_forbidden_but, others_by, view_at, view_of, Decides}
 use Rattle.views.specs.declared.Decided.{Decided}
@@ -57,10 +60,10 @@ module _ {B : Type 0} (S : Storage B) (b : B) (k : ℕ) (h : TestedIn S b k) whe
 
   -- ---- what is left
 
-  module _ (keeps : Keeps S) (told : Told S) (r : Request) (a : AcceptingIn S b k r) (v : View) (d : Decided) (seen : v ≡ view_of s r) (rule : Decides v r.mv d) where
+  module _ (keeps : Keeps S) (told : Told S) (r : Request) (mv : Move) (a : AcceptingIn S b k r mv) (v : View) (d : Decided) (seen : v ≡ view_of s r) (rule : Decides v (number_of_move mv) d) where
     decided : MadeBy s r d.head d.mover d.forbidden
     decided =
-        let follows = rule s r a.accepted refl seen in
+        let follows = rule s r a.accepted a.same_move seen in
         let ws = (effect s r).writes in
         record {
           head = follows.head ∙ ap (λ (x : View). head_after x.head ws) seen;
@@ -70,7 +73,7 @@ module _ {B : Type 0} (S : Storage B) (b : B) (k : ℕ) (h : TestedIn S b k) whe
 
     pub one_move : (after : B) (k' : ℕ) → after ≡ put_back S b r.thread (subject_of s r) d.head d.mover d.forbidden
         → k' + cond (eqb v.subject.forbidden 1) 1 0 ≡ k + cond (eqb d.forbidden 1) 1 0
-        → MoveTriedIn S b r after (record { outcome = d.outcome; forbidden = k' })
+        → MoveTriedIn S b r after (Ok (record { outcome = d.outcome; forbidden = k' }))
     one_move after k' put new =
         let fits = h.tested.is_sized in
         let ok = accepts_i S b r fits a.accepted in
@@ -83,7 +86,7 @@ module _ {B : Type 0} (S : Storage B) (b : B) (k : ℕ) (h : TestedIn S b k) whe
         record {
           made =
               record {
-                reply = (rule s r a.accepted refl seen).says ∙ sym (accepted-reply S b r ok);
+                reply = ap accepted (rule s r a.accepted a.same_move seen).says ∙ sym (accepted-reply S b r ok);
                 table = left ∙ sym (accepted_stores S b r ok);
               };
           count = omega arith;

@@ -9,7 +9,7 @@ ghost use Rattle.moving.specs.Moved.{view_by};
 use definitions::{Head, Outcome, Task};
 use views::View;
 
-// The outcome of a move, and how many forbidden are 1 after it.
+// The outcome of an accepted move, and how many forbidden are 1 after it.
 #[derive(Clone, Copy)]
 pub struct Made {
     pub outcome: Outcome,
@@ -21,18 +21,16 @@ pub fn view_of(head: Head, mover: Task, number: usize, subject: Task, count: usi
     requires { (1 ≤ head.threads) × (head.threads ≤ most_threads) × (number < head.threads) }
     ensures { result ≡ view_by head mover number subject count }
 {
-    let threads = head.threads as usize;
-    let others = views::others_of(threads, count, subject.forbidden);
     View {
         head,
         mover,
         number: number as u8,
         subject,
-        others,
+        others: views::others_of(head.threads as usize, count, subject.forbidden),
     }
 }
 
-// How many forbidden are 1 after one of them changed.
+// How many forbidden are 1 after one of them changed. Most moves change none, and are spared the sums.
 pub fn recount(forbidden: usize, before: u8, after: u8) -> usize
     requires { (cond (eqb before 1) 1 0 ≤ forbidden) × (forbidden ≤ most_threads) }
     ensures { result + cond (eqb before 1) 1 0 ≡ forbidden + cond (eqb after 1) 1 0 }
@@ -40,8 +38,5 @@ pub fn recount(forbidden: usize, before: u8, after: u8) -> usize
     if before == after {
         return forbidden;
     }
-    let was = before == 1;
-    let is = after == 1;
-    let rest = forbidden - was as usize;
-    rest + is as usize
+    forbidden - usize::from(before == 1) + usize::from(after == 1)
 }

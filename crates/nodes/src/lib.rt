@@ -5,81 +5,67 @@ ghost use Rattle.std.specs.Prelude.{◌≡◌};
 ghost use Rattle.definitions.specs.Answers.{answer_reply};
 ghost use Rattle.definitions.specs.Nodes.{nodes_entry};
 ghost use Rattle.definitions.specs.Phases.{node_of};
-ghost use Rattle.definitions.specs.Table.{table_of};
 ghost use Rattle.basics.specs.Outputs.{Delivered};
-ghost use Rattle.theory.specs.Tables.{SoundBytes};
+ghost use Rattle.nodes.specs.NodeCodes.{code_of_node};
 
-use definitions::{Answer, Refusal};
+use definitions::{Refusal, Refused};
 use layout::read_task;
-use table::Examined;
 
 // "node codes 0 to 10 in this order"
-const FREE: u8 = 0;
+#[derive(Clone, Copy)]
+enum Node {
+    Free = 0,
+    Es = 1,
+    Loe = 2,
+    Shared = 3,
+    Ls = 4,
+    Ee = 5,
+    Saf = 6,
+    Los = 7,
+    Exclusive = 8,
+    Le = 9,
+    Oe = 10,
+}
 
-const ES: u8 = 1;
+impl From<Node> for u8 {
+    ghost from_gives = { λ node code. code ≡ code_of_node node };
 
-const LOE: u8 = 2;
-
-const SHARED: u8 = 3;
-
-const LS: u8 = 4;
-
-const EE: u8 = 5;
-
-const SAF: u8 = 6;
-
-const LOS: u8 = 7;
-
-const EXCLUSIVE: u8 = 8;
-
-const LE: u8 = 9;
-
-const OE: u8 = 10;
-
-// The node of a phase.
-#[tactic(auto, unfolding(definitions::specs::Phases::rows, definitions::specs::Threads::every, definitions::specs::Threads::among))]
-fn node_of(phase: u8) -> u8
-    ensures { result ≡ node_of phase }
-{
-    match phase {
-        1..=4 | 18 => ES,
-        5 => LOE,
-        6 => SHARED,
-        7..=8 => LS,
-        9 => EE,
-        10..=12 => SAF,
-        13 => LOS,
-        14 => EXCLUSIVE,
-        15 => LE,
-        16..=17 => OE,
-        _ => FREE,
+    fn from(node: Node) -> u8 {
+        node as u8
     }
 }
 
-// The nodes of a sound table's threads.
-#[tactic(auto, unfolding(definitions::specs::Nodes::nodes_of))]
-fn put_nodes(table: &[u8], threads: usize, out: &mut [u8]) -> Answer
-    requires { SoundBytes table.now × (threads ≡ (table_of table.now).threads) }
-    ensures { Delivered (nodes_entry table.now) out.old out.new (answer_reply result) }
+// The node of a phase: one match on the phase byte with these ranges, the form that the scope paper names.
+#[tactic(auto, unfolding(definitions::specs::Phases::rows, definitions::specs::Threads::every, definitions::specs::Threads::among))]
+fn node_of(phase: u8) -> Node
+    ensures { code_of_node result ≡ node_of phase }
 {
-    let room = out.len();
-    if room < threads {
-        return Answer::Refused(Refusal::NoRoom, 0);
+    match phase {
+        1..=4 | 18 => Node::Es,
+        5 => Node::Loe,
+        6 => Node::Shared,
+        7..=8 => Node::Ls,
+        9 => Node::Ee,
+        10..=12 => Node::Saf,
+        13 => Node::Los,
+        14 => Node::Exclusive,
+        15 => Node::Le,
+        16..=17 => Node::Oe,
+        _ => Node::Free,
     }
-    for i in 0..threads {
-        let task = read_task(table, i);
-        out[i] = node_of(task.phase);
-    }
-    Answer::Done(threads)
 }
 
 // One byte a thread. Their number is answered.
-pub fn nodes(table: &[u8], out: &mut [u8]) -> Answer
+#[tactic(auto, unfolding(definitions::specs::Nodes::nodes_of))]
+pub fn nodes(table: &[u8], out: &mut [u8]) -> Result<usize, Refused>
     ensures { Delivered (nodes_entry table.now) out.old out.new (answer_reply result) }
 {
-    let examined = table::examine(table);
-    match examined {
-        Examined::Sound(threads, _) => put_nodes(table, threads, out),
-        Examined::Refused(refusal) => Answer::Refused(refusal, 0),
+    let threads = table::examine(table)?.threads;
+    if out.len() < threads {
+        return Err(Refusal::NoRoom.into());
     }
+    for (thread, node) in out[..threads].iter_mut().enumerate() {
+        *node = node_of(read_task(table, thread).phase).into();
+    }
+    Ok(threads)
 }

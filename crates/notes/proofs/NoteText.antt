@@ -2,17 +2,18 @@
 use Prim.Native.Nat.{ℕ, suc, ◌+◌, ◌-◌, ◌≤◌, ◌<◌}
 use native.Mathlib.Numerals.{add-one}
 use native.Mathlib.Omega.{arith}
-use mathlib.Core.Bool.{Bool, true, false, cond, ◌&&◌, ◌||◌, and-false, false≢true}
+use mathlib.Core.Bool.{Bool, true, false, cond, ◌&&◌, and-false}
 use mathlib.Core.List.{List, [], ◌∷◌, ◌++◌}
-use mathlib.Core.Path.{◌≡◌, refl, sym, subst, ap, ◌∙◌}
+use mathlib.Core.Path.{◌≡◌, refl, subst, ap, ◌∙◌}
 use borrow.Author.Tests.{ltb-true, ltb-false, le-leb, lt-leb, eqb-true, eq-eqb, ne_eqb}
-use lib.Dec.{leb, eqb, eqb→eq}
+use lib.Dec.{leb, ltb, eqb, eqb→eq}
 use lib.ListN.{length, take, get_or}
 use lib.Seq.{take-suc, take_all}
+use Rattle.std.specs.Prelude.{Some, None}
 use Rattle.definitions.specs.Bounds.{most_depth}
 use Rattle.definitions.specs.Forms.{occurrences, note, bad, note_fits, note_form}
 use Rattle.definitions.specs.Threads.{every, between}
-use Rattle.notes.specs.Brackets.{may_stand}
+use Rattle.notes.specs.Brackets.{depth_behind}
 use Rattle.basics.proofs.Quantifiers.{every_at}
 use Rattle.basics.proofs.Tests.{T_false, false-T, same_test, no_both, not_i, eq_T}
 
@@ -25,10 +26,14 @@ every_more f n h e = rw (add-one, h) e
 every-fails : (f : ℕ → Bool) (n k : ℕ) → k < n → f k ≡ false → every n f ≡ false
 every-fails f n k l e = T_false (every n f) (not_i (every n f) (λ t. no_both (f k) (every_at f n t k l) (false-T (f k) e)))
 
--- neither of two
-or_none : (a b : Bool) → (a || b) ≡ false → (a ≡ false) × (b ≡ false)
-or_none false b h = (refl, h)
-or_none true b h = absurd (false≢true (sym h))
+-- a value where a test holds
+some_if : (b : Bool) (x y : ℕ) → cond b (Some x) None ≡ Some y → (b ≡ true) × (x ≡ y)
+some_if true x y e = (refl, cc)
+some_if false x y e = cc
+
+none_if : (b : Bool) (x : ℕ) → cond b (Some x) None ≡ None → b ≡ false
+none_if true x e = cc
+none_if false x e = refl
 
 -- ---- the depth
 
@@ -54,13 +59,6 @@ printable xs k = between 32 126 (get_or xs k 0)
 -- the depth before it is from 0 to the deepest
 abbrev pub nested : List ℕ → ℕ → Bool
 nested xs k = between (occurrences 41 (take k xs)) (occurrences 41 (take k xs) + most_depth) (occurrences 40 (take k xs))
-
--- a bracket, and one that may stand at a depth
-abbrev pub bracket : List ℕ → ℕ → Bool
-bracket xs k = eqb (get_or xs k 0) 40 || eqb (get_or xs k 0) 41
-
-abbrev pub stands : List ℕ → ℕ → ℕ → Bool
-stands xs k depth = may_stand depth (get_or xs k 0)
 
 nested_i : (xs : List ℕ) (n depth : ℕ) → Depth xs n depth → depth ≤ most_depth → nested xs n ≡ true
 nested_i xs n depth h l =
@@ -103,51 +101,51 @@ module _ (xs : List ℕ) (n depth : ℕ) (b : Behind xs n depth) (l : n < length
         deep = h;
       }
 
-  -- no bracket
-  pub behind-plain : printable xs n ≡ true → bracket xs n ≡ false → Behind xs (n + 1) depth
-  behind-plain e h =
-      let none = or_none (eqb (get_or xs n 0) 40) (eqb (get_or xs n 0) 41) h in
-      more depth e (omega (arith, opens_more false none.0, closes_more false none.1, b.is_depth)) b.deep
+  -- it opens, it closes, or it is no bracket
+  which : (P : Type 0) → (eqb (get_or xs n 0) 40 ≡ true → eqb (get_or xs n 0) 41 ≡ false → P) → (eqb (get_or xs n 0) 40 ≡ false → eqb (get_or xs n 0) 41 ≡ true → P)
+      → (eqb (get_or xs n 0) 40 ≡ false → eqb (get_or xs n 0) 41 ≡ false → P) → P
+  which P f g h = go (eqb (get_or xs n 0) 40) (eqb (get_or xs n 0) 41) refl refl
+    where
+      go : (x y : Bool) → eqb (get_or xs n 0) 40 ≡ x → eqb (get_or xs n 0) 41 ≡ y → P
+      go true true o c = absurd (let p = eqb-true (get_or xs n 0) 40 o in let q = eqb-true (get_or xs n 0) 41 c in omega arith)
+      go true false o c = f o c
+      go false true o c = g o c
+      go false false o c = h o c
 
-  module _ (h : bracket xs n ≡ true) where
-    -- it opens, or it closes
-    which : (P : Type 0) → (eqb (get_or xs n 0) 40 ≡ true → eqb (get_or xs n 0) 41 ≡ false → P) → (eqb (get_or xs n 0) 40 ≡ false → eqb (get_or xs n 0) 41 ≡ true → P) → P
-    which P f g = go (eqb (get_or xs n 0) 40) refl
-      where
-        go : (x : Bool) → eqb (get_or xs n 0) 40 ≡ x → P
-        go true e = f e (let q = eqb-true (get_or xs n 0) 40 e in ne_eqb (get_or xs n 0) 41 (λ z. omega arith))
-        go false e = g e (sym (ap (λ (y : Bool). y || eqb (get_or xs n 0) 41) e) ∙ h)
+  -- a byte that may stand there
+  pub behind_more : printable xs n ≡ true → (next : ℕ) → depth_behind depth (get_or xs n 0) ≡ Some next → Behind xs (n + 1) next
+  behind_more e next q =
+      which (Behind xs (n + 1) next)
+      (λ o c.
+      let opened = some_if (ltb depth most_depth) (depth + 1) next (rw o at q) in
+      let below = ltb-true depth most_depth opened.0 in
+      more next e (omega (arith, opens_more true o, closes_more false c, b.is_depth)) (omega arith))
+      (λ o c.
+      let closed = some_if (ltb 0 depth) (depth - 1) next (rw (o, c) at q) in
+      let above = ltb-true 0 depth closed.0 in
+      more next e (omega (arith, opens_more false o, closes_more true c, b.is_depth)) (omega (arith, b.deep)))
+      (λ o c.
+      let plain : Some depth ≡ Some next = rw (o, c) at q in
+      let same : depth ≡ next = cc in
+      more next e (omega (arith, opens_more false o, closes_more false c, b.is_depth)) (omega (arith, b.deep)))
 
-    -- a bracket that may stand there
-    pub behind_bracket : printable xs n ≡ true → stands xs n depth ≡ true → (next : ℕ)
-        → next + cond (eqb (get_or xs n 0) 40) 0 1 ≡ depth + cond (eqb (get_or xs n 0) 40) 1 0 → Behind xs (n + 1) next
-    behind_bracket e s next q =
-        which (Behind xs (n + 1) next)
-        (λ o c.
-        let below = ltb-true depth most_depth (rw o at s) in
-        let steps : next + 0 ≡ depth + 1 = rw o at q in
-        more next e (omega (arith, opens_more true o, closes_more false c, b.is_depth)) (omega arith))
-        (λ o c.
-        let above = ltb-true 0 depth (rw o at s) in
-        let steps : next + 1 ≡ depth + 0 = rw o at q in
-        more next e (omega (arith, opens_more false o, closes_more true c, b.is_depth)) (omega (arith, b.deep)))
-
-    -- one that may not
-    pub note_deep : stands xs n depth ≡ false → note_fits xs ≡ false
-    unfolding note_fits
-    note_deep s =
-        rw (every-fails (nested xs) (suc (length xs)) (n + 1) (omega arith) outside) (and-false (every (length xs) (printable xs)))
-      where
-        outside : nested xs (n + 1) ≡ false
-        outside =
-            which (nested xs (n + 1) ≡ false)
-            (λ o c.
-            let full = ltb-false depth most_depth (rw o at s) in
-            rw (lt-leb (occurrences 40 (take (n + 1) xs)) (occurrences 41 (take (n + 1) xs) + most_depth) (omega (arith, opens_more true o, closes_more false c, b.is_depth)))
-            (and-false (leb (occurrences 41 (take (n + 1) xs)) (occurrences 40 (take (n + 1) xs)))))
-            (λ o c.
-            let none = ltb-false 0 depth (rw o at s) in
-            rw (lt-leb (occurrences 41 (take (n + 1) xs)) (occurrences 40 (take (n + 1) xs)) (omega (arith, opens_more false o, closes_more true c, b.is_depth))))
+  -- one that may not
+  pub note_deep : depth_behind depth (get_or xs n 0) ≡ None → note_fits xs ≡ false
+  unfolding note_fits
+  note_deep q =
+      rw (every-fails (nested xs) (suc (length xs)) (n + 1) (omega arith) outside) (and-false (every (length xs) (printable xs)))
+    where
+      outside : nested xs (n + 1) ≡ false
+      outside =
+          which (nested xs (n + 1) ≡ false)
+          (λ o c.
+          let full = ltb-false depth most_depth (none_if (ltb depth most_depth) (depth + 1) (rw o at q)) in
+          rw (lt-leb (occurrences 40 (take (n + 1) xs)) (occurrences 41 (take (n + 1) xs) + most_depth) (omega (arith, opens_more true o, closes_more false c, b.is_depth)))
+          (and-false (leb (occurrences 41 (take (n + 1) xs)) (occurrences 40 (take (n + 1) xs)))))
+          (λ o c.
+          let none = ltb-false 0 depth (none_if (ltb 0 depth) (depth - 1) (rw (o, c) at q)) in
+          rw (lt-leb (occurrences 41 (take (n + 1) xs)) (occurrences 40 (take (n + 1) xs)) (omega (arith, opens_more false o, closes_more true c, b.is_depth))))
+          (λ o c. let plain : Some depth ≡ None = rw (o, c) at q in cc)
 
 -- the text ends
 pub note_end : (xs : List ℕ) (n depth : ℕ) → Behind xs n depth → length xs ≤ n → eqb depth 0 ≡ note_fits xs

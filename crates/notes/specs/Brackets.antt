@@ -1,7 +1,9 @@
 -- The round brackets of a note's text.
-use Rattle.std.specs.Prelude.{ℕ, Bool, cond, ltb, eqb}
+use Rattle.std.specs.Prelude.{ℕ, ◌+◌, ◌-◌, Option, Some, None, cond, ltb, eqb}
 use Rattle.definitions.specs.Bounds.{most_depth}
 
--- a bracket that may stand at a depth: one that opens where the depth is below the deepest, or one that closes what is open
-abbrev pub may_stand : ℕ → ℕ → Bool
-may_stand depth c = cond (eqb c 40) (ltb depth most_depth) (ltb 0 depth)
+-- the depth behind a byte at a depth, if it may stand there: a bracket opens where the depth is below the deepest, or closes what is open
+abbrev pub depth_behind : ℕ → ℕ → Option ℕ
+depth_behind depth c =
+    cond (eqb c 40) (cond (ltb depth most_depth) (Some (depth + 1)) None)
+    (cond (eqb c 41) (cond (ltb 0 depth) (Some (depth - 1)) None) (Some depth))

@@ -5,7 +5,7 @@ ghost use Rattle.std.specs.Prelude.{◌+◌, ◌≤◌, true, cond, ◌||◌, �
 ghost use Rattle.definitions.specs.Bounds.{most_depth};
 ghost use Rattle.definitions.specs.Forms.{note, bad, note_fits, note_form};
 ghost use Rattle.definitions.specs.Threads.{between};
-ghost use Rattle.notes.specs.Brackets.{may_stand};
+ghost use Rattle.notes.specs.Brackets.{depth_behind};
 
 use definitions::MOST_DEPTH;
 
@@ -13,55 +13,34 @@ use definitions::MOST_DEPTH;
 fn is_printable(c: u8) -> bool
     ensures { result ≡ between 32 126 c }
 {
-    (32 <= c) & (c <= 126)
+    matches!(c, 32..=126)
 }
 
-// A round bracket; no other byte changes the depth.
-fn is_bracket(c: u8) -> bool
-    ensures { result ≡ (eqb c 40 || eqb c 41) }
+// The depth behind a byte at a depth, unless the byte is a bracket that may not stand there.
+fn depth_behind(depth: u8, c: u8) -> Option<u8>
+    ensures { result ≡ depth_behind depth c }
 {
-    (c == b'(') | (c == b')')
-}
-
-// A bracket that a text may have at a depth.
-fn may_stand(depth: u8, c: u8) -> bool
-    ensures { result ≡ may_stand depth c }
-{
-    if c == b'(' {
-        return depth < MOST_DEPTH;
+    match c {
+        b'(' if depth < MOST_DEPTH => Some(depth + 1),
+        b'(' => None,
+        b')' => depth.checked_sub(1),
+        _ => Some(depth),
     }
-    0 < depth
 }
 
-// The depth behind a bracket.
-fn depth_after(depth: u8, c: u8) -> u8
-    requires { (depth ≤ most_depth) × (may_stand depth c ≡ true) }
-    ensures { result + cond (eqb c 40) 0 1 ≡ depth + cond (eqb c 40) 1 0 }
-{
-    if c == b'(' {
-        return depth + 1;
-    }
-    depth - 1
-}
-
-// The text of a note, without the note's own brackets. The depth is tested where it changes.
+// The text of a note, without the note's own brackets.
 fn note_fits(text: &[u8]) -> bool
     ensures { result ≡ note_fits text.now }
 {
-    let mut depth: u8 = 0;
-    let mut i: usize = 0;
-    while i < text.len() {
-        let c = text[i];
-        i += 1;
+    let mut depth = 0;
+    for &c in text {
         if !is_printable(c) {
             return false;
         }
-        if is_bracket(c) {
-            if !may_stand(depth, c) {
-                return false;
-            }
-            depth = depth_after(depth, c);
-        }
+        let Some(next) = depth_behind(depth, c) else {
+            return false;
+        };
+        depth = next;
     }
     depth == 0
 }
@@ -71,13 +50,8 @@ fn note_fits(text: &[u8]) -> bool
 pub fn ends_note(part: &[u8]) -> bool
     ensures { cond result note bad ≡ note_form part.now }
 {
-    let size = part.len();
-    if size == 0 {
-        return false;
+    match part {
+        [text @ .., b')'] => note_fits(text),
+        _ => false,
     }
-    let end = size - 1;
-    if part[end] != b')' {
-        return false;
-    }
-    note_fits(&part[..end])
 }

@@ -1,2 +1,2 @@
--- What the first line's reader and its callers use.
+-- What the first line's callers use.
 pub mod FirstLines

@@ -1,35 +1,28 @@
 // The first line of a script, for the run and for reading alike.
 #![tactic(auto)]
 
-ghost use Rattle.std.specs.Prelude.{◌≤◌, length};
-ghost use Rattle.definitions.specs.Bounds.{most_script};
-ghost use Rattle.opening.specs.FirstLine.{FirstAt};
+ghost use Rattle.std.specs.Prelude.{MatchOption};
+ghost use Rattle.lines.specs.Lines.{lines_left};
+ghost use Rattle.opening.specs.FirstLine.{ThreadsFirst, NoThreads};
 
 use act_forms::Form;
-use forms::read_form;
-use lines::{Next, next_line};
+use forms::read_line;
+use lines::Lines;
 
-// What the first line says.
-#[derive(Clone, Copy)]
-pub enum First {
-    // The number of threads, and the place where the second line begins.
-    Threads { count: u16, start: usize },
-    // Anything else, or there is no line.
-    Bad,
+// A first line that says the number of threads, and the lines behind it.
+#[derive(Drop)]
+pub struct First<'a> {
+    pub count: u16,
+    pub rest: Lines<'a>,
 }
 
-pub fn first_line(script: &[u8]) -> First
-    requires { length script.now ≤ most_script }
-    ensures { FirstAt script.now result }
+// There is none where the first line says anything else, or there is no line.
+pub fn first_line(script: &[u8]) -> Option<First<'_>>
+    ensures { MatchOption result (NoThreads script.now) (λ f. ThreadsFirst script.now f.count (lines_left f.rest)) }
 {
-    let next = next_line(script, 0);
-    let Next::Line(end) = next else {
-        return First::Bad;
+    let mut lines = Lines::new(script);
+    let Form::Threads(count) = read_line(lines.next()?)? else {
+        return None;
     };
-    let form = read_form(&script[0..end]);
-    let Form::Threads(count) = form else {
-        return First::Bad;
-    };
-    let start = end + 1;
-    First::Threads { count, start }
+    Some(First { count, rest: lines })
 }

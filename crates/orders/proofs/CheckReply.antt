@@ -2,10 +2,10 @@
 use Prim.Native.Nat.{ℕ, ◌%◌, ◌≤◌, ◌<◌}
 use native.Mathlib.Nat.{mul-mod_right}
 use native.Mathlib.Omega.{arith}
-use mathlib.Core.Bool.{Bool, true, false}
+use mathlib.Core.Bool.{Bool, true, false, cond}
 use mathlib.Core.List.{List, [], ◌∷◌}
 use mathlib.Core.Logic.{◌↔◌}
-use mathlib.Core.Path.{◌≡◌, refl, sym, subst, ap, ◌∙◌}
+use mathlib.Core.Path.{◌≡◌, sym, subst, ap, ◌∙◌}
 use lib.Dec.{T}
 use lib.ListN.{length}
 use Rattle.definitions.specs.Answers.{accepted, refused, test_at, answered, passes_all}
@@ -16,7 +16,7 @@ use Rattle.orders.specs.Histories.{Passes, FirstBad}
 use Rattle.basics.proofs.Quantifiers.{every_at}
 use Rattle.basics.proofs.Replies.{all-passed}
 use Rattle.basics.proofs.TestLists.{answered_e, gathered, failed_first}
-use Rattle.history.proofs.CheckLaws.{formed, bad-size, bad_form, good_form, tests_e, tests_i}
+use Rattle.history.proofs.CheckLaws.{formed, tests_e, tests_i}
 use Rattle.theory.proofs.Lengths.{pairs-length}
 
 -- ---- accepted
@@ -73,17 +73,11 @@ first_bad n h number place e =
 
 -- a refusal by 9 or above is the first bad pair's
 pub check-refused : (n : ℕ) (bytes : List ℕ) (number place : ℕ) → check_reply n bytes ≡ refused number place → 9 ≤ number → FirstBad n (pairs_of bytes) number place
-unfolding check_reply
-check-refused n bytes number place e l = by (count_fits n) (formed n bytes) refl refl
+unfolding check_reply answered
+check-refused n bytes number place e l = by (count_fits n) (formed n bytes) e
   where
-    count : ℕ
-    count = length (pairs_of bytes)
-
     -- not by 1 or 8
-    low : (k : ℕ) → k < 9 → refused k 0 ≡ answered (check_tests n bytes) count → FirstBad n (pairs_of bytes) number place
-    low k few d = absurd (let z : k ≡ number = cc in omega arith)
-
-    by : (a b : Bool) → count_fits n ≡ a → formed n bytes ≡ b → FirstBad n (pairs_of bytes) number place
-    by false b p q = low 1 (omega arith) (bad-size n bytes count p)
-    by true false p q = low 8 (omega arith) (bad_form n bytes count p q)
-    by true true p q = first_bad n (pairs_of bytes) number place (good_form n bytes count p q ∙ e)
+    by : (a b : Bool) → cond a (cond b (answered (pairs_tests n bytes) (length (pairs_of bytes))) (refused 8 0)) (refused 1 0) ≡ refused number place → FirstBad n (pairs_of bytes) number place
+    by false b r = absurd (let z : 1 ≡ number = cc in omega arith)
+    by true false r = absurd (let z : 8 ≡ number = cc in omega arith)
+    by true true r = first_bad n (pairs_of bytes) number place r

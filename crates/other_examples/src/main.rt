@@ -5,7 +5,7 @@
 
 ghost use Rattle.std.specs.Prelude.{◌≤◌};
 
-use example_lines::{say, say_answer, say_bytes, show_check, show_move};
+use example_lines::{say_answer, say_bytes, show_check, show_move};
 use std::io;
 
 // The longest history that is checked, and a pair more.
@@ -20,10 +20,10 @@ fn tables(rt: &HostRuntime) -> io::Result<()> {
     let mut most = [0u8; 606];
     let answer = wospinzo::wospinzo_fresh(200, &mut most);
     say_answer(rt, b"N of 200", answer)?;
-    say(rt, b"\n")?;
+    println!(rt;)?;
     let answer = wospinzo::wospinzo_fresh(201, &mut most);
     say_answer(rt, b"N of 201", answer)?;
-    say(rt, b"\n")
+    println!(rt;)
 }
 
 // Tables that no moves leave, with every thread in 3, 4 and 18, and one that they leave, with a thread elsewhere.
@@ -64,9 +64,8 @@ fn scripts(rt: &HostRuntime) -> io::Result<()> {
 
 // Rounds of thread 0, 1 to 4 again and again: permitted as far as they go.
 fn fill_rounds(history: &mut [u8]) {
-    let pairs = history.len() / 2;
-    for k in 0..pairs {
-        history[2 * k + 1] = (k % 4) as u8 + 1;
+    for (k, pair) in history.chunks_exact_mut(2).enumerate() {
+        pair[1] = (k % 4) as u8 + 1;
     }
 }
 

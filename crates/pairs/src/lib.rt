@@ -7,35 +7,27 @@ ghost use Rattle.definitions.specs.Answers.{answered, answer_reply};
 ghost use Rattle.definitions.specs.Bounds.{most_threads};
 ghost use Rattle.definitions.specs.PlainLock.{pairs_of, pairs_tests};
 
-use definitions::Answer;
-use plain_lock::{Standing, Verdict, judge};
+use definitions::Refused;
+use plain_lock::{Standing, judge};
 
 // One pass over the pairs. Any byte is an index of the 256 places, so a thread's place is looked up before the thread is judged;
 // those below N are the only ones written.
-pub fn check_pairs(threads: u16, history: &[u8]) -> Answer
+pub fn check_pairs(threads: u16, history: &[u8]) -> Result<usize, Refused>
     requires { threads ≤ most_threads }
     ensures { answer_reply result ≡ answered (pairs_tests threads history.now) (length (pairs_of history.now)) }
 {
     let mut places = [0u8; 256];
     let mut inside: u32 = 0;
-    let events = history.len() / 2;
-    let mut k: usize = 0;
-    while k < events {
-        let at = 2 * k;
-        let thread = history[at];
-        let code = history[at + 1];
-        let t = thread as usize;
-        let place = places[t];
-        let before = Standing { place, inside };
-        let verdict = judge(threads, thread as u16, code as u16, before);
-        match verdict {
-            Verdict::Fits(after) => {
-                places[t] = after.place;
-                inside = after.inside;
-            }
-            Verdict::Bad(refusal) => return Answer::Refused(refusal, k),
-        }
-        k += 1;
+    for (k, pair) in history.chunks_exact(2).enumerate() {
+        let thread = pair[0] as usize;
+        let before = Standing {
+            place: places[thread],
+            inside,
+        };
+        let judged = judge(threads, pair[0] as u16, pair[1] as u16, before);
+        let after = judged.map_err(|refusal| refusal.at(k))?;
+        places[thread] = after.place;
+        inside = after.inside;
     }
-    Answer::Done(events)
+    Ok(history.len() / 2)
 }

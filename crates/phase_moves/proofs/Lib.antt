@@ -1,2 +1,3 @@
--- Which moves a phase has, as bits.
+-- The moves in the order of their numbers, and which moves a phase has, as bits.
+pub mod Moves
 pub mod Bits

@@ -1,6 +1,7 @@
 -- The plain lock read pair by pair: `permitted`, which speaks of prefixes, as a recursion over the list (`permitted_is`); which event is next at a place;
 -- the places after one pair more, and in an array; how many threads are at a place while one moves.
-use Rattle.std.proofs.Common.{◌≡◌, ℕ, zero, suc, ◌+◌, ◌<◌, ◌≤◌, Bool, cond, not, ◌&&◌, ◌||◌, T, eqb, ◌⊎◌, List, [], ◌∷◌, ◌++◌, length, get_or, take, set, sym, refl, ap, ◌∙◌, subst, inl, inr, add-one, arith, eqb→eq, get_or-set_other, take-suc, get_or-set_same, ne_eqb}
+use Rattle.std.proofs.Common.{◌≡◌, ℕ, zero, suc, ◌+◌, ◌<◌, ◌≤◌, Bool, cond, not, ◌&&◌, ◌||◌, T, eqb, ◌⊎◌, List, [], ◌∷◌, ◌++◌, length, get_or, take, set, sym, refl, ap, ◌∙◌, subst, inl, inr}
+use Rattle.std.proofs.Common.{add-one, arith, eqb→eq, get_or-set_other, take-suc, get_or-set_same, ne_eqb}
 use mathlib.Core.Bool.{and-true, and_assoc}
 use mathlib.Core.Path.{fun_ext}
 use Rattle.definitions.specs.Answers.{passes_all}

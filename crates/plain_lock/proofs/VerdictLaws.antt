@@ -1,6 +1,6 @@
 -- What `judge` promises of its verdict (`VerdictOf`), read by the plain lock's tests: a bad verdict is the first test that fails (`bad_verdict`), and one that fits passes all and leaves
 -- the place and the total of the places after the event (`fit_verdict`). The check's loop and the watcher both go by these.
-use Rattle.std.proofs.Common.{◌≡◌, ℕ, ◌<◌, ◌≤◌, ◌&&◌, T, ltb, List, [], ◌∷◌, sym, ap, ◌∙◌, subst, ltb→lt}
+use Rattle.std.proofs.Common.{Result, Ok, Err, ◌≡◌, ℕ, ◌<◌, ◌≤◌, ◌&&◌, T, ltb, List, [], ◌∷◌, sym, ap, ◌∙◌, subst, ltb→lt}
 use Rattle.definitions.specs.Answers.{number_of, refused, Test, test_at, answered, passes_all}
 use Rattle.definitions.specs.Bounds.{most_threads, first_event, last_event}
 use Rattle.definitions.specs.PlainLock.{Pair, Places, place_after, advanced, is_next, need_met, pair_tests}
@@ -8,14 +8,12 @@ use Rattle.definitions.specs.Threads.{between}
 use Rattle.definitions.specs.declared.Refusal.{Refusal}
 use Rattle.plain_lock.specs.Counts.{standing_of, count_tests, standing_after, verdict_reply}
 use Rattle.plain_lock.specs.declared.Standing.{Standing}
-use Rattle.plain_lock.specs.declared.Verdict.{Verdict}
-use Rattle.plain_lock.specs.declared.Verdict.TheVariants.{Fits, Bad}
 use Rattle.basics.proofs.Replies.{peel}
 use Rattle.basics.proofs.TestLists.{answered_e}
 use Rattle.basics.proofs.Tests.{and_r}
 use Rattle.plain_lock.proofs.StandingLaws.{tests_same, standing_after_lem}
 
-abbrev pub VerdictOf : ℕ → Pair → Standing → Verdict → Type 0
+abbrev pub VerdictOf : ℕ → Pair → Standing → Result Standing Refusal → Type 0
 VerdictOf n x s v = (k : ℕ) → verdict_reply k v ≡ answered (count_tests n s k x) (standing_after s x.event)
 
 module _ (n : ℕ) (p : Places) (x : Pair) (few : n ≤ most_threads) (s : Standing) (same : s ≡ standing_of n p x.thread) where
@@ -23,7 +21,7 @@ module _ (n : ℕ) (p : Places) (x : Pair) (few : n ≤ most_threads) (s : Stand
   tests_are : (k : ℕ) → count_tests n s k x ≡ pair_tests n p k x
   tests_are k = ap (λ (z : Standing). count_tests n z k x) same ∙ tests_same n p few k x
 
-  pub bad_verdict : (v : Verdict) (r : Refusal) → v ≡ Bad r → VerdictOf n x s v → (k : ℕ) → answered (pair_tests n p k x) (standing_after s x.event) ≡ refused (number_of r) k
+  pub bad_verdict : (v : Result Standing Refusal) (r : Refusal) → v ≡ Err r → VerdictOf n x s v → (k : ℕ) → answered (pair_tests n p k x) (standing_after s x.event) ≡ refused (number_of r) k
   bad_verdict v r w judged k =
       ap (λ (ts : List Test). answered ts (standing_after s x.event)) (sym (tests_are k)) ∙ (sym (judged k) ∙ ap (verdict_reply k) w)
 
@@ -34,7 +32,7 @@ module _ (n : ℕ) (p : Places) (x : Pair) (few : n ≤ most_threads) (s : Stand
     pub placed : z.place ≡ place_after x.event
     pub after : z ≡ standing_of n (advanced p x) x.thread
 
-  pub fit_verdict : (v : Verdict) (z : Standing) → v ≡ Fits z → VerdictOf n x s v → (k : ℕ) → Fit z k
+  pub fit_verdict : (v : Result Standing Refusal) (z : Standing) → v ≡ Ok z → VerdictOf n x s v → (k : ℕ) → Fit z k
   fit_verdict v z w judged k = built (answered_e (count_tests n s k x) (standing_after s x.event) z (sym (rw w at (judged k))))
     where
       outside : Test

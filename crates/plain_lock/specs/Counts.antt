@@ -1,14 +1,13 @@
 -- An event judged by plain counts: its thread's place in its round, and the total of the threads inside. These are all that has to be kept of the pairs before it.
 -- `standing_of` are the place and the total that the places of all threads give;
 -- that the tests by counts are then those of the plain lock, and that an event leaves the total of the places after it, is proved in proofs/StandingLaws.
-use Rattle.std.specs.Prelude.{◌≡◌, ℕ, ◌+◌, ◌-◌, ◌*◌, ◌<◌, ◌≤◌, Bool, cond, ◌&&◌, List, [], ◌∷◌, ◌==◌, nat_le, nat_lt}
+use Rattle.std.specs.Prelude.{Result, Ok, Err, ◌≡◌, ℕ, ◌+◌, ◌-◌, ◌*◌, ◌<◌, ◌≤◌, Bool, cond, ◌&&◌, List, [], ◌∷◌, ◌==◌, nat_le, nat_lt}
 use Rattle.definitions.specs.Answers.{number_of, Reply, accepted, refused, Test, test_at}
 use Rattle.definitions.specs.Bounds.{most_threads, first_event, last_event}
 use Rattle.definitions.specs.PlainLock.{Pair, Places, place_after, is_next, how_many_at}
 use Rattle.definitions.specs.Threads.{between}
+use Rattle.definitions.specs.declared.Refusal.{Refusal}
 use Rattle.plain_lock.specs.declared.Standing.{Standing}
-use Rattle.plain_lock.specs.declared.Verdict.{Verdict}
-use Rattle.plain_lock.specs.declared.Verdict.TheVariants.{Fits, Bad}
 
 -- in a total of those inside a thread in shared is 1 and one in exclusive this, more than there are threads
 abbrev pub writer : ℕ
@@ -66,7 +65,7 @@ pub record Counted (n thread : ℕ) (s : Standing) : Type 0 where
   pub in_exclusive : thread < n → s.place ≡ 6 → writer ≤ s.inside
   pub is_in_round : s.place ≡ 4 → ⊥
 
--- the reply that a verdict on a pair of index k stands for
-abbrev pub verdict_reply : ℕ → Verdict → Reply Standing
-verdict_reply k (Fits s) = accepted s
-verdict_reply k (Bad r) = refused (number_of r) k
+-- the reply that a verdict on a pair of index k stands for: where it leaves its thread, or why it is turned down
+abbrev pub verdict_reply : ℕ → Result Standing Refusal → Reply Standing
+verdict_reply k (Ok s) = accepted s
+verdict_reply k (Err r) = refused (number_of r) k

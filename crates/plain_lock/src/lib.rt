@@ -1,5 +1,5 @@
 // The plain lock's verdict on one event: `judge` decides it from the place of the event's thread and the total of the threads inside
-// alone, and answers what they are after it.
+// alone, and answers what they are after it, or why the event is turned down.
 #![tactic(auto)]
 
 ghost use Rattle.std.specs.Prelude.{◌≡◌, ℕ, if◌then◌else◌};
@@ -19,17 +19,11 @@ pub struct Standing {
     pub place: u8,
 }
 
-// What an event gets: where it leaves its thread, or why it is turned down.
-#[derive(Clone, Copy)]
-pub enum Verdict {
-    Fits(Standing),
-    Bad(Refusal),
-}
-
 // What an event asks and does, in one number, by hexadecimal digits from the lowest: two for the place that it follows, two for
 // the place after it, four for the largest total that meets its need, and eight for what it adds to the total, modulo 2^32. 0 is
-// no event: its row follows place 4, at which no thread ever is. The rows are constants, and are compiled to a table, where
-// comparisons are compiled to branches that are often mispredicted.
+// no event: its row follows place 4, at which no thread ever is. Codes stand by number, since a byte of a history may be any
+// code. The rows are constants, and are compiled to a table, where comparisons are compiled to branches that are often
+// mispredicted: the check's speed rests on it.
 #[tactic(auto, unfolding(crate::specs::Rows::event_row))]
 fn event_row(code: usize) -> u64
     ensures { result ≡ event_row code }
@@ -54,7 +48,7 @@ fn moved(before: Standing, row: u64) -> Standing
 {
     let place = (row / 256 % 256) as u8;
     let change = (row / 4_294_967_296) as u32;
-    let inside = std::num::wrapping_add_u32(before.inside, change);
+    let inside = before.inside.wrapping_add(change);
     Standing { place, inside }
 }
 
@@ -74,21 +68,21 @@ fn reason(known: bool, next: bool) -> Refusal
 // The refusals 9, 10 and 11 of one event, from where its thread stands; no other function knows the rules of events. A code
 // above the last event's is turned down before its row is looked up, so that the compiled look-up has no test of its own.
 #[tactic(auto, unfolding(definitions::specs::Answers::answered))]
-pub fn judge(threads: u16, thread: u16, code: u16, before: Standing) -> Verdict
+pub fn judge(threads: u16, thread: u16, code: u16, before: Standing) -> Result<Standing, Refusal>
     requires { Counted threads thread before }
     ensures { (k : ℕ) → verdict_reply k result ≡ answered (count_tests threads before k (record { thread = thread; event = code })) (standing_after before code) }
 {
     let last = Event::LAST as u16;
     if last < code {
-        return Verdict::Bad(Refusal::UnknownPair);
+        return Err(Refusal::UnknownPair);
     }
     let row = event_row(code as usize);
     let below = thread < threads;
     let next = before.place as u64 == row % 256;
     let met = before.inside <= (row / 65_536 % 65_536) as u32;
     if below & (next & met) {
-        return Verdict::Fits(moved(before, row));
+        return Ok(moved(before, row));
     }
     let known = below & (Event::FIRST as u16 <= code);
-    Verdict::Bad(reason(known, next))
+    Err(reason(known, next))
 }

@@ -1,35 +1,33 @@
--- The plan's answer and output by the check's answer, its length and the room: turned down, no room, written.
-use Prim.Native.Nat.{ℕ, ◌/◌, ◌≤◌, ◌<◌}
-use native.Mathlib.Omega.{arith}
-use mathlib.Core.List.{List}
-use mathlib.Core.Path.{◌≡◌, refl, sym, ap, ◌∙◌}
-use lib.ListN.{length}
-use Rattle.definitions.specs.Answers.{number_of, answer_reply, accepted, refused, filled}
-use Rattle.definitions.specs.PlainLock.{pairs_of, check_reply}
-use Rattle.definitions.specs.Plan.{plan, bytes_of, plan_entry, plan_length_reply}
-use Rattle.definitions.specs.declared.Answer.{Answer}
-use Rattle.definitions.specs.declared.Answer.TheVariants.{Refused}
-use Rattle.definitions.specs.declared.Refusal.{Refusal}
-use Rattle.basics.specs.Outputs.{RoomAt, Delivered}
-use Rattle.basics.proofs.Outputs.{delivered_as}
-use Rattle.theory.proofs.SameCount.{enough, too_short, refused-plan}
-use Rattle.shares.proofs.LengthLaws.{turned-length}
+-- What the check's answer and the count of the moves say of the plan's entry: a refusal is the plan's (`plan_refused`), and a history that passes has a plan of that size (`Planned`).
+use Rattle.std.proofs.Common.{◌≡◌, ℕ, ◌*◌, ◌≤◌, T, List, length, Result, Err, sym, ap, ◌∙◌, arith}
+use Rattle.definitions.specs.Answers.{number_of, answer_reply, accepted, passes_all}
+use Rattle.definitions.specs.Bounds.{most_threads}
+use Rattle.definitions.specs.PlainLock.{pairs_of, check_tests, check_reply}
+use Rattle.definitions.specs.Plan.{plan, bytes_of, plan_entry}
+use Rattle.definitions.specs.declared.Refused.{Refused}
+use Rattle.basics.specs.Outputs.{Delivered}
+use Rattle.basics.proofs.Outputs.{turned_down}
+use Rattle.basics.proofs.TestLists.{answered_e}
+use Rattle.history.proofs.CheckLaws.{tests_e}
+use Rattle.theory.proofs.Lengths.{bytes-length}
 
--- the check's refusal is the plan's
-pub turned-plan : (n : ℕ) (bytes : List ℕ) (a : Answer) → answer_reply a ≡ check_reply n bytes → (r : Refusal) (place : ℕ) → a ≡ Refused r place
-    → (out : List ℕ) → Delivered (plan_entry n bytes) out out (answer_reply a)
-turned-plan n bytes a e r place q out =
-    delivered_as (refused-plan n bytes (number_of r) place (sym (turned-length n bytes a e r place q) ∙ ap answer_reply q) out) refl (ap answer_reply q)
+module _ (n : ℕ) (bytes : List ℕ) where
+  -- the check's refusal is the plan's, and the output stays
+  pub plan_refused : (checked : Result ℕ Refused) (why : Refused) → checked ≡ Err why → answer_reply checked ≡ check_reply n bytes → (out : List ℕ)
+      → Delivered (plan_entry n bytes) out out (answer_reply checked)
+  unfolding check_reply
+  plan_refused checked why is e out =
+      rw is (turned_down (plan_entry n bytes) out (length (pairs_of bytes)) (number_of why.refusal) why.place (sym e ∙ ap answer_reply is))
 
-module _ (n : ℕ) (bytes out : List ℕ) (moves : ℕ) (m : accepted moves ≡ plan_length_reply n bytes) where
-  -- the output is too short, and stays
-  pub no_room_plan : length out / 3 < moves → Delivered (plan_entry n bytes) out out (refused 12 0)
-  no_room_plan l = too_short n bytes out moves (sym m) (omega arith)
+  -- what holds of a history that passes, whose plan has so many moves
+  pub record Planned (moves : ℕ) : Type 0 where
+    pub few : n ≤ most_threads
+    pub tested : T (passes_all (check_tests n bytes))
+    pub count : moves ≡ length (plan n (pairs_of bytes))
+    pub size : length (bytes_of (plan n (pairs_of bytes))) ≡ 3 * moves
 
-  -- it has room for the plan's bytes
-  pub room-plan : moves ≤ length out / 3 → RoomAt out 0 (bytes_of (plan n (pairs_of bytes)))
-  room-plan l = let long = (enough n bytes out moves (sym m) (omega arith)).1 in record { ends = omega arith }
-
-  -- which are written
-  pub written_plan : (left : List ℕ) → moves ≤ length out / 3 → left ≡ filled out (bytes_of (plan n (pairs_of bytes))) → Delivered (plan_entry n bytes) out left (accepted moves)
-  written_plan left l w = delivered_as (enough n bytes out moves (sym m) (omega arith)).0 w refl
+  pub planned : (events moves : ℕ) → accepted events ≡ check_reply n bytes → moves ≡ length (plan n (pairs_of bytes)) → Planned moves
+  unfolding check_reply
+  planned events moves e m =
+      let tested = (answered_e (check_tests n bytes) (length (pairs_of bytes)) events (sym e)).0 in
+      record { few = (tests_e n bytes tested).0.most; tested = tested; count = m; size = omega (arith, m, bytes-length (plan n (pairs_of bytes))) }

@@ -1,3 +1,3 @@
--- Laws of the loop over the pairs and of the entry; each file says what it shows.
+-- The triples of a plan as a text in parts, and the entry; each file says what it shows.
 pub mod PlanParts
 pub mod EntryLaws

@@ -6,12 +6,17 @@ ghost use Rattle.definitions.specs.Answers.{answer_reply, counted};
 ghost use Rattle.basics.specs.Outputs.{Delivered};
 ghost use Rattle.printing.specs.Output.{output_of, Measurable};
 
-use definitions::{Answer, Refusal};
-use endings::{Ending, ending_length, put_ending};
+use definitions::{Refusal, Refused};
+use endings::{ending_length, put_ending};
 use event_lines::{events_length, put_events};
+use text::Output;
 
 // A whole output, if it has room.
-pub fn print(history: &[u8], ending: Ending, out: &mut [u8]) -> Answer
+pub fn print(
+    history: &[u8],
+    ending: Result<usize, Refused>,
+    out: &mut [u8],
+) -> Result<usize, Refused>
     requires { Measurable history.now ending }
     ensures { Delivered (counted [] (output_of history.now ending)) out.old out.new (answer_reply result) }
 {
@@ -19,9 +24,10 @@ pub fn print(history: &[u8], ending: Ending, out: &mut [u8]) -> Answer
     let last = ending_length(ending);
     let needed = lines + last;
     if out.len() < needed {
-        return Answer::Refused(Refusal::NoRoom, 0);
+        return Err(Refusal::NoRoom.into());
     }
-    let at = put_events(out, history);
-    let written = put_ending(out, at, ending);
-    Answer::Done(written)
+    let mut output = Output::new(out);
+    put_events(&mut output, history);
+    put_ending(&mut output, ending);
+    Ok(needed)
 }

@@ -5,6 +5,8 @@ use mathlib.Core.List.{List, []}
 use mathlib.Core.Logic.{⊎_elim}
 use mathlib.Core.Path.{◌≡◌, refl, sym, subst, ap, ◌∙◌}
 use borrow.Author.Tests.{le-leb, lt-leb}
+use Rattle.std.specs.Prelude.{Result, Ok, Err}
+use Rattle.std.specs.Result.{result_unwrap_or}
 use lib.Dec.{T, le→leb}
 use lib.ListN.{length, take}
 use lib.Seq.{length-take-le, take_all}
@@ -12,11 +14,8 @@ use Rattle.definitions.specs.Answers.{Reply, accepted, refused, is_accepted, num
 use Rattle.definitions.specs.Bounds.{most_script, enough_output}
 use Rattle.definitions.specs.Run.{refused_line, run_output_of, RunCounts, running_reply, run_entry, program_output}
 use Rattle.definitions.specs.Texts.{bytes, decimal_within}
-use Rattle.definitions.specs.declared.Answer.{Answer}
-use Rattle.definitions.specs.declared.Answer.TheVariants.{Done, Refused}
-use Rattle.definitions.specs.declared.Refusal.{Refusal}
+use Rattle.definitions.specs.declared.Refused.{Refused}
 use Rattle.definitions.specs.declared.Running.{Running}
-use Rattle.definitions.specs.declared.Running.TheVariants as running
 use Rattle.basics.specs.Outputs.{answering, Delivered}
 use Rattle.printout.specs.Buffer.{Printed}
 use Rattle.basics.proofs.Outputs.{whole, with_answer}
@@ -73,26 +72,21 @@ module _ (input out : List ℕ) (l : length input ≤ most_script) {after : List
       with_answer (λ c. c.bytes) (run_entry input) (counted [] (program_output input)) (pass _ [] (le→leb (length input) most_script l) no_test) no_test
       (not_too_long input l) (ap length (not_too_long input l))
 
-  pub run-prints : {a : Running} (n k : ℕ) → a ≡ running.Ran n k → Delivered (run_entry input) out after (running_reply a)
-      → Delivered (counted [] (program_output input)) out after (accepted n)
-  run-prints n k e p = subst (λ (x : Running). Delivered (counted [] (program_output input)) out after (answering (λ c. c.bytes) (running_reply x))) e (delivers _ p)
+  pub run_prints : {a : Result Running Refused} (ran : Running) → a ≡ Ok ran → Delivered (run_entry input) out after (running_reply a)
+      → Delivered (counted [] (program_output input)) out after (accepted ran.bytes)
+  run_prints ran e p = subst (λ (x : Result Running Refused). Delivered (counted [] (program_output input)) out after (answering (λ c. c.bytes) (running_reply x))) e (delivers _ p)
 
-  pub run_refuses : {a : Running} (x : Refusal) (place : ℕ) → a ≡ running.Refused x place → Delivered (run_entry input) out after (running_reply a)
-      → Delivered (counted [] (program_output input)) out after (refused (number_of x) place)
-  run_refuses x place e p = subst (λ (y : Running). Delivered (counted [] (program_output input)) out after (answering (λ c. c.bytes) (running_reply y))) e (delivers _ p)
+  pub run_refuses : {a : Result Running Refused} (x : Refused) → a ≡ Err x → Delivered (run_entry input) out after (running_reply a)
+      → Delivered (counted [] (program_output input)) out after (refused (number_of x.refusal) x.place)
+  run_refuses x e p = subst (λ (y : Result Running Refused). Delivered (counted [] (program_output input)) out after (answering (λ c. c.bytes) (running_reply y))) e (delivers _ p)
 
 -- in a buffer that suffices it is written, and nothing else is answered
-module _ (input : List ℕ) {out after : List ℕ} (r : Answer) (room : enough_output ≤ length out) (d : Delivered (counted [] (program_output input)) out after (answer_reply r)) where
+module _ (input : List ℕ) {out : List ℕ} (room : enough_output ≤ length out) where
   written : Delivered (counted [] (program_output input)) out (filled out (program_output input)) (accepted (length (program_output input)))
   written = whole (counted [] (program_output input)) out no_test (omega (arith, output-fits input))
 
-  answered : answer_reply r ≡ accepted (length (program_output input))
-  answered = d.reply ∙ sym written.reply
-
-  pub printed : (n : ℕ) → r ≡ Done n → Printed input out after n
-  printed n e =
-      let same : accepted n ≡ accepted (length (program_output input)) = ap answer_reply (sym e) ∙ answered in
+  pub printed : {after : List ℕ} (r : Result ℕ Refused) → Delivered (counted [] (program_output input)) out after (answer_reply r) → Printed input out after (result_unwrap_or r 0)
+  printed (Ok n) d =
+      let same : accepted n ≡ accepted (length (program_output input)) = d.reply ∙ sym written.reply in
       record { count = cc; output = d.output ∙ sym written.output }
-
-  pub never_refused : (x : Refusal) (place : ℕ) → r ≡ Refused x place → ⊥
-  never_refused x place e = subst (λ (a : Reply ℕ). T (is_accepted a)) (sym answered ∙ ap answer_reply e) tt
+  printed (Err x) d = absurd (subst (λ (a : Reply ℕ). T (is_accepted a)) (sym (d.reply ∙ sym written.reply)) tt)

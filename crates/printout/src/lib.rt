@@ -8,22 +8,19 @@ ghost use Rattle.definitions.specs.Run.{program_output};
 ghost use Rattle.basics.specs.Outputs.{Delivered};
 ghost use Rattle.printout.specs.Buffer.{Printed};
 
-use definitions::{Answer, MOST_SCRIPT, Running};
+use definitions::{MOST_SCRIPT, Refused};
 use text::deliver;
 
 // The program's output, if it has room.
 #[tactic(auto, unfolding(definitions::specs::Texts::bytes))]
-fn write_output(input: &[u8], out: &mut [u8]) -> Answer
+fn write_output(input: &[u8], out: &mut [u8]) -> Result<usize, Refused>
     ensures { Delivered (counted [] (program_output input.now)) out.old out.new (answer_reply result) }
 {
     if MOST_SCRIPT < input.len() {
         return deliver(b"(refused 8 0)\n", out);
     }
-    let ran = script::run(input, out);
-    match ran {
-        Running::Ran { bytes, retries: _ } => Answer::Done(bytes),
-        Running::Refused(refusal, place) => Answer::Refused(refusal, place),
-    }
+    let ran = script::run(input, out)?;
+    Ok(ran.bytes)
 }
 
 // The program's output, written to the front of a buffer that always suffices. Its length is answered.
@@ -31,9 +28,5 @@ pub fn print_input(input: &[u8], out: &mut [u8]) -> usize
     requires { enough_output ≤ length out.old }
     ensures { Printed input.now out.old out.new result }
 {
-    let answer = write_output(input, out);
-    let Answer::Done(written) = answer else {
-        return 0;
-    };
-    written
+    write_output(input, out).unwrap_or(0)
 }

@@ -1,49 +1,35 @@
-// Which threads have a move of the dispatcher's, and which move that is, by value and apart from any storage.
+// Which threads have a move of the dispatcher's, and which move that is, by value and apart from any storage. Phases stand by
+// number, as the definitions have them (Phases), and a task is read from any bytes.
 #![tactic(auto)]
 
-ghost use Rattle.std.specs.Prelude.{◌≤◌, ◌≡◌};
-ghost use Rattle.definitions.specs.Bounds.{last_phase};
-ghost use Rattle.dispatching.specs.Ready.{move_by};
-ghost use Rattle.phase_moves.specs.MoveBits.{has_bit};
-ghost use Rattle.ready.specs.ReadyBits.{ready_bits};
+ghost use Rattle.std.specs.Prelude.{◌≡◌};
+ghost use Rattle.definitions.specs.Answers.{number_of_move};
+ghost use Rattle.dispatching.specs.Ready.{ready_by, move_by};
 
-use definitions::{CLEAR, GO, SET};
+use definitions::Move;
 
-// The phases in which a thread is ready whatever the others do, a bit each: all but 0, where its moves are calls, 4, where they
-// are retries, 6 and 14, where they are leavings, and 9 and 11.
-const READY: u32 = 0b111_1011_0101_1010_1110;
-
-// In 9 it is if the mutex is free, in 11 if the target isn't busy.
-const READY_9: u32 = 512;
-
-const READY_11: u32 = 2_048;
-
-// The phases in which a thread is ready, a bit each, from the mutex and the busy of the table's target.
-#[tactic(auto, unfolding(dispatching::specs::Ready::ready_by, phase_moves::specs::MoveBits::bits_below))]
-pub fn ready_phases(mutex: u8, busy: u8) -> u32
-    ensures { result ≡ ready_bits mutex busy }
+// Whether a thread in a phase is ready, from the mutex and the busy of the table's target. In 0 its moves are calls, in 4 retries,
+// in 6 and 14 leavings, which are the host's; in 9 the mutex must be free, and in 11 the target not busy.
+#[tactic(auto, unfolding(dispatching::specs::Ready::ready_by))]
+pub fn is_ready(mutex: u8, busy: u8, phase: u8) -> bool
+    ensures { result ≡ ready_by mutex busy phase }
 {
-    let free = mutex == 0;
-    let calm = busy == 0;
-    READY + READY_9 * (free as u32) + READY_11 * (calm as u32)
-}
-
-// Whether a phase's bit is 1.
-pub fn is_ready(phases: u32, phase: u8) -> bool
-    requires { phase ≤ last_phase }
-    ensures { result ≡ has_bit phases phase }
-{
-    (phases >> (phase as u32)) & 1 == 1
+    match phase {
+        0 | 4 | 6 | 14 => false,
+        9 => mutex == 0,
+        11 => busy == 0,
+        _ => true,
+    }
 }
 
 // The move of a ready thread.
 #[tactic(auto, unfolding(dispatching::specs::Ready::move_by))]
-pub fn move_in(phase: u8) -> u8
-    ensures { result ≡ move_by phase }
+pub fn move_in(phase: u8) -> Move
+    ensures { number_of_move result ≡ move_by phase }
 {
     match phase {
-        10 => SET,
-        15 => CLEAR,
-        _ => GO,
+        10 => Move::Set,
+        15 => Move::Clear,
+        _ => Move::Go,
     }
 }

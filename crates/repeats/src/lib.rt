@@ -1,53 +1,43 @@
-// The triples that the plan repeats: go a number of times, set t and go for each t, clear each t.
+// The triples that the plan repeats: go a number of times, set t and go for each t, clear each t. They are three loops of one or
+// two lines: one loop with the turn as a closure would be no plainer, since it would be told the room and the text of its turns.
 #![tactic(auto)]
 
 ghost use Rattle.definitions.specs.Plan.{bytes_of};
-ghost use Rattle.basics.specs.Outputs.{RoomAt, PutAt};
+ghost use Rattle.text.specs.Cursors.{HasRoom, Puts};
 ghost use Rattle.repeats.specs.Requests.{go_times, set_each, clear_each};
 
-use definitions::{CLEAR, GO, SET};
+use definitions::Move;
+use text::Output;
 use triples::put_triple;
 
 // Go, `count` times.
-pub fn go_times(out: &mut [u8], at: usize, thread: u8, count: u8) -> usize
-    requires { RoomAt out.old at (bytes_of (go_times thread count)) }
-    ensures { PutAt out.old at (bytes_of (go_times thread count)) out.new result }
+pub fn go_times(out: &mut Output, thread: u8, count: u8)
+    requires { HasRoom out.old (bytes_of (go_times thread count)) }
+    ensures { Puts out.old (bytes_of (go_times thread count)) out.new }
 {
-    let mut next = at;
-    let mut t: u8 = 0;
-    while t < count {
-        next = put_triple(out, next, thread, GO, 0);
-        t += 1;
+    for _ in 0..count {
+        put_triple(out, thread, Move::Go as u8, 0);
     }
-    next
 }
 
 // Set t and go, for each t.
 #[tactic(auto, unfolding(definitions::specs::Plan::bytes_of))]
-pub fn set_each(out: &mut [u8], at: usize, thread: u8, threads: u8) -> usize
-    requires { RoomAt out.old at (bytes_of (set_each thread threads)) }
-    ensures { PutAt out.old at (bytes_of (set_each thread threads)) out.new result }
+pub fn set_each(out: &mut Output, thread: u8, threads: u8)
+    requires { HasRoom out.old (bytes_of (set_each thread threads)) }
+    ensures { Puts out.old (bytes_of (set_each thread threads)) out.new }
 {
-    let mut next = at;
-    let mut t: u8 = 0;
-    while t < threads {
-        let behind = put_triple(out, next, thread, SET, t);
-        next = put_triple(out, behind, thread, GO, 0);
-        t += 1;
+    for t in 0..threads {
+        put_triple(out, thread, Move::Set as u8, t);
+        put_triple(out, thread, Move::Go as u8, 0);
     }
-    next
 }
 
 // Clear t, for each t.
-pub fn clear_each(out: &mut [u8], at: usize, thread: u8, threads: u8) -> usize
-    requires { RoomAt out.old at (bytes_of (clear_each thread threads)) }
-    ensures { PutAt out.old at (bytes_of (clear_each thread threads)) out.new result }
+pub fn clear_each(out: &mut Output, thread: u8, threads: u8)
+    requires { HasRoom out.old (bytes_of (clear_each thread threads)) }
+    ensures { Puts out.old (bytes_of (clear_each thread threads)) out.new }
 {
-    let mut next = at;
-    let mut t: u8 = 0;
-    while t < threads {
-        next = put_triple(out, next, thread, CLEAR, t);
-        t += 1;
+    for t in 0..threads {
+        put_triple(out, thread, Move::Clear as u8, t);
     }
-    next
 }

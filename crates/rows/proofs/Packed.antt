@@ -6,6 +6,7 @@ use native.Mathlib.Omega.{arith}
 use mathlib.Core.Bool.{Bool, true, false, cond, not, ◌&&◌}
 use mathlib.Core.Logic.{◌⊎◌, inl, inr}
 use mathlib.Core.Path.{◌≡◌, refl, sym, subst, ap, ◌∙◌}
+use Rattle.std.specs.Prelude.{Some, None}
 use borrow.Author.Tests.{le-ltb, lt-ltb}
 use lib.Arith.{digits_mod}
 use lib.Bits.{bit_and}
@@ -16,7 +17,6 @@ use Rattle.definitions.specs.Sound.{backed_off}
 use Rattle.definitions.specs.Table.{Table}
 use Rattle.definitions.specs.Threads.{every, how_many, sum_of}
 use Rattle.soundness.specs.Pass.{thread_fits, forbidden_reader, holder_phase, tally_below, fit_below, found_of}
-use Rattle.soundness.specs.declared.Found.TheVariants.{Good, Bad}
 use Rattle.tallies.specs.declared.Tally.{Tally}
 use Rattle.basics.proofs.Quantifiers.{every_at, every_i, how_many-most}
 use Rattle.basics.proofs.Tests.{and_l, and_r, and_i, cond_yes, cond_no, cond_either, decided, T_true}
@@ -108,15 +108,15 @@ fields_good x t e a b c d =
     simp (holder, forbidden, readers, backed)
 
 -- where all bits are few and the total is small, its fields are told; else nothing but that some thread is bad
-told_good : (x seen : ℕ) → eqb (bit_and seen high) 0 ≡ true → x < one_bad → found_by x seen ≡ Good (fields_of x)
+told_good : (x seen : ℕ) → eqb (bit_and seen high) 0 ≡ true → x < one_bad → found_by x seen ≡ Some (fields_of x)
 unfolding found_by
 told_good x seen e l = simp (e, lt-ltb x one_bad l)
 
-told_bad : (x seen : ℕ) → (T (eqb (bit_and seen high) 0) → one_bad ≤ x) → found_by x seen ≡ Bad
+told_bad : (x seen : ℕ) → (T (eqb (bit_and seen high) 0) → one_bad ≤ x) → found_by x seen ≡ None
 unfolding found_by
 told_bad x seen h = by (eqb (bit_and seen high) 0) h
   where
-    by : (b : Bool) → (T b → one_bad ≤ x) → cond (b && ltb x one_bad) (Good (fields_of x)) Bad ≡ Bad
+    by : (b : Bool) → (T b → one_bad ≤ x) → cond (b && ltb x one_bad) (Some (fields_of x)) None ≡ None
     by true f = simp (le-ltb x one_bad (f tt))
     by false f = refl
 
@@ -129,7 +129,7 @@ pub packed : (s : Table) (n total' seen : ℕ)
 unfolding found_of
 packed s n total' seen l bits sums = by (decided (fit_below s n))
   where
-    by : T (fit_below s n) ⊎ T (not (fit_below s n)) → found_by total' seen ≡ cond (fit_below s n) (Good (tally_below s n)) Bad
+    by : T (fit_below s n) ⊎ T (not (fit_below s n)) → found_by total' seen ≡ cond (fit_below s n) (Some (tally_below s n)) None
     by (inl t) =
         let few = few-all s n t in
         let e : total' ≡ packed_of (tally_below s n) = sums few ∙ total_good s n t in
@@ -138,8 +138,8 @@ packed s n total' seen l bits sums = by (decided (fit_below s n))
         let b : (tally_below s n).readers < 256 = omega (arith, how_many-most (λ j. forbidden_reader (s.phase j) (s.forbidden j)) n) in
         let c : (tally_below s n).backed_off < 256 = omega (arith, how_many-most (λ j. backed_off (s.phase j)) n) in
         told_good total' seen (bits ∙ T_true (every n (few_at s)) few) (omega arith)
-        ∙ ap Good (fields_good total' (tally_below s n) e h a b c)
-        ∙ sym (cond_yes (fit_below s n) (Good (tally_below s n)) Bad t)
+        ∙ ap Some (fields_good total' (tally_below s n) e h a b c)
+        ∙ sym (cond_yes (fit_below s n) (Some (tally_below s n)) None t)
     by (inr t) =
         told_bad total' seen (λ u. let e = sums (subst T bits u) in omega (arith, total-bad s n t))
-        ∙ sym (cond_no (fit_below s n) (Good (tally_below s n)) Bad t)
+        ∙ sym (cond_no (fit_below s n) (Some (tally_below s n)) None t)

@@ -2,13 +2,12 @@
 -- First the row of a thread, then states, which are the three bytes as one number where they have few bits, and the state in a word;
 -- then what is told by the total of all rows and by all bits of the words.
 -- That this is what one pass finds (`found_of`) stands in proofs/Packed.
-use Rattle.std.specs.Prelude.{ℕ, ◌+◌, ◌*◌, ◌/◌, ◌%◌, Bool, cond, ◌&&◌, ltb, eqb}
+use Rattle.std.specs.Prelude.{ℕ, ◌+◌, ◌*◌, ◌/◌, ◌%◌, Option, Some, None, Bool, cond, ◌&&◌, ltb, eqb}
 use Rattle.std.specs.Int.Bits.{bit_and}
 use Rattle.definitions.specs.Sound.{backed_off}
 use Rattle.definitions.specs.Table.{Table}
 use Rattle.soundness.specs.Pass.{thread_fits, forbidden_reader, holder_phase}
-use Rattle.soundness.specs.declared.Found.{Found}
-use Rattle.soundness.specs.declared.Found.TheVariants.{Good, Bad}
+use Rattle.tallies.specs.declared.Tally.{Tally}
 
 -- ---- the row of a thread
 
@@ -73,14 +72,14 @@ thread_row s i = row_for (s.phase i) (s.busy i) (s.forbidden i)
 
 -- ---- what is told
 
-unfoldable pub found_by : ℕ → ℕ → Found
+unfoldable pub found_by : ℕ → ℕ → Option Tally
 found_by total seen =
     cond (eqb (bit_and seen high) 0 && ltb total one_bad)
-    (Good
+    (Some
     (record {
       holder = total % one_flag;
       forbidden = total / one_flag % 256;
       readers = total / one_reader % 256;
       backed_off = total / one_backed % 256;
     }))
-    Bad
+    None

@@ -10,7 +10,6 @@
 ghost use Rattle.std.specs.Prelude.{◌≡◌};
 ghost use Rattle.rows.specs.Rows.{found_by};
 
-use soundness::Found;
 use tallies::Tally;
 
 // The fields of a row and of a total, in hexadecimal digits from the lowest: three for the sum of the holders' phases, two
@@ -29,21 +28,16 @@ const HIGH: u64 = 0x00_fe_fe_e0;
 
 // What the total of all threads' rows and all bits of their words tell.
 #[tactic(auto, unfolding(crate::specs::Rows::found_by))]
-pub fn found_of(total: u64, seen: u64) -> Found
+pub fn found_of(total: u64, seen: u64) -> Option<Tally>
     ensures { result ≡ found_by total seen }
 {
-    let good = (seen & HIGH == 0) & (total < BAD);
-    if !good {
-        return Found::Bad;
+    if seen & HIGH != 0 || BAD <= total {
+        return None;
     }
-    let holder = (total % FLAGS) as usize;
-    let forbidden = (total / FLAGS % 256) as usize;
-    let readers = (total / READERS % 256) as usize;
-    let backed_off = (total / BACKED % 256) as usize;
-    Found::Good(Tally {
-        holder,
-        forbidden,
-        readers,
-        backed_off,
+    Some(Tally {
+        holder: (total % FLAGS) as usize,
+        forbidden: (total / FLAGS % 256) as usize,
+        readers: (total / READERS % 256) as usize,
+        backed_off: (total / BACKED % 256) as usize,
     })
 }

@@ -1,70 +1,68 @@
 -- What the loop over the lines knows at each of them, and that each turn of it keeps that.
-use Prim.Native.Nat.{ℕ, ◌+◌, ◌-◌, ◌*◌, ◌%◌, ◌^◌, ◌≤◌, ◌<◌}
+use Prim.Native.Nat.{ℕ, suc, ◌+◌, ◌*◌, ◌%◌, ◌≤◌}
 use native.Mathlib.Nat.{zero-add}
-use native.Mathlib.Numerals.{add-one}
 use native.Mathlib.Omega.{arith}
-use mathlib.Core.Bool.{true}
-use mathlib.Core.List.{List, ◌++◌, append_assoc}
-use mathlib.Core.Path.{◌≡◌, refl, sym, subst, ap, ◌∙◌}
-use lib.ListN.{length, take, drop, length-take, length-drop}
+use mathlib.Core.List.{List, [], ◌∷◌, ◌++◌, append_assoc}
+use mathlib.Core.Path.{◌≡◌, refl, sym, ap, ◌∙◌}
+use lib.ListN.{length, take, drop, drop_of_length-le}
 use lib.Seq.{length-take-le}
 use Rattle.definitions.specs.Answers.{Seen, shown, quiet, number_of}
 use Rattle.definitions.specs.PlainLock.{pairs_of}
 use Rattle.definitions.specs.Run.{Turn, stops, passes, makes, event_lines, printed, retries_from}
-use Rattle.definitions.specs.Texts.{lines_of}
+use Rattle.definitions.specs.Texts.{Line}
 use Rattle.definitions.specs.declared.Refusal.{Refusal}
-use Rattle.definitions.specs.declared.Refusal.TheVariants.{BadForm}
+use Rattle.definitions.specs.declared.Refused.{Refused}
 use Rattle.apply.specs.MoveMade.{TestedTable}
-use Rattle.basics.specs.Outputs.{RoomAt}
 use Rattle.basics.specs.ShortestLines.{shortest_move}
-use Rattle.lines.specs.Lines.{LineAt, UnendedAt, DoneAt}
 use Rattle.endings.specs.LastLine.{ending_line}
-use Rattle.endings.specs.declared.Ending.{Ending}
-use Rattle.endings.specs.declared.Ending.TheVariants.{Steps, Refused}
 use Rattle.theory.specs.Tables.{SoundBytes}
-use Rattle.turns.specs.Steps.{pair_bytes, added, table_behind, moves_made, retries_made, PassedOn, StoppedBy, Stepped}
-use Rattle.turns.specs.declared.Step.{Step}
-use Rattle.turns.specs.declared.Step.TheVariants.{Stopped, Passed}
-use Rattle.running.specs.Records.{Roomy, Begun, Recorded}
-use Rattle.running.specs.declared.Ran.{Ran}
+use Rattle.turns.specs.Steps.{pair_bytes, added, table_behind, moves_made, retries_made, PassedOn, StoppedBy}
+use Rattle.turns.specs.declared.Passed.{Passed}
+use Rattle.running.specs.Records.{lines_size, Roomy, Begun, RecordedIn}
+use Rattle.std.specs.Prelude.{Result, Ok, Err}
+use Rattle.text.specs.Cursors.{HasRoom}
+use Rattle.text.specs.declared.Output.{Output}
+use Rattle.basics.proofs.Chunks.{Next}
 use Rattle.basics.proofs.Numbers.{decimal-some}
-use Rattle.basics.proofs.Outputs.{same_size, put_front}
+use Rattle.basics.proofs.Outputs.{put_front}
 use Rattle.basics.proofs.Tests.{one_most}
-use Rattle.runs.proofs.Lines.{Does, line_does}
+use Rattle.runs.proofs.Lines.{line_size, size_of, Does, line_does}
 use Rattle.theory.proofs.SoundKept.{sound-kept}
 use Rattle.running.proofs.Histories.{lines_in, lines_append}
-use Rattle.running.proofs.PrintedText.{turn_at, at_done, at_unended, at_stop, at_pass, none_done, none_unended, none_stop, counted-pass}
+use Rattle.running.proofs.PrintedText.{turn_at, at_stop, at_pass, none_stop, counted-pass}
 
--- the lines of the history so far, and what is printed from here on, are the whole output, and the retries so far, with those made from here on, are all of them
-pub record AtLine (script table₀ history₀ whole : List ℕ) (all : ℕ) (table history : List ℕ) (from line steps retried count at : ℕ) : Type 0 where
-  pub within : from ≤ length script
-  pub lines-few : line ≤ from + 2
-  pub moves-few : steps ≤ from
-  pub retries-few : retried ≤ from
-  pub shown-few : shortest_move * at ≤ 2 * from
-  pub pairs : at % 2 ≡ 0
+-- the bytes of lines, as the laws of runs have them
+pub sizes : (ls : List Line) → lines_size ls ≡ size_of ls
+sizes [] = refl
+sizes (l ∷ ls) = omega (arith, sizes ls)
+
+-- k lines have passed: the lines of the history so far, and what is printed from here on, are the whole output, and the retries so far, with those made from here on, are all of them
+pub record AtLine (ls : List Line) (table₀ : List ℕ) (history₀ : Output) (table : List ℕ) (history : Output) (k steps retried count : ℕ) : Type 0 where
+  pub moves-few : steps ≤ k
+  pub retries-few : retried ≤ k
+  pub shown-few : shortest_move * history.at + 2 * size_of (drop k ls) ≤ 2 * size_of ls
+  pub pairs : history.at % 2 ≡ 0
   pub tested : TestedTable table count
-  pub prints : whole ≡ lines_in (take at history) ++ printed table line steps (lines_of (drop from script))
-  pub counts : all ≡ retried + retries_from table (lines_of (drop from script))
+  pub prints : printed table₀ 2 0 ls ≡ lines_in (take history.at history.bytes.now) ++ printed table (2 + k) steps (drop k ls)
+  pub counts : retries_from table₀ ls ≡ retried + retries_from table (drop k ls)
   pub table-size : length table ≡ length table₀
-  pub history-size : length history ≡ length history₀
+  pub same_bytes : history.bytes.ghost_name ≡ history₀.bytes.ghost_name
+  pub history-size : length history.bytes.now ≡ length history₀.bytes.now
 
 -- where the loop begins
-pub begun : (script : List ℕ) (start : ℕ) (table history : List ℕ) → Begun script start table history
-    → AtLine script table history (printed table 2 0 (lines_of (drop start script))) (retries_from table (lines_of (drop start script))) table history start 2 0 0 0 0
+pub begun : {ls : List Line} {table : List ℕ} {history : Output} → Begun ls table history.bytes.now → history.at ≡ 0 → AtLine ls table history table history 0 0 0 0
 unfolding pairs_of event_lines
-begun script start table history b =
+begun {ls} {table} {history} b front =
     record {
-      within = b.starts;
-      lines-few = omega arith;
       moves-few = omega arith;
       retries-few = omega arith;
-      shown-few = omega arith;
-      pairs = refl;
+      shown-few = omega (arith, front);
+      pairs = rw front refl;
       tested = b.tested;
-      prints = refl;
+      prints = rw front refl;
       counts = sym (zero-add _);
       table-size = refl;
+      same_bytes = refl;
       history-size = refl;
     }
 
@@ -100,98 +98,93 @@ added_pair table size (stops number) d = record { even = refl; few = omega arith
 added_pair table size passes d = record { even = refl; few = omega arith }
 added_pair table size (makes r answer) d = seen_pair size r.thread answer.seen (omega (arith, d.1.plain, decimal-some r.thread))
 
-module _ {script table₀ history₀ whole : List ℕ} {all : ℕ} {table history : List ℕ} {from line steps retried count at : ℕ} (room : Roomy script history₀)
-    (g : AtLine script table₀ history₀ whole all table history from line steps retried count at) where
-  at_within : at ≤ length history
-  at_within = omega (arith, g.shown-few, g.within, g.history-size, room.pairs)
+module _ {ls : List Line} {table₀ : List ℕ} {history₀ : Output} {table : List ℕ} {history : Output} {k steps retried count : ℕ} (room : Roomy ls history₀.bytes.now)
+    (g : AtLine ls table₀ history₀ table history k steps retried count) where
+  at_within : history.at ≤ length history.bytes.now
+  at_within = omega (arith, g.shown-few, g.history-size, room.pairs, sizes ls)
 
   -- the run ends here
-  ends : (history' : List ℕ) (ending : Ending) (ran : Ran) → history' ≡ history → printed table line steps (lines_of (drop from script)) ≡ ending_line ending
-      → retries_from table (lines_of (drop from script)) ≡ 0 → ran ≡ record { shown = at; retries = retried; ending = ending } → Recorded whole all history' ran
-  ends history' ending ran k e none r =
-      rw (r, k)
+  ends : (history' : Output) (ending : Result ℕ Refused) (written : ℕ) → history' ≡ history → written ≡ history'.at
+      → printed table (2 + k) steps (drop k ls) ≡ ending_line ending → retries_from table (drop k ls) ≡ 0
+      → RecordedIn table₀ ls history₀ history' (record { shown = written; retries = retried; ending = ending })
+  ends history' ending written same w e none =
+      rw (w, same)
       (record {
-        fits = at_within;
-        prints = g.prints ∙ ap (λ (xs : List ℕ). lines_in (take at history) ++ xs) e;
-        counts = omega (arith, g.counts, none);
+        same_bytes = g.same_bytes;
+        recorded =
+            record {
+              fits = at_within;
+              prints = g.prints ∙ ap (λ (xs : List ℕ). lines_in (take history.at history.bytes.now) ++ xs) e;
+              counts = omega (arith, g.counts, none);
+            };
       })
 
   -- ---- the last line was passed
-  pub finished : DoneAt script from → Recorded whole all history (record { shown = at; retries = retried; ending = Steps steps })
-  finished d = ends history (Steps steps) _ refl (at_done script from table line steps d) (none_done script from table d) refl
-
-  -- ---- a line that lacks its line feed
-  pub unended : UnendedAt script from → (ran : Ran) → ran ≡ record { shown = at; retries = retried; ending = Refused BadForm line } → Recorded whole all history ran
-  unended u ran r = ends history (Refused BadForm line) ran refl (at_unended script from table line steps u) (none_unended script from table u) r
+  pub finished : {written : ℕ} → written ≡ history.at → k ≡ length ls → RecordedIn table₀ ls history₀ history (record { shown = written; retries = retried; ending = Ok steps })
+  unfolding printed retries_from
+  finished {written} w e =
+      let none = drop_of_length-le ls (omega arith) in
+      ends history (Ok steps) written refl w (ap (printed table (2 + k) steps) none) (ap (retries_from table) none)
 
   -- ---- a line
-  module _ (end : ℕ) (l : LineAt script from end) where
+  module _ {l : Line} {next : ℕ} (t : Next ls k l next) where
     abbrev pub turn : Turn
-    turn = turn_at script table from end
+    turn = turn_at table l
 
-    pair : OnePair (end + 1 - from) (added turn)
-    pair =
-        let size : length (take (end - from) (drop from script)) + 1 ≡ end + 1 - from =
-        omega (arith, length-take (end - from) (drop from script), length-drop from script, l.starts, l.ends) in
-        added_pair table (end + 1 - from) turn (rw size at (line_does table (record { text = take (end - from) (drop from script); ended = true })))
+    size_here : size_of (drop k ls) ≡ line_size l + size_of (drop next ls)
+    size_here = ap size_of t.left
 
-    pub line_room : RoomAt history at (added turn)
-    line_room = record { ends = omega (arith, pair.few, g.shown-few, g.history-size, room.pairs, l.starts, l.ends) }
+    pair : OnePair (line_size l) (added turn)
+    pair = added_pair table (line_size l) turn (line_does table l)
 
-    -- it lets the run go on
-    passed_on : (table' history' : List ℕ) (moves retries count' at' : ℕ) → length table' ≡ length table
-        → PassedOn turn table history at table' history' moves retries count' at'
-        → AtLine script table₀ history₀ whole all table' history' (end + 1) (line + 1) (steps + moves) (retried + retries) count' at'
-    passed_on table' history' moves retries count' at' k s =
-        record {
-          within = omega (arith, l.ends);
-          lines-few = omega (arith, g.lines-few, l.starts);
-          moves-few = omega (arith, g.moves-few, l.starts, s.made, made-most turn);
-          retries-few = omega (arith, g.retries-few, l.starts, s.retried, retried-most turn);
-          shown-few = omega (arith, g.shown-few, l.starts, pair.few, s.put.next);
-          pairs = omega (arith, g.pairs, pair.even, s.put.next);
-          tested = record { tested = rw s.bytes (sound-behind table turn g.tested.tested); count = s.count };
-          prints =
-              g.prints
-              ∙ (ap (λ (xs : List ℕ). lines_in (take at history) ++ xs) here
-              ∙ (sym (append_assoc (lines_in (take at history)) (lines_in (added turn)) more) ∙ ap (λ (xs : List ℕ). xs ++ more) (sym front)));
-          counts =
-              let rest = ap (λ (t : List ℕ). retries_from t (lines_of (drop (end + 1) script))) s.bytes in
-              omega (arith, g.counts, s.retried, counted-pass script from table end l s.passed, rest);
-          table-size = k ∙ g.table-size;
-          history-size = same_size line_room s.put ∙ g.history-size;
-        }
-      where
-        more : List ℕ
-        more = printed table' (line + 1) (steps + moves) (lines_of (drop (end + 1) script))
+    pub line_room : HasRoom history (added turn)
+    line_room = record { ends = omega (arith, pair.few, size_here, g.shown-few, g.history-size, room.pairs, sizes ls) }
 
-        here : printed table line steps (lines_of (drop from script)) ≡ lines_in (added turn) ++ more
-        here = rw (add-one line, s.bytes, s.made) (at_pass script from table line steps end l s.passed)
+    -- it stops the run
+    pub stop : (history' : Output) (x : Refusal) → StoppedBy turn history history' (number_of x) → {written : ℕ} → written ≡ history'.at → (i : ℕ) → i ≡ k
+        → RecordedIn table₀ ls history₀ history' (record { shown = written; retries = retried; ending = Err (record { refusal = x; place = 2 + i }) })
+    stop history' x by {written} w i same =
+        rw same
+        (ends history' (Err (record { refusal = x; place = 2 + k })) written by.kept w
+        (ap (printed table (2 + k) steps) t.left ∙ at_stop table (2 + k) steps l (drop next ls) (number_of x) by.stopped)
+        (ap (retries_from table) t.left ∙ none_stop table l (drop next ls) (number_of x) by.stopped))
 
-        -- the history behind the line
-        longer : take at' history' ≡ take at history ++ added turn
-        longer = rw (s.put.next, s.put.output) (put_front history at (added turn) line_room.ends)
+    module _ {table' : List ℕ} {history' : Output} {p : Passed} (s : PassedOn turn table history table' history' p) where
+      -- it lets the run go on
+      pub goes_on : length table' ≡ length table → AtLine ls table₀ history₀ table' history' next (steps + p.moves) (retried + p.retries) p.forbidden
+      goes_on q =
+          record {
+            moves-few = omega (arith, g.moves-few, s.made, made-most turn, t.more);
+            retries-few = omega (arith, g.retries-few, s.retried, retried-most turn, t.more);
+            shown-few = omega (arith, g.shown-few, pair.few, s.put.put.next, size_here);
+            pairs = omega (arith, g.pairs, pair.even, s.put.put.next);
+            tested = record { tested = rw s.bytes (sound-behind table turn g.tested.tested); count = s.count };
+            prints =
+                g.prints
+                ∙ (ap (λ (xs : List ℕ). lines_in (take history.at history.bytes.now) ++ xs) here
+                ∙ (sym (append_assoc (lines_in (take history.at history.bytes.now)) (lines_in (added turn)) more) ∙ ap (λ (xs : List ℕ). xs ++ more) (sym front)));
+            counts =
+                let rest = ap (λ (t : List ℕ). retries_from t (drop next ls)) s.bytes in
+                omega (arith, g.counts, s.retried, ap (retries_from table) t.left, counted-pass table l (drop next ls) s.passed, rest);
+            table-size = q ∙ g.table-size;
+            same_bytes = s.put.same_bytes ∙ g.same_bytes;
+            history-size = s.put.size ∙ g.history-size;
+          }
+        where
+          more : List ℕ
+          more = printed table' (2 + next) (steps + p.moves) (drop next ls)
 
-        front : lines_in (take at' history') ≡ lines_in (take at history) ++ lines_in (added turn)
-        front = ap lines_in longer ∙ lines_append (take at history) (added turn) (rw (length-take-le at history at_within) g.pairs)
+          line_next : suc (2 + k) ≡ 2 + next
+          line_next = omega (arith, t.more)
 
-    module _ (table' history' : List ℕ) (s : Step) (stepped : Stepped turn table history at table' history' s) where
-      -- it stops the run
-      pub stop : (x : Refusal) → s ≡ Stopped x → (ran : Ran) → ran ≡ record { shown = at; retries = retried; ending = Refused x line } → Recorded whole all history' ran
-      stop x e ran r =
-          let by : StoppedBy turn history history' (number_of x) = subst (Stepped turn table history at table' history') e stepped in
-          ends history' (Refused x line) ran by.kept (at_stop script from table line steps end l (number_of x) by.stopped)
-          (none_stop script from table end l (number_of x) by.stopped) r
+          here : printed table (2 + k) steps (drop k ls) ≡ lines_in (added turn) ++ more
+          here =
+              ap (printed table (2 + k) steps) t.left
+              ∙ (at_pass table (2 + k) steps l (drop next ls) s.passed ∙ rw (line_next, s.bytes, s.made) refl)
 
-      module _ (moves retries count' at' : ℕ) (e : s ≡ Passed moves retries count' at') where
-        passed : PassedOn turn table history at table' history' moves retries count' at'
-        passed = subst (Stepped turn table history at table' history') e stepped
+          -- the history behind the line
+          longer : take history'.at history'.bytes.now ≡ take history.at history.bytes.now ++ added turn
+          longer = rw (s.put.put.next, s.put.put.output) (put_front history.bytes.now history.at (added turn) line_room.ends)
 
-        pub steps_fit : steps + moves < 2 ^ 64
-        steps_fit = omega (arith, passed.made, made-most turn, g.moves-few, g.within, room.short)
-
-        pub retries_fit : retried + retries < 2 ^ 64
-        retries_fit = omega (arith, passed.retried, retried-most turn, g.retries-few, g.within, room.short)
-
-        pub next : length table' ≡ length table → AtLine script table₀ history₀ whole all table' history' (end + 1) (line + 1) (steps + moves) (retried + retries) count' at'
-        next k = passed_on table' history' moves retries count' at' k passed
+          front : lines_in (take history'.at history'.bytes.now) ≡ lines_in (take history.at history.bytes.now) ++ lines_in (added turn)
+          front = ap lines_in longer ∙ lines_append (take history.at history.bytes.now) (added turn) (rw (length-take-le history.at history.bytes.now at_within) g.pairs)

@@ -2,80 +2,60 @@
 // that they show, byte pairs, thread then event.
 #![tactic(auto)]
 
-ghost use Rattle.std.specs.Prelude.{◌≡◌, drop};
-ghost use Rattle.definitions.specs.Texts.{lines_of};
-ghost use Rattle.running.specs.Records.{Begun, RecordedLines};
+ghost use Rattle.std.specs.Prelude.{◌≡◌};
+ghost use Rattle.lines.specs.Lines.{lines_left};
+ghost use Rattle.running.specs.Records.{Begun, RecordedIn, RecordedLines};
 
-use definitions::Refusal;
-use endings::Ending;
-use lines::{Next, next_line};
-use turns::{Step, take_line};
+use definitions::Refused;
+use lines::{Lines, SECOND};
+use text::Output;
+use turns::take_line;
 
-// A run that has ended: how many bytes its history has, how many of its moves were retries, and how it ended.
+// A run that has ended: how many bytes its history has, how many of its moves were retries, and how many moves it made, or the
+// refusal of a line.
 #[derive(Clone, Copy)]
 pub struct Ran {
     pub shown: usize,
     pub retries: usize,
-    pub ending: Ending,
+    pub ending: Result<usize, Refused>,
 }
 
-// A run that was stopped at a line.
-pub fn stopped(shown: usize, retries: usize, refusal: Refusal, line: usize) -> Ran
-    ensures { result ≡ record { shown = shown; retries = retries; ending = Ending.Refused refusal line } }
+// The lines behind the first, their history put into an output; no forbidden is 1 yet.
+fn pass_lines(lines: Lines<'_>, table: &mut [u8], history: &mut Output) -> Ran
+    requires room { Begun (lines_left lines) table.old history.old.bytes.now }
+    requires front { history.old.at ≡ 0 }
+    ensures { RecordedIn table.old (lines_left lines.entry) history.old history.new result }
 {
-    Ran {
-        shown,
-        retries,
-        ending: Ending::Refused(refusal, line),
-    }
-}
-
-// The lines from start on, which is the second; no forbidden is 1 yet.
-pub fn run_lines(script: &[u8], start: usize, table: &mut [u8], history: &mut [u8]) -> Ran
-    requires { Begun script.now start table.old history.old }
-    ensures { RecordedLines table.old (lines_of (drop start script.now)) history.new result }
-{
-    let mut from = start;
-    let mut line: usize = 2;
-    let mut steps: usize = 0;
-    let mut retried: usize = 0;
-    let mut flags: usize = 0;
-    let mut shown: usize = 0;
-    loop {
-        let next = next_line(script, from);
-        match next {
-            Next::Done => {
+    let mut steps = 0;
+    let mut retries = 0;
+    let mut flags = 0;
+    for (k, line) in lines.enumerate() {
+        match take_line(line, table, flags, history) {
+            Ok(passed) => {
+                steps += passed.moves;
+                retries += passed.retries;
+                flags = passed.forbidden;
+            }
+            Err(refusal) => {
                 return Ran {
-                    shown,
-                    retries: retried,
-                    ending: Ending::Steps(steps),
+                    shown: history.written(),
+                    retries,
+                    ending: Err(refusal.at(SECOND + k)),
                 };
-            }
-            Next::Unended => {
-                return stopped(shown, retried, Refusal::BadForm, line);
-            }
-            Next::Line(end) => {
-                let behind = end + 1;
-                let step = take_line(&script[from..end], table, flags, history, shown);
-                match step {
-                    Step::Stopped(refusal) => {
-                        return stopped(shown, retried, refusal, line);
-                    }
-                    Step::Passed {
-                        moves,
-                        retries,
-                        forbidden,
-                        at,
-                    } => {
-                        steps += moves;
-                        retried += retries;
-                        flags = forbidden;
-                        shown = at;
-                    }
-                }
-                line += 1;
-                from = behind;
             }
         }
     }
+    Ran {
+        shown: history.written(),
+        retries,
+        ending: Ok(steps),
+    }
+}
+
+// The same with the history put at the front of lent bytes.
+pub fn run_lines(lines: Lines<'_>, table: &mut [u8], history: &mut [u8]) -> Ran
+    requires { Begun (lines_left lines) table.old history.old }
+    ensures { RecordedLines table.old (lines_left lines.entry) history.new result }
+{
+    pass_lines(lines, table, &mut Output::new(history))
 }

@@ -1,21 +1,26 @@
 -- What the printed output of a run makes of the promise.
-use Prim.Native.Nat.{ℕ, ◌≤◌, ◌<◌}
+use Prim.Native.Nat.{ℕ, ◌+◌, ◌*◌, ◌≤◌, ◌<◌}
+use native.Mathlib.Omega.{arith}
 use mathlib.Core.Bool.{Bool, not}
 use mathlib.Core.List.{List, []}
 use mathlib.Core.Path.{◌≡◌, sym, subst}
 use borrow.Author.Tests.{le-leb, lt-leb}
 use lib.Dec.{T, leb}
-use lib.ListN.{length, take}
+use lib.ListN.{length, take, length-drop}
 use Rattle.definitions.specs.Answers.{Reply, accepted, refused, number_of, answer_reply, test, counted}
 use Rattle.definitions.specs.Bounds.{most_script}
 use Rattle.definitions.specs.Run.{run_output_of, run_retries, RunCounts, run_entry}
 use Rattle.definitions.specs.Texts as texts
-use Rattle.definitions.specs.declared.Answer.{Answer}
-use Rattle.definitions.specs.declared.Answer.TheVariants as answer
-use Rattle.definitions.specs.declared.Refusal.{Refusal}
+use Rattle.definitions.specs.declared.Refused.{Refused}
+use Rattle.definitions.specs.Scripts.{move_lines}
+use Rattle.definitions.specs.Texts.{lines_of}
+use Rattle.std.specs.Prelude.{Result, Ok, Err}
+use Rattle.basics.specs.ShortestLines.{shortest_move}
+use Rattle.runs.proofs.Lines.{behind-size, lines-size, lines-count}
+use Rattle.running.proofs.Loop.{sizes}
 use Rattle.basics.specs.Outputs.{answering, Delivered}
 use Rattle.printing.specs.Output.{output_of, Measurable}
-use Rattle.running.specs.Records.{Recorded}
+use Rattle.running.specs.Records.{Roomy, Recorded}
 use Rattle.running.specs.declared.Ran.{Ran}
 use Rattle.basics.proofs.Outputs.{turned_down, with_answer}
 use Rattle.basics.proofs.Replies.{failed, pass, no_test}
@@ -44,10 +49,18 @@ module _ (script out : List ℕ) where
         (λ i. record { bytes = length (r.prints i); retries = r.counts i }) p
 
     -- in either case of what the printing answers
-    pub run-printed : {out' : List ℕ} {a : Answer} (n : ℕ) → a ≡ answer.Done n → Delivered (counted [] (output_of (take ran.shown history) ran.ending)) out out' (answer_reply a)
+    pub run-printed : {out' : List ℕ} {a : Result ℕ Refused} (n : ℕ) → a ≡ Ok n → Delivered (counted [] (output_of (take ran.shown history) ran.ending)) out out' (answer_reply a)
         → Delivered (run_entry script) out out' (accepted (counts n))
-    run-printed {out'} n e p = subst (λ (x : Answer). Delivered (run_entry script) out out' (answering counts (answer_reply x))) e (run-answered p)
+    run-printed {out'} n e p = subst (λ (x : Result ℕ Refused). Delivered (run_entry script) out out' (answering counts (answer_reply x))) e (run-answered p)
 
-    pub run-refused : {out' : List ℕ} {a : Answer} (x : Refusal) (place : ℕ) → a ≡ answer.Refused x place
-        → Delivered (counted [] (output_of (take ran.shown history) ran.ending)) out out' (answer_reply a) → Delivered (run_entry script) out out' (refused (number_of x) place)
-    run-refused {out'} x place e p = subst (λ (y : Answer). Delivered (run_entry script) out out' (answering counts (answer_reply y))) e (run-answered p)
+    pub run-refused : {out' : List ℕ} {a : Result ℕ Refused} (x : Refused) → a ≡ Err x
+        → Delivered (counted [] (output_of (take ran.shown history) ran.ending)) out out' (answer_reply a) → Delivered (run_entry script) out out' (refused (number_of x.refusal) x.place)
+    run-refused {out'} x e p = subst (λ (y : Result ℕ Refused). Delivered (run_entry script) out out' (answering counts (answer_reply y))) e (run-answered p)
+
+-- the history has room for a pair for every line of a move
+pub roomy : (script history : List ℕ) → length script ≤ most_script → 2 * most_script < shortest_move * (length history + 1) → Roomy (move_lines script) history
+roomy script history short long =
+    record {
+      few = omega (arith, length-drop 1 (lines_of script), lines-count script);
+      pairs = omega (arith, sizes (move_lines script), behind-size (lines_of script), lines-size script);
+    }

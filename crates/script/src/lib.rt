@@ -4,7 +4,7 @@
 ghost use Rattle.definitions.specs.Run.{running_reply, run_entry};
 ghost use Rattle.basics.specs.Outputs.{Delivered};
 
-use definitions::{Answer, MOST_MOVES, MOST_SCRIPT, Refusal, Running};
+use definitions::{MOST_MOVES, MOST_SCRIPT, Refusal, Refused, Running};
 use fresh_runs::run_script;
 use printing::print;
 
@@ -12,20 +12,17 @@ use printing::print;
 const MOST_SHOWN: usize = 2 * MOST_MOVES;
 
 // The entry. The moves are made once, and nothing is written before the output is known to have room.
-pub fn run(script: &[u8], out: &mut [u8]) -> Running
+pub fn run(script: &[u8], out: &mut [u8]) -> Result<Running, Refused>
     ensures { Delivered (run_entry script.now) out.old out.new (running_reply result) }
 {
     if MOST_SCRIPT < script.len() {
-        return Running::Refused(Refusal::BadForm, 0);
+        return Err(Refusal::BadForm.into());
     }
     let mut history = [0u8; MOST_SHOWN];
     let ran = run_script(script, &mut history);
-    let shown = ran.shown;
-    let retries = ran.retries;
-    let ending = ran.ending;
-    let answer = print(&history[..shown], ending, out);
-    match answer {
-        Answer::Done(bytes) => Running::Ran { bytes, retries },
-        Answer::Refused(refusal, place) => Running::Refused(refusal, place),
-    }
+    let bytes = print(&history[..ran.shown], ran.ending, out)?;
+    Ok(Running {
+        bytes,
+        retries: ran.retries,
+    })
 }

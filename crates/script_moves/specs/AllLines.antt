@@ -1,16 +1,18 @@
--- What the lines behind the first leave of the moves that they state: their triples from the front on, or a refusal; and the room that they need.
-use Rattle.std.specs.Prelude.{ℕ, ◌*◌, ◌≤◌, List, length}
-use Rattle.definitions.specs.Bounds.{most_script}
+-- What the lines behind the first leave of the moves that they state: their triples from the front on, or a refusal.
+use Rattle.std.specs.Prelude.{ℕ, Result, MatchResult, List, T}
+use Rattle.definitions.specs.Answers.{number_of, passes_all}
+use Rattle.definitions.specs.Plan.{bytes_of}
 use Rattle.definitions.specs.Scripts.{lines_tests, requests_in}
 use Rattle.definitions.specs.Texts.{Line}
-use Rattle.definitions.specs.declared.Answer.{Answer}
-use Rattle.line_moves.specs.Moves.{MovesTaken}
+use Rattle.definitions.specs.declared.Refused.{Refused}
+use Rattle.basics.specs.Outputs.{PutAt}
+use Rattle.line_moves.specs.Moves.{TurnedDown}
 
--- the lines behind the first, for n threads, from the front
-abbrev pub LinesTaken : List Line → ℕ → List ℕ → List ℕ → Answer → Type 0
-LinesTaken ls n before after a = MovesTaken (lines_tests 2 n ls) (requests_in ls) before 0 after a
+-- the lines have passed, and the triples of their requests are put
+pub record AllTaken (ls : List Line) (n : ℕ) (before after : List ℕ) (next : ℕ) : Type 0 where
+  pub passed : T (passes_all (lines_tests 2 n ls))
+  pub put : PutAt before 0 (bytes_of (requests_in ls)) after next
 
--- the script isn't too long, and there is room for a triple for every nine bytes of it
-pub record MovesRoom (script moves : List ℕ) : Type 0 where
-  pub short : length script ≤ most_script
-  pub room : length script ≤ 3 * length moves
+-- the lines behind the first, for n threads
+abbrev pub LinesTaken : List Line → ℕ → List ℕ → List ℕ → Result ℕ Refused → Type 0
+LinesTaken ls n before after a = MatchResult a (AllTaken ls n before after) (λ x. TurnedDown (lines_tests 2 n ls) (number_of x.refusal) x.place)

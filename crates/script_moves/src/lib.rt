@@ -1,41 +1,31 @@
 // The moves that the lines of a script state, one line after the other, as byte triples.
 #![tactic(auto)]
 
-ghost use Rattle.std.specs.Prelude.{◌≤◌, length, drop};
-ghost use Rattle.definitions.specs.Texts.{lines_of};
-ghost use Rattle.script_moves.specs.AllLines.{LinesTaken, MovesRoom};
+ghost use Rattle.std.specs.Prelude.{◌≤◌, length};
+ghost use Rattle.definitions.specs.Bounds.{most_script};
+ghost use Rattle.definitions.specs.Plan.{bytes_of};
+ghost use Rattle.definitions.specs.Scripts.{requests_in};
+ghost use Rattle.basics.specs.Outputs.{RoomAt};
+ghost use Rattle.lines.specs.Lines.{lines_left};
+ghost use Rattle.script_moves.specs.AllLines.{LinesTaken};
 
-use definitions::{Answer, Refusal};
+use definitions::Refused;
 use line_moves::take_line;
-use lines::{Next, next_line};
+use lines::{Lines, SECOND};
 
-// The lines from start on, which is the second. They answer the number of bytes of their triples.
-pub fn take_lines(script: &[u8], start: usize, threads: u8, moves: &mut [u8]) -> Answer
-    requires { (start ≤ length script.now) × MovesRoom script.now moves.old }
-    ensures { LinesTaken (lines_of (drop start script.now)) threads moves.old moves.new result }
+// The lines behind the first. They answer the number of bytes of their triples.
+pub fn take_lines(lines: Lines<'_>, threads: u8, moves: &mut [u8]) -> Result<usize, Refused>
+    requires few { length (lines_left lines) ≤ most_script }
+    requires room { RoomAt moves.old 0 (bytes_of (requests_in (lines_left lines))) }
+    ensures { LinesTaken (lines_left lines.entry) threads moves.old moves.new result }
 {
-    let mut from = start;
-    let mut line: usize = 2;
-    let mut at: usize = 0;
-    loop {
-        let next = next_line(script, from);
-        match next {
-            Next::Done => {
-                return Answer::Done(at);
-            }
-            Next::Unended => {
-                return Answer::Refused(Refusal::BadForm, line);
-            }
-            Next::Line(end) => {
-                let behind = end + 1;
-                let taken = take_line(&script[from..end], line, threads, moves, at);
-                let Answer::Done(next_at) = taken else {
-                    return taken;
-                };
-                at = next_at;
-                line += 1;
-                from = behind;
-            }
+    let mut at = 0;
+    for (k, line) in lines.enumerate() {
+        let taken = take_line(threads, line).map_err(|refusal| refusal.at(SECOND + k))?;
+        if let Some(triple) = taken {
+            moves[at..at + 3].copy_from_slice(&triple);
+            at += 3;
         }
     }
+    Ok(at)
 }

@@ -1,51 +1,24 @@
--- The lines of a list of triples are a text in parts: a line for each triple. And a list of too many moves has a script that is too long.
-use Prim.Native.Nat.{ℕ, suc, ◌+◌, ◌*◌, ◌/◌, ◌≤◌, ◌<◌}
+-- The lines of a list of moves have a line for each move. And a list of too many moves has a script that is too long.
+use Prim.Native.Nat.{ℕ, suc, ◌+◌, ◌*◌, ◌≤◌}
 use native.Mathlib.Omega.{arith}
-use mathlib.Core.List.{List, [], ◌∷◌, ◌++◌}
-use mathlib.Core.Path.{◌≡◌, refl, ap}
+use mathlib.Core.List.{List, [], ◌∷◌}
+use mathlib.Core.Path.{◌≡◌, refl}
 use lib.Dec.{T}
 use lib.ListN.{length, length-append}
 use Rattle.definitions.specs.Answers.{passes_all}
-use Rattle.definitions.specs.Chains.{requests_of}
 use Rattle.definitions.specs.Forms.{threads_line, spelled}
 use Rattle.definitions.specs.Moves.{number_tests}
 use Rattle.definitions.specs.Scripts.{ended, moves_text, script_of, triples_tests}
 use Rattle.definitions.specs.declared.Request.{Request}
 use Rattle.basics.specs.ShortestLines.{shortest_move}
-use Rattle.basics.proofs.Parts.{Parts}
 use Rattle.basics.proofs.TestLists.{passes-split}
 use Rattle.spelling.proofs.LineTexts.{move-least}
 use Rattle.theory.proofs.RequestNumbers.{numbers_e}
-use Rattle.theory.proofs.Triples.{triple_at, triples_from, triples_next, triples_end}
+use Rattle.text.proofs.Items.{ByItems}
 
-module _ (triples : List ℕ) where
-  -- the line of triple k
-  abbrev pub line_at : ℕ → List ℕ
-  line_at k = ended (spelled (triple_at triples k))
-
-  -- the lines of the triples from index k on
-  abbrev pub lines_from : ℕ → List ℕ
-  lines_from k = moves_text (triples_from triples k)
-
-  pub lines_next : (k : ℕ) → k < length triples / 3 → lines_from k ≡ line_at k ++ lines_from (k + 1)
-  unfolding moves_text
-  lines_next k l = ap moves_text (triples_next triples k l)
-
-  pub lines_end : lines_from (length triples / 3) ≡ []
-  unfolding moves_text
-  lines_end = ap moves_text (triples_end triples (length triples / 3) (omega arith))
-
-  abbrev pub move_parts : Parts
-  move_parts =
-      record {
-        text = moves_text (requests_of triples);
-        count = length triples / 3;
-        part = line_at;
-        from = lines_from;
-        start = refl;
-        next = lines_next;
-        end = lines_end;
-      }
+pub by_moves : ByItems (λ (r : Request). ended (spelled r)) moves_text
+unfolding moves_text
+by_moves = record { none = refl; more = λ r rs. refl }
 
 -- the script's length, by that of its first line
 pub script_size : (n : ℕ) (rs : List Request) → length (script_of n rs) ≡ length (ended (threads_line n)) + length (moves_text rs)

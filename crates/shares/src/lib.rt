@@ -1,22 +1,22 @@
 // How many moves the plan for a history makes, from the share of each event, without the plan.
 #![tactic(auto)]
 
-ghost use Rattle.std.specs.Prelude.{◌≡◌, length};
-ghost use Rattle.definitions.specs.Answers.{accepted, answer_reply};
+ghost use Rattle.std.specs.Prelude.{◌≡◌, T, length};
+ghost use Rattle.definitions.specs.Answers.{is_accepted, answer_reply};
 ghost use Rattle.definitions.specs.PlainLock.{pairs_of, check_reply};
 ghost use Rattle.definitions.specs.Plan.{plan, plan_length_reply};
-ghost use Rattle.shares.specs.Shares.{ShareOf};
+ghost use Rattle.shares.specs.Shares.{share_of};
 
-use definitions::Answer;
+use definitions::Refused;
 
 // In a share, a move that is made once is 1, and one that is made again for each thread this.
 const EACH: u64 = 4_294_967_296;
 
-// How many moves an event takes, in one number. The shares are constants, and are compiled to a table, and not to branches,
-// which are often mispredicted.
-#[tactic(auto, unfolding(theory::proofs::PlanLengths::moves_for))]
+// How many moves an event takes, in one number. Codes stand by number, since a byte of a history may be any code. The shares are
+// constants, and are compiled to a table, and not to branches, which are often mispredicted.
+#[tactic(auto, unfolding(crate::specs::Shares::share_of))]
 fn share_of(code: usize) -> u64
-    ensures { ShareOf code result }
+    ensures { result ≡ share_of code }
 {
     match code {
         0 => 0,
@@ -34,16 +34,13 @@ fn share_of(code: usize) -> u64
 
 // How many moves the plan for a history makes that the check accepts. A pass over the events' codes adds up their shares; the
 // product with N comes after it: in the loop it would be compiled to branches.
-pub fn count_moves(threads: u16, history: &[u8], events: usize) -> usize
-    requires { check_reply threads history.now ≡ accepted events }
+pub fn count_moves(threads: u16, history: &[u8]) -> usize
+    requires { T (is_accepted (check_reply threads history.now)) }
     ensures { result ≡ length (plan threads (pairs_of history.now)) }
 {
     let mut shares: u64 = 0;
-    let mut k: usize = 0;
-    while k < events {
-        let code = history[2 * k + 1] as usize;
-        shares += share_of(code);
-        k += 1;
+    for pair in history.chunks_exact(2) {
+        shares += share_of(pair[1] as usize);
     }
     let once = (shares % EACH) as usize;
     let each = (shares / EACH) as usize;
@@ -51,12 +48,9 @@ pub fn count_moves(threads: u16, history: &[u8], events: usize) -> usize
 }
 
 // How many moves the plan for a history makes, without the plan. Refusals and places are the check's.
-pub fn plan_length(threads: u16, history: &[u8]) -> Answer
+pub fn plan_length(threads: u16, history: &[u8]) -> Result<usize, Refused>
     ensures { answer_reply result ≡ plan_length_reply threads history.now }
 {
-    let answer = history::check(threads, history);
-    let Answer::Done(events) = answer else {
-        return answer;
-    };
-    Answer::Done(count_moves(threads, history, events))
+    history::check(threads, history)?;
+    Ok(count_moves(threads, history))
 }

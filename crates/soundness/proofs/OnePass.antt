@@ -5,6 +5,7 @@ use native.Mathlib.Omega.{arith}
 use mathlib.Core.Bool.{Bool, true, false, cond, ◌&&◌, ◌||◌, and_assoc, and-true, and-false}
 use mathlib.Core.List.{List, [], ◌∷◌}
 use mathlib.Core.Path.{◌≡◌, refl, sym, subst, ap, ◌∙◌}
+use Rattle.std.specs.Prelude.{Some, None}
 use borrow.Author.Tests.{le-leb, lt-leb, ne_eqb}
 use lib.Dec.{T, leb, ltb, eqb}
 use Rattle.definitions.specs.Bounds.{last_phase, no_target}
@@ -14,7 +15,6 @@ use Rattle.definitions.specs.Table.{Table}
 use Rattle.definitions.specs.Threads.{how_many, among, between, all_of, implies}
 use Rattle.soundness.specs.Pass.{tally_below, fit_below, found_of, sound_by, aimed_at, passes}
 use Rattle.tallies.specs.Rules.{mutex_agrees, some_elsewhere, aim_fits, rest_fits}
-use Rattle.soundness.specs.declared.Found.TheVariants.{Good, Bad}
 use Rattle.tallies.specs.declared.Tally.{Tally}
 use Rattle.basics.proofs.Cases.{or_at, none_of}
 use Rattle.basics.proofs.Tests.{and_cong, and_l, and_r}
@@ -155,7 +155,7 @@ regroup : (p f b r : Bool) → (p && (f && (b && r))) ≡ (p && (f && b) && r)
 regroup p f b r = simp and_assoc
 
 -- threads that fail by themselves are refused
-either : (s : Table) (x : Bool) (t : Tally) → passes s (cond x (Good t) Bad) ≡ (x && sound_by t (head_of s) (task_of s (aimed_at (head_of s))))
+either : (s : Table) (x : Bool) (t : Tally) → passes s (cond x (Some t) None) ≡ (x && sound_by t (head_of s) (task_of s (aimed_at (head_of s))))
 unfolding passes
 either s true t = refl
 either s false t = refl

@@ -2,7 +2,7 @@
 -- First the pass: `found_of s i` is what is found of the threads below i, each field a word on those threads.
 -- Then `sound_by`, the decision from what was found of all threads, the head and the task that the target names.
 -- That it is the decision of `sound` stands in proofs/OnePass.
-use Rattle.std.specs.Prelude.{ℕ, Bool, false, cond, ◌&&◌, leb, ltb, eqb}
+use Rattle.std.specs.Prelude.{ℕ, Option, Some, None, Bool, false, cond, ◌&&◌, leb, ltb, eqb}
 use Rattle.definitions.specs.Bounds.{last_phase, no_target}
 use Rattle.definitions.specs.Phases.{busy_in, holds, reading}
 use Rattle.definitions.specs.Sound.{backed_off}
@@ -10,8 +10,6 @@ use Rattle.definitions.specs.Table.{Table}
 use Rattle.definitions.specs.Threads.{every, how_many, sum_of, between}
 use Rattle.definitions.specs.declared.Head.{Head}
 use Rattle.definitions.specs.declared.Task.{Task}
-use Rattle.soundness.specs.declared.Found.{Found}
-use Rattle.soundness.specs.declared.Found.TheVariants.{Good, Bad}
 use Rattle.tallies.specs.declared.Tally.{Tally}
 use Rattle.tallies.specs.Rules.{mutex_agrees, some_elsewhere, aim_fits, rest_fits}
 use Rattle.theory.specs.Tables.{head_of, task_of}
@@ -46,9 +44,9 @@ tally_below s i =
 abbrev pub fit_below : Table → ℕ → Bool
 fit_below s i = every i (λ j. thread_fits (s.phase j) (s.busy j) (s.forbidden j))
 
--- what is found of the threads below i
-unfoldable pub found_of : Table → ℕ → Found
-found_of s i = cond (fit_below s i) (Good (tally_below s i)) Bad
+-- what is found of the threads below i; None where one of them fails the rules by itself
+unfoldable pub found_of : Table → ℕ → Option Tally
+found_of s i = cond (fit_below s i) (Some (tally_below s i)) None
 
 -- ---- the decision
 
@@ -64,6 +62,6 @@ abbrev pub aimed_at : Head → ℕ
 aimed_at head = cond (ltb head.target head.threads) head.target 0
 
 -- the whole decision
-unfoldable pub passes : Table → Found → Bool
-passes s (Good t) = sound_by t (head_of s) (task_of s (aimed_at (head_of s)))
-passes s Bad = false
+unfoldable pub passes : Table → Option Tally → Bool
+passes s (Some t) = sound_by t (head_of s) (task_of s (aimed_at (head_of s)))
+passes s None = false

@@ -7,38 +7,30 @@ ghost use Rattle.std.specs.Prelude.{◌≡◌};
 ghost use Rattle.soundness.specs.Pass.{sound_by, aimed_at};
 
 use definitions::{Head, NO_TARGET, Task};
-use tallies::{Tally, aim_fits, mutex_agrees, rest_fits, some_elsewhere};
-
-// What is found; Bad where a thread fails those rules.
-#[derive(Clone, Copy)]
-pub enum Found {
-    Good(Tally),
-    Bad,
-}
+use tallies::Tally;
 
 // The thread that the target names, and thread 0 where it names none, whose task is there too.
 pub fn aimed_at(head: Head) -> usize
     ensures { result ≡ aimed_at head }
 {
-    let target = head.target as usize;
-    if target < head.threads as usize {
-        return target;
+    if head.target < head.threads {
+        head.target as usize
+    } else {
+        0
     }
-    0
 }
 
-// The decision from a tally of all threads, the head, and the task that the target names.
+// The decision from a tally of all threads, the head, and the task that the target names. The holder's phase is a sum, and so a
+// number.
 #[tactic(auto, unfolding(crate::specs::Pass::sound_by))]
 pub fn is_sound(t: Tally, head: Head, aim: Task) -> bool
     ensures { result ≡ sound_by t head aim }
 {
     let threads = head.threads as usize;
-    if !(mutex_agrees(t, head.mutex) & some_elsewhere(t, threads)) {
-        return false;
-    }
-    if (11 <= t.holder) & (t.holder <= 12) {
-        let at = head.target as usize;
-        return (at < threads) & aim_fits(t, aim);
-    }
-    (head.target == NO_TARGET) & rest_fits(t, threads)
+    t.mutex_agrees(head.mutex)
+        && t.some_elsewhere(threads)
+        && match t.holder {
+            11..=12 => head.target < head.threads && t.aim_fits(aim),
+            _ => head.target == NO_TARGET && t.rest_fits(threads),
+        }
 }

@@ -1,54 +1,57 @@
 // The lines of a script as they are written, each with its line feed: how long they are, and the same put into an output.
 #![tactic(auto)]
 
-ghost use Rattle.std.specs.Prelude.{◌≡◌, length};
+ghost use Rattle.std.specs.Prelude.{◌≤◌, ◌≡◌, length};
 ghost use Rattle.definitions.specs.Forms.{threads_line, spelled};
 ghost use Rattle.definitions.specs.Moves.{ask};
 ghost use Rattle.definitions.specs.Scripts.{ended};
-ghost use Rattle.basics.specs.Outputs.{RoomAt, PutAt};
+ghost use Rattle.text.specs.Cursors.{HasRoom, Puts};
 
-use acts::{act_length, put_act, put_around};
-use decimals::{decimal_length, put_decimal};
-use text::put_text;
+use acts::{act_length, put_act};
+use decimals::decimal_length;
+use text::Output;
 
 // The bytes of `(threads `, and of `)` with its line feed.
-const AROUND_THREADS: u16 = 11;
+const AROUND_THREADS: usize = 11;
 
 // The bytes of a move's bracket and of its line feed.
-const AROUND_MOVE: u16 = 2;
+const AROUND_MOVE: usize = 2;
 
-// `(threads N)`
-pub fn threads_length(threads: u16) -> u16
-    ensures { result ≡ length (ended (threads_line threads)) }
+// How long `(threads N)` is.
+pub fn threads_length(threads: u16) -> usize
+    ensures size { result ≡ length (ended (threads_line threads)) }
+    ensures short { result ≤ 31 }
 {
-    let digits = decimal_length(threads as usize);
-    AROUND_THREADS + digits as u16
+    AROUND_THREADS + decimal_length(threads as usize)
 }
 
+// The line `(threads N)`.
 #[tactic(auto, unfolding(definitions::specs::Texts::bytes))]
-pub fn put_threads(out: &mut [u8], at: usize, threads: u16) -> usize
-    requires { RoomAt out.old at (ended (threads_line threads)) }
-    ensures { PutAt out.old at (ended (threads_line threads)) out.new result }
+pub fn put_threads(out: &mut Output, threads: u16)
+    requires { HasRoom out.old (ended (threads_line threads)) }
+    ensures { Puts out.old (ended (threads_line threads)) out.new }
 {
-    put_around(out, at, b"(threads ", threads, b")\n")
+    out.put(b"(threads ");
+    out.put_decimal(threads as usize);
+    out.put(b")\n");
 }
 
-// `(T (go))`, and so on for each move.
-pub fn move_length(thread: u8, mv: u8, target: u8) -> u16
-    ensures { result ≡ length (ended (spelled (ask thread mv target))) }
+// How long a move's line is, `(T (go))` and so on.
+pub fn move_length(thread: u8, mv: u8, target: u8) -> usize
+    ensures size { result ≡ length (ended (spelled (ask thread mv target))) }
+    ensures short { result ≤ 60 }
 {
-    let digits = decimal_length(thread as usize);
-    let act = act_length(mv, target);
-    AROUND_MOVE + digits as u16 + act as u16
+    AROUND_MOVE + decimal_length(thread as usize) + act_length(mv, target)
 }
 
+// A move's line.
 #[tactic(auto, unfolding(definitions::specs::Texts::bytes))]
-pub fn put_move(out: &mut [u8], at: usize, thread: u8, mv: u8, target: u8) -> usize
-    requires { RoomAt out.old at (ended (spelled (ask thread mv target))) }
-    ensures { PutAt out.old at (ended (spelled (ask thread mv target))) out.new result }
+pub fn put_move(out: &mut Output, thread: u8, mv: u8, target: u8)
+    requires { HasRoom out.old (ended (spelled (ask thread mv target))) }
+    ensures { Puts out.old (ended (spelled (ask thread mv target))) out.new }
 {
-    let a = put_text(out, at, b"(");
-    let b = put_decimal(out, a, thread as usize);
-    let c = put_act(out, b, mv, target);
-    put_text(out, c, b"\n")
+    out.put(b"(");
+    out.put_decimal(thread as usize);
+    put_act(out, mv, target);
+    out.put(b"\n");
 }

@@ -19,6 +19,11 @@ unseen_by retry = cond retry Retry Quiet
 abbrev pub passed : View → ℕ → Outcome → Decided
 passed v phase outcome = record { head = v.head; mover = in_phase v.mover phase; forbidden = v.subject.forbidden; outcome = outcome }
 
+-- with a value for busy, which shows no event
+abbrev pub with_busy : View → ℕ → ℕ → Decided
+with_busy v phase busy =
+    record { head = v.head; mover = record { phase = phase; busy = busy; forbidden = v.mover.forbidden }; forbidden = v.subject.forbidden; outcome = Quiet }
+
 -- with a value for the mutex, or for the target and the subject's forbidden
 abbrev pub with_mutex : View → ℕ → ℕ → Outcome → Decided
 with_mutex v phase mutex outcome =

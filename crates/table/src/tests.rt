@@ -1,23 +1,21 @@
 // The tests of the refusals 1 and 2.
-ghost use Rattle.std.specs.Prelude.{◌≡◌};
+ghost use Rattle.std.specs.Prelude.{◌≡◌, Some};
 ghost use Rattle.definitions.specs.Table.{table_of, sized};
 ghost use Rattle.soundness.specs.Pass.{passes};
-ghost use Rattle.soundness.specs.declared.Found.TheVariants.{Good};
 ghost use Rattle.theory.specs.Tables.{Sized};
 ghost use Rattle.table.specs.TableTests.{examined_of};
 
 use codes::count_fits;
 use definitions::Refusal;
 use layout::{THREADS_AT, read_head, read_task, size_of};
-use soundness::{Found, aimed_at};
+use soundness::aimed_at;
 use tallies::Tally;
 
-// What the tests of a table answer.
+// What is told of a sound table: N, and how many forbidden are 1.
 #[derive(Clone, Copy)]
-pub enum Examined {
-    // N, and how many forbidden are 1.
-    Sound(usize, usize),
-    Refused(Refusal),
+pub struct Examined {
+    pub threads: usize,
+    pub forbidden: usize,
 }
 
 // Refusal 1: "N is 0 or above 200, or the table isn't 3 + 3N bytes (an empty one included)."
@@ -25,18 +23,18 @@ pub enum Examined {
 fn size_fits(table: &[u8]) -> bool
     ensures { result ≡ sized table.now }
 {
-    if table.len() == 0 {
+    if table.is_empty() {
         return false;
     }
     let threads = table[THREADS_AT] as usize;
-    count_fits(threads) & (table.len() == size_of(threads))
+    count_fits(threads) && table.len() == size_of(threads)
 }
 
 // The decision on a table from what one pass found of its threads.
 #[tactic(auto, unfolding(soundness::specs::Pass::passes))]
 fn decided(table: &[u8], t: Tally) -> bool
     requires { Sized table.now }
-    ensures { result ≡ passes (table_of table.now) (Good t) }
+    ensures { result ≡ passes (table_of table.now) (Some t) }
 {
     let head = read_head(table);
     let aim = read_task(table, aimed_at(head));
@@ -44,20 +42,17 @@ fn decided(table: &[u8], t: Tally) -> bool
 }
 
 #[tactic(auto, unfolding(crate::specs::TableTests::examined_of, soundness::specs::Pass::passes, theory::specs::Tables::forbidden_count, soundness::specs::Pass::found_of))]
-pub fn examine(table: &[u8]) -> Examined
+pub fn examine(table: &[u8]) -> Result<Examined, Refusal>
     ensures { result ≡ examined_of table.now }
 {
     if !size_fits(table) {
-        return Examined::Refused(Refusal::BadSize);
+        return Err(Refusal::BadSize);
     }
-    let threads = table[THREADS_AT] as usize;
-    let found = byte_pass::found(table, threads);
-    let Found::Good(t) = found else {
-        return Examined::Refused(Refusal::Unsound);
-    };
-    if decided(table, t) {
-        Examined::Sound(threads, t.forbidden)
-    } else {
-        Examined::Refused(Refusal::Unsound)
+    match byte_pass::found(table) {
+        Some(t) if decided(table, t) => Ok(Examined {
+            threads: table[THREADS_AT] as usize,
+            forbidden: t.forbidden,
+        }),
+        _ => Err(Refusal::Unsound),
     }
 }

@@ -20,46 +20,43 @@ pub struct Tally {
     pub backed_off: usize,
 }
 
-// "the mutex is 1 exactly if there is one"
-pub fn mutex_agrees(t: Tally, mutex: u8) -> bool
-    ensures { result ≡ mutex_agrees t mutex }
-{
-    let taken = t.holder != 0;
-    ((mutex == 1) & taken) | ((mutex == 0) & !taken)
-}
+impl Tally {
+    // "the mutex is 1 exactly if there is one"
+    pub fn mutex_agrees(self, mutex: u8) -> bool
+        ensures { result ≡ mutex_agrees self mutex }
+    {
+        let taken = self.holder != 0;
+        mutex == taken as u8
+    }
 
-// "not every thread is in phases 3, 4 and 18" (02 §6)
-pub fn some_elsewhere(t: Tally, threads: usize) -> bool
-    ensures { result ≡ some_elsewhere t threads }
-{
-    t.backed_off < threads
-}
+    // "not every thread is in phases 3, 4 and 18" (02 §6)
+    pub fn some_elsewhere(self, threads: usize) -> bool
+        ensures { result ≡ some_elsewhere self threads }
+    {
+        self.backed_off < threads
+    }
 
-// The rules for a holder in 11 or 12, from the target's task.
-#[tactic(auto, unfolding(definitions::specs::Phases::rows, definitions::specs::Threads::every, crate::specs::Rules::aim_fits))]
-pub fn aim_fits(t: Tally, aim: Task) -> bool
-    ensures { result ≡ aim_fits t aim }
-{
-    let reading = (5 <= aim.phase) & (aim.phase <= 7);
-    (aim.forbidden == 1) & (t.readers == reading as usize)
-}
+    // The rules for a holder in 11 or 12, from the target's task, whose phase is read by number from any bytes.
+    #[tactic(auto, unfolding(definitions::specs::Phases::rows, definitions::specs::Threads::every, crate::specs::Rules::aim_fits))]
+    pub fn aim_fits(self, aim: Task) -> bool
+        ensures { result ≡ aim_fits self aim }
+    {
+        let reading = matches!(aim.phase, 5..=7);
+        aim.forbidden == 1 && self.readers == reading as usize
+    }
 
-// The rules for no holder, or one in another phase.
-#[tactic(auto, unfolding(crate::specs::Rules::rest_fits))]
-pub fn rest_fits(t: Tally, threads: usize) -> bool
-    ensures { result ≡ rest_fits t threads }
-{
-    let h = t.holder;
-    let clear = t.forbidden == 0;
-    let full = (t.forbidden == threads) & (t.readers == 0);
-    match h {
-        0 => clear,
-        10 => (t.forbidden < threads) & (t.readers == 0),
-        13 => full,
-        14 => full,
-        15 => 0 < t.forbidden,
-        16 => clear,
-        18 => clear,
-        _ => false,
+    // The rules for no holder, or one in another phase. Phases stand by number, as the definitions have them (Phases), and the
+    // holder's is a sum, which may be no phase.
+    #[tactic(auto, unfolding(crate::specs::Rules::rest_fits))]
+    pub fn rest_fits(self, threads: usize) -> bool
+        ensures { result ≡ rest_fits self threads }
+    {
+        match self.holder {
+            0 | 16 | 18 => self.forbidden == 0,
+            10 => self.forbidden < threads && self.readers == 0,
+            13 | 14 => self.forbidden == threads && self.readers == 0,
+            15 => 0 < self.forbidden,
+            _ => false,
+        }
     }
 }

@@ -1,2 +1,5 @@
--- A whole output, which callers cite too.
+-- A text in parts put into an output, and a whole output, which callers cite too.
+pub mod Cursors
 pub mod Deliveries
+mod Digits
+pub mod Items

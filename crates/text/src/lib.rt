@@ -1,43 +1,77 @@
-// Text put into a lent output: each function that writes puts its text at a position and answers the position behind it.
-// `deliver` writes a whole text, or nothing where it has no room.
+// Text put into a lent output, from its front, and a text that is a whole output.
 #![tactic(auto)]
 
-ghost use Rattle.std.specs.Prelude.{[], ◌∷◌};
+ghost use Rattle.std.specs.Prelude.{◌≡◌, [], ◌∷◌};
 ghost use Rattle.definitions.specs.Answers.{answer_reply, counted};
-ghost use Rattle.basics.specs.Outputs.{RoomAt, PutAt, Delivered};
+ghost use Rattle.definitions.specs.Texts.{decimal};
+ghost use Rattle.basics.specs.Outputs.{Delivered};
+ghost use Rattle.text.specs.Cursors.{Begins, HasRoom, Puts};
 
-use definitions::{Answer, Refusal};
+use decimals::decimal_length;
+use definitions::{Refusal, Refused};
 
-// One byte.
-pub fn put_byte(out: &mut [u8], at: usize, byte: u8) -> usize
-    requires { RoomAt out.old at (byte ∷ []) }
-    ensures { PutAt out.old at (byte ∷ []) out.new result }
-{
-    out[at] = byte;
-    at + 1
+// A lent output, and where the next text is put: behind the bytes put so far.
+#[derive(Drop)]
+pub struct Output<'a> {
+    bytes: &'a mut [u8],
+    at: usize,
 }
 
-// A text, byte by byte.
-pub fn put_text(out: &mut [u8], at: usize, text: &[u8]) -> usize
-    requires { RoomAt out.old at text.now }
-    ensures { PutAt out.old at text.now out.new result }
-{
-    let mut next = at;
-    let mut i: usize = 0;
-    while i < text.len() {
-        next = put_byte(out, next, text[i]);
-        i += 1;
+impl<'a> Output<'a> {
+    pub fn new(bytes: &'a mut [u8]) -> Output<'a>
+        ensures { Begins bytes.entry result }
+    {
+        Output { bytes, at: 0 }
     }
-    next
+
+    // How many bytes have been put.
+    pub fn written(&self) -> usize
+        ensures { result ≡ self.now.at }
+    {
+        self.at
+    }
+
+    // One byte.
+    pub fn put_byte(&mut self, byte: u8)
+        requires { HasRoom self.old (byte ∷ []) }
+        ensures { Puts self.old (byte ∷ []) self.new }
+    {
+        self.bytes[self.at] = byte;
+        self.at += 1;
+    }
+
+    // A text, byte by byte: `copy_from_slice` would be compiled to a call of memmove, which the host doesn't supply.
+    pub fn put(&mut self, text: &[u8])
+        requires { HasRoom self.old text.now }
+        ensures { Puts self.old text.now self.new }
+    {
+        for &byte in text {
+            self.put_byte(byte);
+        }
+    }
+
+    // A number with the digits that it needs, from the last to the first.
+    pub fn put_decimal(&mut self, n: usize)
+        requires { HasRoom self.old (decimal n) }
+        ensures { Puts self.old (decimal n) self.new }
+    {
+        let end = self.at + decimal_length(n);
+        let mut high = n;
+        for place in (self.at..end).rev() {
+            self.bytes[place] = b'0' + (high % 10) as u8;
+            high /= 10;
+        }
+        self.at = end;
+    }
 }
 
 // A text written whole or not at all.
-pub fn deliver(text: &[u8], out: &mut [u8]) -> Answer
+pub fn deliver(text: &[u8], out: &mut [u8]) -> Result<usize, Refused>
     ensures { Delivered (counted [] text.now) out.old out.new (answer_reply result) }
 {
     if out.len() < text.len() {
-        return Answer::Refused(Refusal::NoRoom, 0);
+        return Err(Refusal::NoRoom.into());
     }
-    let written = put_text(out, 0, text);
-    Answer::Done(written)
+    Output::new(out).put(text);
+    Ok(text.len())
 }

@@ -1,32 +1,31 @@
-// Triples put into an output: each function puts its bytes at an index, and answers the index behind them.
+// Triples put into an output.
 #![tactic(auto)]
 
 ghost use Rattle.std.specs.Prelude.{◌%◌, [], ◌∷◌, ◌≡◌, length};
 ghost use Rattle.definitions.specs.Moves.{ask};
 ghost use Rattle.definitions.specs.Plan.{bytes_of};
-ghost use Rattle.basics.specs.Outputs.{RoomAt, PutAt};
+ghost use Rattle.text.specs.Cursors.{HasRoom, Puts};
+
+use text::Output;
 
 // One triple.
 #[tactic(auto, unfolding(definitions::specs::Plan::bytes_of))]
-pub fn put_triple(out: &mut [u8], at: usize, thread: u8, mv: u8, target: u8) -> usize
-    requires { RoomAt out.old at (bytes_of (ask thread mv target ∷ [])) }
-    ensures { PutAt out.old at (bytes_of (ask thread mv target ∷ [])) out.new result }
+pub fn put_triple(out: &mut Output, thread: u8, mv: u8, target: u8)
+    requires { HasRoom out.old (bytes_of (ask thread mv target ∷ [])) }
+    ensures { Puts out.old (bytes_of (ask thread mv target ∷ [])) out.new }
 {
-    out[at] = thread;
-    out[at + 1] = mv;
-    out[at + 2] = target;
-    at + 3
+    out.put_byte(thread);
+    out.put_byte(mv);
+    out.put_byte(target);
 }
 
-// Triples put at the front of the output. Byte by byte the loop would be compiled to a call of memcpy, which the host supplies.
-#[tactic(auto, unfolding(definitions::specs::Plan::bytes_of))]
-pub fn put_triples(out: &mut [u8], moves: &[u8]) -> usize
-    requires { RoomAt out.old 0 moves.now × (length moves.now % 3 ≡ 0) }
-    ensures { PutAt out.old 0 moves.now out.new result }
+// Triples, three bytes a turn: byte by byte they would be put by a call of memcpy.
+pub fn put_triples(out: &mut Output, moves: &[u8])
+    requires room { HasRoom out.old moves.now }
+    requires whole { length moves.now % 3 ≡ 0 }
+    ensures { Puts out.old moves.now out.new }
 {
-    let mut at: usize = 0;
-    while at < moves.len() {
-        at = put_triple(out, at, moves[at], moves[at + 1], moves[at + 2]);
+    for triple in moves.chunks_exact(3) {
+        put_triple(out, triple[0], triple[1], triple[2]);
     }
-    at
 }

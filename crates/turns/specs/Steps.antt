@@ -1,13 +1,14 @@
 -- What a line's turn does to a run: whether the run goes on, what it adds to the history, the table after it, the moves made, and the retries among them.
-use Rattle.std.specs.Prelude.{ℕ, Bool, true, false, cond, List, [], ◌∷◌, ◌≡◌}
+use Rattle.std.specs.Prelude.{ℕ, Result, MatchResult, Bool, true, false, cond, List, [], ◌∷◌, ◌≡◌}
 use Rattle.definitions.specs.Answers.{Seen, shown, quiet, number_of}
 use Rattle.definitions.specs.Moves.{move_table}
 use Rattle.definitions.specs.Run.{Turn, stops, passes, makes}
 use Rattle.definitions.specs.Table.{table_of}
-use Rattle.basics.specs.Outputs.{PutAt}
+use Rattle.definitions.specs.declared.Refusal.{Refusal}
+use Rattle.text.specs.Cursors.{Puts}
+use Rattle.text.specs.declared.Output.{Output}
 use Rattle.theory.specs.Tables.{forbidden_count}
-use Rattle.turns.specs.declared.Step.{Step}
-use Rattle.turns.specs.declared.Step.TheVariants.{Stopped, Passed}
+use Rattle.turns.specs.declared.Passed.{Passed}
 
 -- the run goes on behind the line
 abbrev pub passes_on : Turn → Bool
@@ -44,20 +45,20 @@ retries_made (stops number) = 0
 retries_made passes = 0
 retries_made (makes r answer) = cond answer.retry 1 0
 
--- a line that lets the run go on: the table and the history behind it, the moves made and the retries among them, how many forbidden are 1, and the position
-pub record PassedOn (turn : Turn) (table history : List ℕ) (at : ℕ) (table' history' : List ℕ) (moves retries forbidden next : ℕ) : Type 0 where
+-- a line that lets the run go on: the table and the history behind it, the moves made and the retries among them, and how many forbidden are 1
+pub record PassedOn (turn : Turn) (table : List ℕ) (history : Output) (table' : List ℕ) (history' : Output) (p : Passed) : Type 0 where
   pub passed : passes_on turn ≡ true
   pub bytes : table' ≡ table_behind table turn
-  pub put : PutAt history at (added turn) history' next
-  pub made : moves ≡ moves_made turn
-  pub retried : retries ≡ retries_made turn
-  pub count : forbidden ≡ forbidden_count (table_of table')
+  pub put : Puts history (added turn) history'
+  pub made : p.moves ≡ moves_made turn
+  pub retried : p.retries ≡ retries_made turn
+  pub count : p.forbidden ≡ forbidden_count (table_of table')
 
 -- a line that stops it
-pub record StoppedBy (turn : Turn) (history history' : List ℕ) (number : ℕ) : Type 0 where
+pub record StoppedBy (turn : Turn) (history history' : Output) (number : ℕ) : Type 0 where
   pub stopped : turn ≡ stops number
   pub kept : history' ≡ history
 
-abbrev pub Stepped : Turn → List ℕ → List ℕ → ℕ → List ℕ → List ℕ → Step → Type 0
-Stepped turn table history at table' history' (Stopped refusal) = StoppedBy turn history history' (number_of refusal)
-Stepped turn table history at table' history' (Passed moves retries forbidden next) = PassedOn turn table history at table' history' moves retries forbidden next
+abbrev pub Stepped : Turn → List ℕ → Output → List ℕ → Output → Result Passed Refusal → Type 0
+Stepped turn table history table' history' r =
+    MatchResult r (λ p. PassedOn turn table history table' history' p) (λ x. StoppedBy turn history history' (number_of x))

@@ -3,15 +3,13 @@
 // again.
 #![tactic(auto)]
 
-ghost use Rattle.std.specs.Prelude.{◌≡◌, length};
-ghost use Rattle.consistency.specs.Records.{watcher_of};
-ghost use Rattle.definitions.specs.Bounds.{most_threads};
-ghost use Rattle.definitions.specs.PlainLock.{places_in};
-ghost use Rattle.updates.specs.Updates.{standing_at, Tested, changed, kept, Updates};
+ghost use Rattle.std.specs.Prelude.{◌≡◌, T};
+ghost use Rattle.definitions.specs.Answers.{passes_all};
+ghost use Rattle.definitions.specs.Watch.{record_tests};
+ghost use Rattle.updates.specs.Updates.{standing_in, changed, kept, Judged};
 
-use consistency::Totals;
-use definitions::{MOST_THREADS, Refusal, Watched};
-use plain_lock::{Standing, Verdict, WRITER, judge};
+use definitions::{Refusal, Watcher};
+use plain_lock::{Standing, WRITER, judge};
 
 // What an event changes of a record, one entry and the two totals, and what is answered.
 #[derive(Clone, Copy)]
@@ -20,77 +18,57 @@ pub struct Update {
     pub place: u8,
     pub shared: u8,
     pub exclusive: u8,
-    pub answer: Watched,
+    pub answer: Result<(), Refusal>,
 }
 
-// A thread's place; 0 for one that no record has an entry for.
-fn place_of(places: &[u8], thread: u16) -> u8
-    requires { length places.now ≡ most_threads }
-    ensures { result ≡ places_in places.now thread }
+// Where a thread stands: its place, 0 for one that no record has an entry for; and the two totals of a record make one of those
+// inside.
+fn standing(watcher: &Watcher, thread: u16) -> Standing
+    ensures { result ≡ standing_in watcher.now thread }
 {
-    let t = thread as usize;
-    if t < MOST_THREADS as usize {
-        return places[t];
+    let place = watcher.places.get(thread as usize).copied();
+    Standing {
+        inside: watcher.shared as u32 + WRITER * watcher.exclusive as u32,
+        place: place.unwrap_or(0),
     }
-    0
-}
-
-// Where a thread stands: the two totals of a record make one of those inside.
-fn standing(totals: Totals, place: u8) -> Standing
-    ensures { result ≡ standing_at totals place }
-{
-    let shared = totals.shared as u32;
-    let exclusive = totals.exclusive as u32;
-    let inside = shared + WRITER * exclusive;
-    Standing { place, inside }
 }
 
 // What an event that fits changes.
 fn carried_out(at: usize, after: Standing) -> Update
     ensures { result ≡ changed at after }
 {
-    let readers = (after.inside % WRITER) as u8;
-    let writers = (after.inside / WRITER % WRITER) as u8;
-    let answer = Watched::Good;
     Update {
         at,
         place: after.place,
-        shared: readers,
-        exclusive: writers,
-        answer,
+        shared: (after.inside % WRITER) as u8,
+        exclusive: (after.inside / WRITER % WRITER) as u8,
+        answer: Ok(()),
     }
 }
 
-// A request that is turned down puts back what stands there, at the first entry.
-pub fn turned_down(totals: Totals, places: &[u8], refusal: Refusal) -> Update
-    requires { length places.now ≡ most_threads }
-    ensures { result ≡ kept (watcher_of totals places.now) refusal }
+// The update of an event that is turned down: what stands in the record already, at the first entry.
+pub fn turned_down(watcher: &Watcher, refusal: Refusal) -> Update
+    ensures { result ≡ kept watcher.now refusal }
 {
-    let first = places[0];
-    let answer = Watched::Refused(refusal);
     Update {
         at: 0,
-        place: first,
-        shared: totals.shared,
-        exclusive: totals.exclusive,
-        answer,
+        place: watcher.places[0],
+        shared: watcher.shared,
+        exclusive: watcher.exclusive,
+        answer: Err(refusal),
     }
 }
 
-// Refusals 9, 10 and 11 of an event, put to a record that passed its tests.
-pub fn judged(totals: Totals, places: &[u8], thread: u16, event: u16) -> Update
-    requires { Tested (watcher_of totals places.now) }
-    ensures { Updates (watcher_of totals places.now) (record { thread = thread; event = event }) result }
+// Refusals 9, 10 and 11 of an event, put to a record that passed its tests; else what it changes.
+pub fn judged(watcher: &Watcher, thread: u16, event: u16) -> Result<Update, Refusal>
+    requires { T (passes_all (record_tests watcher.now)) }
+    ensures { Judged watcher.now (record { thread = thread; event = event }) result }
 {
-    let place = place_of(places, thread);
-    let before = standing(totals, place);
-    let threads = totals.threads as u16;
-    let verdict = judge(threads, thread, event, before);
-    match verdict {
-        Verdict::Fits(after) => {
-            let at = thread as usize;
-            carried_out(at, after)
-        }
-        Verdict::Bad(refusal) => turned_down(totals, places, refusal),
-    }
+    let verdict = judge(
+        watcher.threads as u16,
+        thread,
+        event,
+        standing(watcher, thread),
+    );
+    verdict.map(|after| carried_out(thread as usize, after))
 }

@@ -1,7 +1,7 @@
 -- What the rules of the moves see of a table, whatever stores it, and how a move's writes show in what they decide.
 -- `view_of` is what is seen, and `Follows` says that a decision is that of an effect: its head, its mover and its flag are what the effect's writes make of those seen.
 use Rattle.std.specs.Prelude.{ℕ, ◌+◌, ◌-◌, Bool, ◌||◌, ◌≡◌, T, eqb}
-use Rattle.definitions.specs.Answers.{outcome_reply, accepted, moved}
+use Rattle.definitions.specs.Answers.{outcome_answer, moved}
 use Rattle.definitions.specs.Moves.{Effect, none_forbidden_but, effect, is_retry, accepts}
 use Rattle.definitions.specs.Table.{Table}
 use Rattle.definitions.specs.Threads.{every}
@@ -43,7 +43,7 @@ pub record Follows (e : Effect) (retry : Bool) (v : View) (d : Decided) : Type 0
   pub head : d.head ≡ head_after v.head e.writes
   pub mover : d.mover ≡ mover_after v.mover e.writes
   pub flag : d.forbidden ≡ flag_after v.subject.forbidden e.writes
-  pub says : outcome_reply d.outcome ≡ accepted (moved e.shows retry)
+  pub says : outcome_answer d.outcome ≡ moved e.shows retry
 
 -- it does so for every table and accepted request that look like the view
 abbrev pub Decides : View → ℕ → Decided → Type 0

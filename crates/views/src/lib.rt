@@ -1,27 +1,29 @@
-// What a move sees of a table, whatever stores it, and what it leaves, by value.
+// What a move sees of a table, whatever stores it, and what it leaves, by value. Phases stand by number, as the definitions have
+// them (Phases), and a task is read from any bytes.
 #![tactic(auto)]
 
 ghost use Rattle.std.specs.Prelude.{◌≤◌, ◌≡◌};
-ghost use Rattle.definitions.specs.Bounds.{most_threads, last_move};
+ghost use Rattle.definitions.specs.Answers.{number_of_move};
+ghost use Rattle.definitions.specs.Bounds.{most_threads};
 ghost use Rattle.theory.specs.Statements.{subject_by};
 ghost use Rattle.views.specs.View.{others_by};
 
-use definitions::{Head, Outcome, Request, Task};
+use definitions::{Head, Move, Outcome, Request, Task};
+use phase_moves::names_thread;
 
-// The thread whose busy a move may read and whose forbidden it may write, from the head and the mover.
+// The thread whose busy a move may read and whose forbidden it may write, from the head, the mover and the request with its move.
 #[tactic(auto, unfolding(theory::specs::Statements::subject_by))]
-pub fn subject_of(head: Head, mover: Task, request: Request) -> usize
-    requires { request.mv ≤ last_move }
+pub fn subject_of(head: Head, mover: Task, request: Request, mv: Move) -> usize
+    requires { request.mv ≡ number_of_move mv }
     ensures { result ≡ subject_by request mover.phase head.target }
 {
-    let mv = request.mv as u8;
-    if phase_moves::names_thread(mv) {
+    if names_thread(mv) {
         return request.target as usize;
     }
-    if (11 <= mover.phase) & (mover.phase <= 12) {
-        return head.target as usize;
+    match mover.phase {
+        11..=12 => head.target as usize,
+        _ => request.thread as usize,
     }
-    request.thread as usize
 }
 
 // Whether every forbidden but the subject's is 1, and whether every one but the subject's is 0.
@@ -37,10 +39,8 @@ pub fn others_of(threads: usize, count: usize, forbidden: u8) -> Others
     ensures { result ≡ others_by threads count forbidden }
 {
     let one = forbidden as usize;
-    let rest = threads - 1;
-    let all = rest + one;
     Others {
-        set: count == all,
+        set: count == threads - 1 + one,
         clear: count == one,
     }
 }

@@ -1,98 +1,71 @@
-// The watcher of 02 §2, by value: a record comes in as a value, and what an event changes of it goes out as one. A record is
-// tested (crate consistency), and then the event is judged (crate updates) or the question answered.
+// The watcher of 02 §2: a start and an event take the record by value, and what an event changes of it goes out as a value, the
+// update that the scope paper names; a question takes the record by reference. A record is tested (crate consistency), and then
+// the event is judged (crate updates) or the question answered.
 #![tactic(auto)]
 
-ghost use Rattle.std.specs.Prelude.{◌≡◌, length};
-ghost use Rattle.consistency.specs.Records.{watcher_of};
-ghost use Rattle.definitions.specs.Bounds.{most_threads};
+ghost use Rattle.std.specs.Prelude.{◌≡◌};
 ghost use Rattle.definitions.specs.Watch.{watched_reply, inside_reply, start_reply, start_record, question_reply};
-ghost use Rattle.updates.specs.Updates.{Updates};
+ghost use Rattle.updates.specs.Updates.{Updates, Judged};
 
 use codes::count_fits;
-use consistency::{Totals, test_record};
-use definitions::{Inside, MOST_THREADS, Refusal, Watched, Watcher};
+use consistency::test_record;
+use definitions::{MOST_THREADS, Refusal, Watcher};
 use updates::{Update, judged, turned_down};
 
 // The record that a start leaves, and what is answered.
 #[derive(Clone, Copy)]
 pub struct Begun {
     pub watcher: Watcher,
-    pub answer: Watched,
+    pub answer: Result<(), Refusal>,
 }
 
-// Refusals 1 and 13 of the record, then 9, 10 and 11 of the event.
-fn update_of(totals: Totals, places: &[u8], thread: u16, event: u16) -> Update
-    requires { length places.now ≡ most_threads }
-    ensures { Updates (watcher_of totals places.now) (record { thread = thread; event = event }) result }
+// Refusals 1 and 13 of the record, then 9, 10 and 11 of the event; else what it changes.
+#[tactic(auto, unfolding(definitions::specs::Watch::event_reply, definitions::specs::Answers::answered, definitions::specs::Answers::passes_all))]
+fn tested_and_judged(watcher: &Watcher, thread: u16, event: u16) -> Result<Update, Refusal>
+    ensures { Judged watcher.now (record { thread = thread; event = event }) result }
 {
-    let tested = test_record(totals, places);
-    match tested {
-        Watched::Good => judged(totals, places, thread, event),
-        Watched::Refused(refusal) => turned_down(totals, places, refusal),
-    }
+    test_record(watcher)?;
+    judged(watcher, thread, event)
 }
 
 // One event, put to a record.
+#[tactic(auto, using(updates::proofs::EventLaws::refuses))]
 pub fn watch_event(watcher: Watcher, thread: u16, event: u16) -> Update
     ensures { Updates watcher (record { thread = thread; event = event }) result }
 {
-    let totals = Totals {
-        threads: watcher.threads,
-        shared: watcher.shared,
-        exclusive: watcher.exclusive,
-    };
-    update_of(totals, &watcher.places, thread, event)
+    let update = tested_and_judged(&watcher, thread, event);
+    update.unwrap_or_else(|refusal| turned_down(&watcher, refusal))
 }
 
-// A watch starts: refusal 1.
+// A start: refusal 1.
+#[tactic(auto, unfolding(definitions::specs::Watch::start_reply, definitions::specs::Watch::start_record, definitions::specs::Answers::answered))]
 pub fn start(count: u16, watcher: Watcher) -> Begun
     ensures answer_value { watched_reply result.answer ≡ start_reply count }
     ensures watcher_value { result.watcher ≡ start_record count watcher }
 {
-    let wanted = count as usize;
-    if !count_fits(wanted) {
-        let answer = Watched::Refused(Refusal::BadSize);
-        return Begun { watcher, answer };
+    if !count_fits(count as usize) {
+        return Begun {
+            watcher,
+            answer: Err(Refusal::BadSize),
+        };
     }
-    let threads = count as u8;
-    let watcher = Watcher {
-        threads,
+    let started = Watcher {
+        threads: count as u8,
         shared: 0,
         exclusive: 0,
         places: [0; MOST_THREADS as usize],
     };
-    let good = Watched::Good;
     Begun {
-        watcher,
-        answer: good,
+        watcher: started,
+        answer: Ok(()),
     }
 }
 
-// Refusals 1 and 13 of the record, then whether anybody is inside, by the two totals.
-fn inside_of(totals: Totals, places: &[u8]) -> Inside
-    requires { length places.now ≡ most_threads }
-    ensures { inside_reply result ≡ question_reply (watcher_of totals places.now) }
+// "Is anybody inside?", put to a record: refusals 1 and 13, then whether a total isn't 0.
+#[tactic(auto, unfolding(definitions::specs::Watch::question_reply, definitions::specs::Answers::answered))]
+pub fn anybody_inside(watcher: &Watcher) -> Result<bool, Refusal>
+    ensures { inside_reply result ≡ question_reply watcher.now }
 {
-    let tested = test_record(totals, places);
-    match tested {
-        Watched::Good => {
-            if (totals.shared != 0) | (totals.exclusive != 0) {
-                return Inside::Somebody;
-            }
-            Inside::Nobody
-        }
-        Watched::Refused(refusal) => Inside::Refused(refusal),
-    }
-}
-
-// "Is anybody inside?", put to a record.
-pub fn anybody_inside(watcher: Watcher) -> Inside
-    ensures { inside_reply result ≡ question_reply watcher }
-{
-    let totals = Totals {
-        threads: watcher.threads,
-        shared: watcher.shared,
-        exclusive: watcher.exclusive,
-    };
-    inside_of(totals, &watcher.places)
+    test_record(watcher)?;
+    Ok((watcher.shared != 0) | (watcher.exclusive != 0))
 }

@@ -1,107 +1,108 @@
--- The digits at the front of a list, taken one by one; what the number readers answer of them, and what an answer says of the number.
-use Prim.Native.Nat.{ℕ, zero, suc, ◌+◌, ◌-◌, ◌*◌, ◌≤◌, ◌<◌}
-use native.Mathlib.Numerals.{add-one}
+-- What the number reader's steps say of the number at the front of a list, and what an answer says of it.
+use Prim.Native.Nat.{ℕ, ◌+◌, ◌-◌, ◌*◌, ◌≤◌, ◌<◌}
+use native.Mathlib.Numerals.{add-one, one-add}
 use native.Mathlib.Omega.{arith}
-use mathlib.Core.Bool.{Bool, true, false, cond, not, ◌&&◌, ◌||◌, and-false}
-use mathlib.Core.List.{List}
-use mathlib.Core.Logic.{◌≢◌}
+use mathlib.Core.Bool.{Bool, true, false, cond, and-false, and-true, or-true}
+use mathlib.Core.Logic.{◌⊎◌, inl, inr}
+use mathlib.Core.List.{List, [], ◌∷◌}
 use mathlib.Core.Path.{◌≡◌, refl, sym, ap, ◌∙◌}
-use borrow.Author.Tests.{ne_eqb, lt-ltb, le-leb, lt-leb}
-use lib.Dec.{leb, ltb, eqb}
+use borrow.Author.Tests.{ne_eqb, lt-leb, le-leb}
+use lib.Dec.{leb, eqb}
 use lib.ListN.{length, get_or, take, drop}
+use Rattle.std.proofs.Common.{length-take-le}
 use lib.Seq.{take-suc, get_or-take}
-use Rattle.definitions.specs.Texts.{same, is_digit, digits_of, number_fits, value_from, number_read}
+use Rattle.std.specs.Prelude.{Some, None}
+use Rattle.std.specs.Char.{is_ascii_digit}
+use Rattle.std.specs.List.{prefix_len, take_while}
+use Rattle.definitions.specs.Texts.{same, starts, is_digit, digits_of, number_fits, value_from, number_read}
 use Rattle.words.specs.Numbers.{number_for, closed_for}
-use Rattle.words.specs.declared.MaybeNumber.TheVariants.{Known, Unknown}
-use Rattle.basics.proofs.Digits.{digits_within, take_digits, digit_more, digit_low, digit_high, value-behind, value_below}
+use Rattle.words.specs.declared.Number.{Number}
+use Rattle.basics.proofs.Digits.{digits_within, take_digits, digit_here, digit_low, digit_high, value-behind, value_below}
 use Rattle.basics.proofs.Lists.{from_on}
 
--- ---- digit by digit
+-- ---- the digits at the front, and their value
 
-value_more : (xs : List ℕ) (n : ℕ) → n < length xs → value_from 0 (take (n + 1) xs) ≡ 10 * value_from 0 (take n xs) + (get_or xs n 0 - 48)
-value_more xs n h = rw (add-one, take-suc xs n 0) (value-behind 0 (take n xs) (get_or xs n 0))
+-- the library's name for them
+pub digits_are : (xs : List ℕ) → take_while is_ascii_digit xs ≡ digits_of xs
+unfolding digits_of
+digits_are [] = refl
+digits_are (c ∷ cs) = go (is_digit c) (digits_are cs)
+  where
+    go : (b : Bool) → take_while is_ascii_digit cs ≡ digits_of cs → take (cond b (1 + prefix_len is_ascii_digit cs) 0) (c ∷ cs) ≡ cond b (c ∷ digits_of cs) []
+    go true e = rw (one-add, e)
+    go false e = refl
 
--- the first n bytes are digits, three at most, and this is their value
-pub record ReadSoFar (xs : List ℕ) (n value : ℕ) : Type 0 where
-  pub few : n ≤ 3
-  pub digits : n ≤ length (digits_of xs)
-  pub worth : value ≡ value_from 0 (take n xs)
+-- what is known of digit i among n, and of the value of those before it
+pub record DigitAt (xs : List ℕ) (n i : ℕ) : Type 0 where
+  pub low : 48 ≤ get_or (take n xs) i 0
+  pub high : get_or (take n xs) i 0 ≤ 57
+  pub small : value_from 0 (take i xs) < 100
+  pub more : value_from 0 (take (i + 1) xs) ≡ 10 * value_from 0 (take i xs) + (get_or (take n xs) i 0 - 48)
 
--- what holds before a further digit is taken
-pub record Next (xs : List ℕ) (n value : ℕ) : Type 0 where
-  pub here : n < length xs
-  pub low : 48 ≤ get_or xs n 0
-  pub high : get_or xs n 0 ≤ 57
-  pub small : value < 100
-  pub more : ReadSoFar xs (n + 1) (10 * value + (get_or xs n 0 - 48))
+pub digits_taken : (xs : List ℕ) (n : ℕ) → n ≡ length (digits_of xs) → n ≡ length (take n xs)
+digits_taken xs n count = let within = digits_within xs in sym (length-take-le n xs (omega arith))
 
-pub none_read : (xs : List ℕ) → ReadSoFar xs 0 0
-unfolding value_from
-none_read xs = record { few = omega arith; digits = omega arith; worth = refl }
-
-module _ {xs : List ℕ} {n value : ℕ} (t : ReadSoFar xs n value) where
-  pub next : is_digit (get_or xs n 0) ≡ true → (n ≡ 3 → ⊥) → Next xs n value
-  next e h =
-      let more = digit_more xs n t.digits e in
-      let within = digits_within xs in
-      let apart : n ≢ 3 = h in
-      let few = t.few in
-      record {
-        here = omega arith;
-        low = digit_low (get_or xs n 0) e;
-        high = digit_high (get_or xs n 0) e;
-        small = omega (arith, t.worth, value_below xs n 2 0 1 (omega arith) t.digits (omega arith));
-        more = record { few = omega arith; digits = omega arith; worth = rw t.worth (sym (value_more xs n (omega arith))) };
-      }
+-- there are three at most
+pub digit_at : (xs : List ℕ) (n i : ℕ) → n ≡ length (digits_of xs) → n ≤ 3 → i < length (take n xs) → DigitAt xs n i
+digit_at xs n i count few below =
+    let within = digits_within xs in
+    let h : i < n = omega (arith, digits_taken xs n count) in
+    let digit = digit_here xs i (omega arith) in
+    let same = get_or-take n xs i 0 h in
+    record {
+      low = rw same (digit_low (get_or xs i 0) digit);
+      high = rw same (digit_high (get_or xs i 0) digit);
+      small = omega (arith, value_below xs i 2 0 1 (omega arith) (omega arith) (omega arith));
+      more = rw (same, add-one, take-suc xs i 0 (omega arith)) (value-behind 0 (take i xs) (get_or xs i 0));
+    }
 
 -- ---- the number at the front
 
-unread : (xs : List ℕ) → number_fits (digits_of xs) ≡ false → Unknown ≡ number_for xs
-unfolding number_read
-unread xs e = rw e
+-- a first zero
+zero_first : (xs : List ℕ) → 0 < length (digits_of xs) → eqb (get_or (digits_of xs) 0 0) 48 ≡ starts (48 ∷ []) xs
+unfolding same
+zero_first xs h = ap (λ (c : ℕ). eqb c 48) (ap (λ (l : List ℕ). get_or l 0 0) (sym (take_digits xs)) ∙ get_or-take (length (digits_of xs)) xs 0 0 h) ∙ of_head xs
+  where
+    of_head : (ys : List ℕ) → eqb (get_or ys 0 0) 48 ≡ starts (48 ∷ []) ys
+    of_head [] = refl
+    of_head (c ∷ cs) = sym (and-true (eqb c 48))
 
-head_digit : (xs : List ℕ) → 0 < length (digits_of xs) → get_or (digits_of xs) 0 0 ≡ get_or xs 0 0
-head_digit xs h = ap (λ (l : List ℕ). get_or l 0 0) (sym (take_digits xs)) ∙ get_or-take (length (digits_of xs)) xs 0 0 h
+module _ (xs : List ℕ) (n : ℕ) (count : n ≡ length (digits_of xs)) where
+  unread : number_fits (digits_of xs) ≡ false → None ≡ number_for xs
+  unfolding number_read
+  unread e = rw e
 
--- no digit
-pub number_none : (xs : List ℕ) → length (digits_of xs) ≡ 0 → Unknown ≡ number_for xs
-number_none xs e = unread xs (rw e)
+  -- no digit, or too many
+  pub number_none : n ≡ 0 → None ≡ number_for xs
+  number_none e = unread (rw (← count, e))
 
-module _ {xs : List ℕ} {n value : ℕ} (t : ReadSoFar xs n value) where
-  -- too many
-  pub number-long : is_digit (get_or xs n 0) ≡ true → n ≡ 3 → Unknown ≡ number_for xs
-  number-long e h =
-      let l = digit_more xs n t.digits e in
-      unread xs (rw (lt-leb (length (digits_of xs)) 3 (omega arith), and-false (leb 1 (length (digits_of xs)))))
+  pub number_long : 3 < n → None ≡ number_for xs
+  number_long h = unread (rw (← count, lt-leb n 3 h, and-false (leb 1 n)))
 
-  -- one to three, and no more follow: a leading zero is left to test
-  module _ (d : n ≡ length (digits_of xs)) (h : n ≡ 0 → ⊥) where
-    tested : (b : Bool) → (ltb 1 n && eqb (get_or xs 0 0) 48) ≡ b → number_fits (digits_of xs) ≡ not b
-    tested b e =
-        let some : n ≢ 0 = h in
-        let few = t.few in
-        rw (head_digit xs (omega arith), ← d, le-leb 1 n (omega arith), le-leb n 3 few) (go n (eqb (get_or xs 0 0) 48) h ∙ ap not e)
-      where
-        go : (m : ℕ) (zeroFirst : Bool) → (m ≡ 0 → ⊥) → (eqb m 1 || not zeroFirst) ≡ not (ltb 1 m && zeroFirst)
-        go zero z p = absurd (p refl)
-        go (suc zero) z p = refl
-        go (suc (suc m)) z p = rw (ne_eqb (suc (suc m)) 1 (λ e. omega arith), lt-ltb 1 (suc (suc m)) (omega arith))
+  -- a leading zero
+  pub number_no : n ≤ 3 → 1 < n → starts (48 ∷ []) xs ≡ true → None ≡ number_for xs
+  number_no few many zero =
+      let several : n ≡ 1 → ⊥ = λ e. omega arith in
+      unread (rw (zero_first xs (omega arith), zero, ← count, le-leb 1 n (omega arith), le-leb n 3 few, ne_eqb n 1 several))
 
-    pub number_no : (ltb 1 n && eqb (get_or xs 0 0) 48) ≡ true → Unknown ≡ number_for xs
-    number_no e = unread xs (tested true e)
+  -- one to three digits, and no leading zero
+  module _ (few : n ≤ 3) (some : 0 < n) where
+    fits : (n ≡ 1) ⊎ (starts (48 ∷ []) xs ≡ false) → number_fits (digits_of xs) ≡ true
+    fits (inl e) = rw (← count, e)
+    fits (inr h) = rw (zero_first xs (omega arith), h, ← count, le-leb 1 n some, le-leb n 3 few, or-true (eqb n 1))
 
-    pub number-yes : (ltb 1 n && eqb (get_or xs 0 0) 48) ≡ false → Known value n ≡ number_for xs
+    pub number_yes : (n ≡ 1) ⊎ (starts (48 ∷ []) xs ≡ false) → Some (record { value = value_from 0 (take n xs); digits = n }) ≡ number_for xs
     unfolding number_read
-    number-yes e = rw (tested false e, t.worth, d, take_digits xs)
+    number_yes head = rw (fits head, count, take_digits xs)
 
 -- ---- what an answer says of the number
 
 -- a number that is well formed: its value, what follows it, and how many digits it has
-pub record Found (xs : List ℕ) (value digits : ℕ) : Type 0 where
+pub record Found (xs : List ℕ) (n : Number) : Type 0 where
   pub fits : (number_read xs).fits ≡ true
-  pub value_is : (number_read xs).value ≡ value
-  pub rest : (number_read xs).rest ≡ drop digits xs
-  pub within : digits ≤ length xs
+  pub value_is : (number_read xs).value ≡ n.value
+  pub rest : (number_read xs).rest ≡ drop n.digits xs
+  pub within : n.digits ≤ length xs
 
 module _ (xs : List ℕ) where
   by_fits : (P : Type 0) → ((number_read xs).fits ≡ true → P) → ((number_read xs).fits ≡ false → P) → P
@@ -111,35 +112,23 @@ module _ (xs : List ℕ) where
       go true e = f e
       go false e = g e
 
-  pub found : (value digits : ℕ) → Known value digits ≡ number_for xs → Found xs value digits
+  pub found : (n : Number) → Some n ≡ number_for xs → Found xs n
   unfolding number_read
-  found value digits e =
-      by_fits (Found xs value digits)
+  found n e =
+      by_fits (Found xs n)
       (λ f.
-      let same : Known value digits ≡ Known (number_read xs).value (length (digits_of xs)) = rw f at e in
-      let size : length (digits_of xs) ≡ digits = cc in
+      let same : Some n ≡ Some (record { value = (number_read xs).value; digits = length (digits_of xs) }) = rw f at e in
+      let size : length (digits_of xs) ≡ n.digits = cc in
       record { fits = f; value_is = cc; rest = ap (λ (k : ℕ). drop k xs) size; within = omega (arith, digits_within xs) })
-      (λ f. let same : Known value digits ≡ Unknown = rw f at e in let no : ◌≡◌ {A = ℕ} 0 1 = cc in absurd (omega arith))
-
-  pub missing : Unknown ≡ number_for xs → (number_read xs).fits ≡ false
-  missing e =
-      by_fits ((number_read xs).fits ≡ false)
-      (λ f.
-      let same : Unknown ≡ Known (number_read xs).value (length (digits_of xs)) = rw f at e in
-      let no : ◌≡◌ {A = ℕ} 0 1 = cc in
-      absurd (omega arith))
-      (λ f. f)
+      (λ f. let none : Some n ≡ None = rw f at e in cc)
 
   -- ---- a number that a text follows, and nothing else
 
-  pub closed_missing : (closing : List ℕ) → Unknown ≡ number_for xs → Unknown ≡ closed_for xs closing
-  closed_missing closing e = rw (missing e)
-
   -- by the comparison of what follows it
-  pub closed_by : (closing : List ℕ) (value digits : ℕ) → Known value digits ≡ number_for xs → (s b : Bool) → s ≡ same (take (length xs - digits) (drop digits xs)) closing → s ≡ b
-      → cond b (Known value digits) Unknown ≡ closed_for xs closing
-  closed_by closing value digits e s b compared h =
-      let f = found value digits e in
-      let known : Known value digits ≡ Known (number_read xs).value (length (digits_of xs)) = rw f.fits at e in
-      let follows : same (number_read xs).rest closing ≡ b = rw (f.rest, ← from_on xs digits) (sym compared ∙ h) in
+  pub closed_by : (closing : List ℕ) (n : Number) → Some n ≡ number_for xs → (s b : Bool) → s ≡ same (take (length xs - n.digits) (drop n.digits xs)) closing → s ≡ b
+      → cond b (Some n) None ≡ closed_for xs closing
+  closed_by closing n e s b compared h =
+      let f = found n e in
+      let known : Some n ≡ Some (record { value = (number_read xs).value; digits = length (digits_of xs) }) = rw f.fits at e in
+      let follows : same (number_read xs).rest closing ≡ b = rw (f.rest, ← from_on xs n.digits) (sym compared ∙ h) in
       rw (f.fits, follows, known)

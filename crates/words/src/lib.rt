@@ -1,94 +1,70 @@
 // Words and numbers of a script's line: comparisons of texts, and the number at the front of a part.
 #![tactic(auto)]
 
-ghost use Rattle.std.specs.Prelude.{◌≡◌, ◌≤◌, true, length, get_or};
-ghost use Rattle.definitions.specs.Texts.{same, starts, is_digit};
+ghost use Rattle.std.specs.Prelude.{◌≡◌, ◌≤◌, true, length};
+ghost use Rattle.definitions.specs.Texts.{same, starts, digits_of};
 ghost use Rattle.words.specs.Numbers.{number_for, closed_for};
 
-// A number and how many digits it has, or that there is none.
+// A number and how many digits it has.
 #[derive(Clone, Copy)]
-pub enum MaybeNumber {
-    Known(u16, usize),
-    Unknown,
+pub struct Number {
+    pub value: u16,
+    pub digits: usize,
 }
 
 // "numbers of one to three digits"
 const MOST_DIGITS: usize = 3;
 
 // Two parts are the same text.
+#[tactic(auto, using(crate::proofs::Comparisons::same_is))]
 pub fn same_text(part: &[u8], text: &[u8]) -> bool
     ensures { result ≡ same part.now text.now }
 {
-    if part.len() != text.len() {
-        return false;
-    }
-    let mut i: usize = 0;
-    while i < text.len() {
-        if part[i] != text[i] {
-            return false;
-        }
-        i += 1;
-    }
-    true
+    part == text
 }
 
 // A part begins with a text.
+#[tactic(auto, using(crate::proofs::Comparisons::starts_is))]
 pub fn starts_with(part: &[u8], text: &[u8]) -> bool
     ensures value { result ≡ starts text.now part.now }
     ensures long { result ≡ true → length text.now ≤ length part.now }
 {
-    let n = text.len();
-    if part.len() < n {
-        return false;
-    }
-    same_text(&part[..n], text)
+    part.starts_with(text)
 }
 
-// There is a digit at a place of a part.
-pub fn digit_at(part: &[u8], at: usize) -> bool
-    ensures { result ≡ is_digit (get_or part.now at 0) }
+// How many digits stand at the front of a part.
+fn count_digits(part: &[u8]) -> usize
+    ensures { result ≡ length (digits_of part.now) }
 {
-    if at < part.len() {
-        return (b'0' <= part[at]) & (part[at] <= b'9');
-    }
-    false
+    part.iter().take_while(|c| c.is_ascii_digit()).count()
 }
 
-// The number at the front of a part. No more than MOST_DIGITS digits are taken, so it stays below 1000.
-pub fn read_number(part: &[u8]) -> MaybeNumber
+// The number at the front of a part. It has no more than MOST_DIGITS digits, so it stays below 1000.
+pub fn read_number(part: &[u8]) -> Option<Number>
     ensures { result ≡ number_for part.now }
 {
-    let mut value: u16 = 0;
-    let mut digits: usize = 0;
-    while digit_at(part, digits) {
-        if digits == MOST_DIGITS {
-            return MaybeNumber::Unknown;
-        }
-        value = 10 * value + (part[digits] - b'0') as u16;
-        digits += 1;
+    let digits = count_digits(part);
+    if digits == 0 || MOST_DIGITS < digits {
+        return None;
     }
-    if digits == 0 {
-        return MaybeNumber::Unknown;
+    if 1 < digits && starts_with(part, b"0") {
+        return None;
     }
-    if (1 < digits) & (part[0] == b'0') {
-        return MaybeNumber::Unknown;
+    let mut value = 0;
+    for c in &part[..digits] {
+        value = 10 * value + u16::from(*c - b'0');
     }
-    MaybeNumber::Known(value, digits)
+    Some(Number { value, digits })
 }
 
 // A number that a text follows, and nothing else.
-pub fn read_closed(part: &[u8], closing: &[u8]) -> MaybeNumber
+pub fn read_closed(part: &[u8], closing: &[u8]) -> Option<Number>
     ensures { result ≡ closed_for part.now closing.now }
 {
-    let number = read_number(part);
-    match number {
-        MaybeNumber::Unknown => MaybeNumber::Unknown,
-        MaybeNumber::Known(value, digits) => {
-            if same_text(&part[digits..], closing) {
-                MaybeNumber::Known(value, digits)
-            } else {
-                MaybeNumber::Unknown
-            }
-        }
+    let number = read_number(part)?;
+    if same_text(&part[number.digits..], closing) {
+        Some(number)
+    } else {
+        None
     }
 }

@@ -1,3 +1,2 @@
 -- What the promises of the entries cite besides the definitions and the answers' numbers.
-pub mod Records
 pub mod Version

@@ -15,14 +15,11 @@ ghost use Rattle.definitions.specs.Scripts.{write_entry, read_entry};
 ghost use Rattle.definitions.specs.Table.{fresh_entry};
 ghost use Rattle.definitions.specs.Watch.{start_reply, start_record, event_reply, event_record, question_reply};
 ghost use Rattle.answer_numbers.specs.Encoding.{move_number, turn_number, run_number, count_number, watch_number, inside_number, read_number, held};
-ghost use Rattle.wospinzo.specs.Records.{Renews};
 ghost use Rattle.wospinzo.specs.Version.{version};
 
-use answer_numbers::{
-    answer_number, hold_place, inside_number, reading_number, running_number, watch_number,
-};
+use answer_numbers::{answer_number, hold_place, placeless_number};
 use definitions::{Request, Watcher};
-use move_numbers::{dispatched_number, outcome_number};
+use move_numbers::dispatched_number;
 
 // The part's version: major, minor and patch number. docs/CHANGELOG.md says what each of them promises.
 const MAJOR: u32 = 1;
@@ -37,8 +34,7 @@ pub fn wospinzo_fresh(threads: u16, out: &mut [u8]) -> u64
     ensures value { result ≡ count_number (delivery_reply (fresh_entry threads) out.old) }
     ensures out_after { out.new ≡ delivery_output (fresh_entry threads) out.old }
 {
-    let answer = table::fresh(threads, out);
-    answer_number(answer)
+    answer_number(table::fresh(threads, out))
 }
 
 // One move of one thread, which also says whether it was a retry; the table stays in the lent bytes.
@@ -46,8 +42,7 @@ pub fn wospinzo_move(table: &mut [u8], thread: u16, mv: u16, target: u16) -> u64
     ensures value { result ≡ move_number (move_reply table.old (ask thread mv target)) }
     ensures table_after { table.new ≡ move_table table.old (ask thread mv target) }
 {
-    let outcome = lock::make_move(table, Request { thread, mv, target });
-    outcome_number(outcome)
+    placeless_number(lock::make_move(table, Request { thread, mv, target }))
 }
 
 // One turn of the dispatcher: a move that is no call, no retry and no leaving, for the lowest thread that has one.
@@ -55,8 +50,7 @@ pub fn wospinzo_dispatch(table: &mut [u8]) -> u64
     ensures value { result ≡ turn_number (dispatch_reply table.old) }
     ensures table_after { table.new ≡ dispatch_table table.old }
 {
-    let answer = dispatch::dispatch(table);
-    dispatched_number(answer)
+    dispatched_number(dispatch::dispatch(table))
 }
 
 // The nodes of all threads.
@@ -65,8 +59,7 @@ pub fn wospinzo_nodes(table: &[u8], out: &mut [u8]) -> u64
     ensures value { result ≡ count_number (delivery_reply (nodes_entry table.now) out.old) }
     ensures out_after { out.new ≡ delivery_output (nodes_entry table.now) out.old }
 {
-    let answer = nodes::nodes(table, out);
-    answer_number(answer)
+    answer_number(nodes::nodes(table, out))
 }
 
 // The moves that a thread's requests would have accepted.
@@ -75,8 +68,7 @@ pub fn wospinzo_open_moves(table: &[u8], thread: u16, out: &mut [u8]) -> u64
     ensures value { result ≡ count_number (delivery_reply (open_entry table.now thread) out.old) }
     ensures out_after { out.new ≡ delivery_output (open_entry table.now thread) out.old }
 {
-    let answer = listing::open_moves(table, thread, out);
-    answer_number(answer)
+    answer_number(listing::open_moves(table, thread, out))
 }
 
 // Whether the plain lock permits a history.
@@ -84,8 +76,7 @@ pub fn wospinzo_open_moves(table: &[u8], thread: u16, out: &mut [u8]) -> u64
 pub fn wospinzo_check(threads: u16, history: &[u8]) -> u64
     ensures { result ≡ count_number (check_reply threads history.now) }
 {
-    let answer = history::check(threads, history);
-    answer_number(answer)
+    answer_number(history::check(threads, history))
 }
 
 // How many requests make a permitted history happen: the plan's count, without the plan.
@@ -93,8 +84,7 @@ pub fn wospinzo_check(threads: u16, history: &[u8]) -> u64
 pub fn wospinzo_plan_length(threads: u16, history: &[u8]) -> u64
     ensures { result ≡ count_number (plan_length_reply threads history.now) }
 {
-    let answer = shares::plan_length(threads, history);
-    answer_number(answer)
+    answer_number(shares::plan_length(threads, history))
 }
 
 // The requests that make a permitted history happen.
@@ -103,18 +93,15 @@ pub fn wospinzo_plan(threads: u16, history: &[u8], out: &mut [u8]) -> u64
     ensures value { result ≡ count_number (delivery_reply (plan_entry threads history.now) out.old) }
     ensures out_after { out.new ≡ delivery_output (plan_entry threads history.now) out.old }
 {
-    let answer = plan::plan(threads, history, out);
-    answer_number(answer)
+    answer_number(plan::plan(threads, history, out))
 }
 
 // The run of a script, with the number of retries among its moves.
-#[tactic(auto, using(answer_numbers::proofs::Small::run_small))]
 pub fn wospinzo_run(script: &[u8], out: &mut [u8]) -> u64
     ensures value { result ≡ run_number (delivery_reply (run_entry script.now) out.old) }
     ensures out_after { out.new ≡ delivery_output (run_entry script.now) out.old }
 {
-    let answer = script::run(script, out);
-    running_number(answer)
+    answer_number(script::run(script, out))
 }
 
 // A list of moves, byte triples, as a script.
@@ -123,71 +110,15 @@ pub fn wospinzo_write_script(threads: u16, triples: &[u8], out: &mut [u8]) -> u6
     ensures value { result ≡ count_number (held (delivery_reply (write_entry threads triples.now) out.old)) }
     ensures out_after { out.new ≡ delivery_output (write_entry threads triples.now) out.old }
 {
-    let answer = writing::write(threads, triples, out);
-    let fitting = hold_place(answer);
-    answer_number(fitting)
+    answer_number(hold_place(writing::write(threads, triples, out)))
 }
 
 // The moves of a script, as byte triples, and its N.
-#[tactic(auto, using(answer_numbers::proofs::Small::read_small))]
 pub fn wospinzo_read_script(script: &[u8], out: &mut [u8]) -> u64
     ensures value { result ≡ read_number (delivery_reply (read_entry script.now) out.old) }
     ensures out_after { out.new ≡ delivery_output (read_entry script.now) out.old }
 {
-    let answer = reading::read(script, out);
-    reading_number(answer)
-}
-
-// What a start leaves of a watcher's record, and the number that is answered.
-#[derive(Clone, Copy)]
-struct Started {
-    watcher: Watcher,
-    number: u64,
-}
-
-fn start_record(count: u16, watcher: Watcher) -> Started
-    ensures { result ≡ record { watcher = start_record count watcher; number = watch_number (start_reply count) } }
-{
-    let start = watch::start(count, watcher);
-    let answer = start.answer;
-    let number = watch_number(answer);
-    let left = start.watcher;
-    Started {
-        watcher: left,
-        number,
-    }
-}
-
-// What an event changes of a watcher's record, and the number that is answered.
-#[derive(Clone, Copy)]
-struct Renewed {
-    at: usize,
-    place: u8,
-    shared: u8,
-    exclusive: u8,
-    number: u64,
-}
-
-fn update_record(watcher: Watcher, thread: u16, event: u16) -> Renewed
-    ensures { Renews watcher (record { thread = thread; event = event }) result }
-{
-    let update = watch::watch_event(watcher, thread, event);
-    let answer = update.answer;
-    let number = watch_number(answer);
-    Renewed {
-        at: update.at,
-        place: update.place,
-        shared: update.shared,
-        exclusive: update.exclusive,
-        number,
-    }
-}
-
-fn ask_record(watcher: Watcher) -> u64
-    ensures { result ≡ inside_number (question_reply watcher) }
-{
-    let answer = watch::anybody_inside(watcher);
-    inside_number(answer)
+    answer_number(reading::read(script, out))
 }
 
 // A watcher's record for N threads, before any event.
@@ -195,9 +126,9 @@ pub fn wospinzo_watch_start(threads: u16, watcher: &mut Watcher) -> u64
     ensures value { result ≡ watch_number (start_reply threads) }
     ensures watcher_after { watcher.new ≡ start_record threads watcher.old }
 {
-    let made = start_record(threads, *watcher);
-    *watcher = made.watcher;
-    made.number
+    let begun = watch::start(threads, *watcher);
+    *watcher = begun.watcher;
+    placeless_number(begun.answer)
 }
 
 // One event, judged and added where the record is kept.
@@ -205,19 +136,18 @@ pub fn wospinzo_watch_event(watcher: &mut Watcher, thread: u16, event: u16) -> u
     ensures value { result ≡ watch_number (event_reply watcher.old (record { thread = thread; event = event })) }
     ensures watcher_after { watcher.new ≡ event_record watcher.old (record { thread = thread; event = event }) }
 {
-    let made = update_record(*watcher, thread, event);
-    let at = made.at;
-    watcher.places[at] = made.place;
-    watcher.shared = made.shared;
-    watcher.exclusive = made.exclusive;
-    made.number
+    let update = watch::watch_event(*watcher, thread, event);
+    watcher.places[update.at] = update.place;
+    watcher.shared = update.shared;
+    watcher.exclusive = update.exclusive;
+    placeless_number(update.answer)
 }
 
 // "Is anybody inside?"
 pub fn wospinzo_watch_inside(watcher: &Watcher) -> u64
     ensures { result ≡ inside_number (question_reply watcher.now) }
 {
-    ask_record(*watcher)
+    placeless_number(watch::anybody_inside(watcher))
 }
 
 // The version, for a maker's program to compare with the header's that it was built with.

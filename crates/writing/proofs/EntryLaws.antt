@@ -3,21 +3,20 @@ use Prim.Native.Nat.{ℕ, ◌/◌, ◌%◌, ◌≤◌, ◌<◌}
 use native.Mathlib.Omega.{arith}
 use mathlib.Core.Bool.{true, false}
 use mathlib.Core.List.{List, [], ◌∷◌, ◌++◌}
-use mathlib.Core.Path.{◌≡◌, refl, sym, ap, ◌∙◌}
+use mathlib.Core.Path.{◌≡◌, sym, ap, ◌∙◌}
 use borrow.Author.Tests.{lt-leb}
 use lib.Dec.{T, leb, le→leb}
 use lib.ListN.{length}
-use Rattle.definitions.specs.Answers.{accepted, refused, number_of, answer_reply, Test, test, answered, passes_all}
+use Rattle.std.specs.Prelude.{Result, Ok, Err}
+use Rattle.definitions.specs.Answers.{refused, number_of, answer_reply, Test, test, answered, passes_all}
 use Rattle.definitions.specs.Bounds.{most_script}
 use Rattle.definitions.specs.Chains.{requests_of}
 use Rattle.definitions.specs.Scripts.{script_of, triples_tests, write_tests, write_entry}
 use Rattle.definitions.specs.Table.{count_fits}
-use Rattle.definitions.specs.declared.Answer.{Answer}
-use Rattle.definitions.specs.declared.Answer.TheVariants.{Done, Refused}
-use Rattle.definitions.specs.declared.Refusal.{Refusal}
-use Rattle.basics.specs.Outputs.{PutAt, Delivered}
+use Rattle.definitions.specs.declared.Refused.{Refused}
+use Rattle.basics.specs.Outputs.{Delivered}
 use Rattle.basics.specs.ShortestLines.{most_script_moves}
-use Rattle.basics.proofs.Outputs.{turned_down, no_room, whole, delivered_as, filled_up}
+use Rattle.basics.proofs.Outputs.{turned_down}
 use Rattle.basics.proofs.Replies.{passed, failed, pass, no_test, behind, in_front_lem}
 use Rattle.basics.proofs.TestLists.{answered_e, passes-join}
 use Rattle.basics.proofs.Tests.{true-T, false-T, ne_T, eq_T}
@@ -46,45 +45,38 @@ module _ (n : ℕ) (triples out : List ℕ) where
         turned_down (write_entry n triples) out moves 8 0
         (passed _ _ _ (true-T _ count) ∙ failed _ _ _ (ne_T (length triples % 3) 0 e))
 
-    module _ (three : length triples % 3 ≡ 0) (a : Answer) (tried : answer_reply a ≡ answered (triples_tests 0 n (requests_of triples)) moves) where
+    module _ (three : length triples % 3 ≡ 0) where
       -- the tests behind the first two
       front : (m : ℕ) → answered (write_tests n triples) m ≡ answered (triples_tests 0 n (requests_of triples) ++ (fitting ∷ [])) m
       front m = passed _ _ _ (true-T _ count) ∙ passed _ _ _ (eq_T (length triples % 3) 0 three)
 
-      -- 3, 4 and 5
-      pub bad_triple : (x : Refusal) (k : ℕ) → a ≡ Refused x k → Delivered (write_entry n triples) out out (answer_reply a)
-      bad_triple x k q =
-          let r = front moves ∙ in_front_lem moves moves _ _ (number_of x) k (sym tried ∙ ap answer_reply q) in
-          delivered_as (turned_down (write_entry n triples) out moves (number_of x) k r) refl (ap answer_reply q)
+      module _ (a : Result ℕ Refused) (tried : answer_reply a ≡ answered (triples_tests 0 n (requests_of triples)) moves) where
+        -- 3, 4 and 5
+        pub bad_triple : (r : Refused) → a ≡ Err r → Delivered (write_entry n triples) out out (answer_reply (Err r))
+        bad_triple r e =
+            turned_down (write_entry n triples) out moves (number_of r.refusal) r.place
+            (front moves ∙ in_front_lem moves moves _ _ (number_of r.refusal) r.place (sym tried ∙ ap answer_reply e))
 
-      module _ (m : ℕ) (q : a ≡ Done m) where
-        good : T (passes_all (triples_tests 0 n (requests_of triples))) × (moves ≡ m)
-        good = answered_e (triples_tests 0 n (requests_of triples)) moves m (sym tried ∙ ap answer_reply q)
+        module _ (m : ℕ) (e : a ≡ Ok m) where
+          good : T (passes_all (triples_tests 0 n (requests_of triples))) × (moves ≡ m)
+          good = answered_e (triples_tests 0 n (requests_of triples)) moves m (sym tried ∙ ap answer_reply e)
 
-        pub same_count : m ≡ length triples / 3
-        same_count = sym good.1
+          pub same_count : m ≡ length triples / 3
+          same_count = sym good.1
 
-        -- 8, for the length of the script
-        pub too_long : most_script < length text → Delivered (write_entry n triples) out out (refused 8 0)
-        too_long l =
-            let f = failed fitting [] moves (false-T (leb (length text) most_script) (lt-leb (length text) most_script l)) in
-            turned_down (write_entry n triples) out moves 8 0 (front moves ∙ (behind moves _ _ good.0 ∙ f))
+          -- 8, for the length of the script
+          pub too_long : most_script < length text → Delivered (write_entry n triples) out out (refused 8 0)
+          too_long l =
+              let f = failed fitting [] moves (false-T (leb (length text) most_script) (lt-leb (length text) most_script l)) in
+              turned_down (write_entry n triples) out moves 8 0 (front moves ∙ (behind moves _ _ good.0 ∙ f))
 
-        -- which more moves than the shortest lines leave room for make too long
-        pub too_many : most_script_moves < m → Delivered (write_entry n triples) out out (refused 8 0)
-        too_many l = too_long (omega (arith, script_long n (requests_of triples) good.0, triples_count triples, good.1))
+          -- which more moves than the shortest lines leave room for make too long
+          pub too_many : most_script_moves < m → Delivered (write_entry n triples) out out (refused 8 0)
+          too_many l = too_long (omega (arith, script_long n (requests_of triples) good.0, triples_count triples, good.1))
 
-        module _ (short : length text ≤ most_script) where
-          tested : T (passes_all (write_tests n triples))
-          tested =
+          -- those that are passed
+          pub tested : length text ≤ most_script → T (passes_all (write_tests n triples))
+          tested short =
               pass _ _ (true-T _ count)
               (pass _ _ (eq_T (length triples % 3) 0 three)
               (passes-join (triples_tests 0 n (requests_of triples)) (fitting ∷ []) good.0 (pass _ _ (le→leb (length text) most_script short) no_test)))
-
-          -- 12
-          pub no_room_left : length out < length text → Delivered (write_entry n triples) out out (refused 12 0)
-          no_room_left l = no_room (write_entry n triples) out tested l
-
-          -- written
-          pub written : (left : List ℕ) (next : ℕ) → length text ≤ length out → PutAt out 0 text left next → Delivered (write_entry n triples) out left (accepted next)
-          written left next l p = delivered_as (whole (write_entry n triples) out tested l) (filled_up p) (ap accepted (omega (arith, p.next)))

@@ -6,34 +6,32 @@ ghost use Rattle.definitions.specs.Scripts.{write_entry};
 ghost use Rattle.basics.specs.Outputs.{Delivered};
 
 use codes::count_fits;
-use definitions::{Answer, MOST_MOVES, MOST_SCRIPT, Refusal};
+use definitions::{MOST_MOVES, MOST_SCRIPT, Refusal, Refused};
 use script_text::{put_script, script_length};
+use text::Output;
 use triple_tests::test_triples;
 
 // The entry. Everything is tested and measured before a byte is written.
-pub fn write(threads: u16, triples: &[u8], out: &mut [u8]) -> Answer
+pub fn write(threads: u16, triples: &[u8], out: &mut [u8]) -> Result<usize, Refused>
     ensures { Delivered (write_entry threads triples.now) out.old out.new (answer_reply result) }
 {
     if !count_fits(threads as usize) {
-        return Answer::Refused(Refusal::BadSize, 0);
+        return Err(Refusal::BadSize.into());
     }
     if triples.len() % 3 != 0 {
-        return Answer::Refused(Refusal::BadForm, 0);
+        return Err(Refusal::BadForm.into());
     }
-    let tested = test_triples(threads, triples);
-    let Answer::Done(moves) = tested else {
-        return tested;
-    };
+    let moves = test_triples(threads, triples)?;
     if MOST_MOVES < moves {
-        return Answer::Refused(Refusal::BadForm, 0);
+        return Err(Refusal::BadForm.into());
     }
     let length = script_length(threads, triples);
     if MOST_SCRIPT < length {
-        return Answer::Refused(Refusal::BadForm, 0);
+        return Err(Refusal::BadForm.into());
     }
     if out.len() < length {
-        return Answer::Refused(Refusal::NoRoom, 0);
+        return Err(Refusal::NoRoom.into());
     }
-    let written = put_script(out, threads, triples);
-    Answer::Done(written)
+    put_script(&mut Output::new(out), threads, triples);
+    Ok(length)
 }

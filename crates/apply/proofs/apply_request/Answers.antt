@@ -3,17 +3,20 @@ use Prim.Native.Nat.{ℕ, ◌+◌, ◌≤◌, ◌<◌}
 use native.Mathlib.Omega.{arith}
 use mathlib.Core.Bool.{cond}
 use mathlib.Core.List.{List}
-use mathlib.Core.Path.{◌≡◌, ap, subst⁻¹, ◌∙◌}
+use mathlib.Core.Path.{◌≡◌}
 use lib.Dec.{eqb}
-use Rattle.definitions.specs.Bounds.{most_threads, last_move}
+use Rattle.std.specs.Prelude.{Ok}
+use Rattle.definitions.specs.Answers.{number_of_move}
+use Rattle.definitions.specs.Bounds.{most_threads}
 use Rattle.definitions.specs.Table.{table_of, byte_table}
 use Rattle.definitions.specs.declared.Head.{Head}
+use Rattle.definitions.specs.declared.Move.{Move}
 use Rattle.definitions.specs.declared.Request.{Request}
 use Rattle.definitions.specs.declared.Task.{Task}
 use Rattle.theory.specs.Statements.{subject_by, subject_of}
 use Rattle.theory.specs.Tables.{Sized, head_of, task_of, put_back}
 use Rattle.apply.specs.MoveMade.{MoveTried, Accepting, TwoThreads}
-use Rattle.views.specs.View.{view_at, view_of, Decides}
+use Rattle.views.specs.View.{view_of, Decides}
 use Rattle.views.specs.declared.Decided.{Decided}
 use Rattle.views.specs.declared.View.{View}
 use Rattle.moving.specs.Moved.{view_by}
@@ -24,23 +27,20 @@ use Rattle.theory.proofs.Ways.{accepted_e}
 use Rattle.apply.proofs.apply_request.Goals as goal
 
 -- what an accepted request tells
-module _ (bytes : List ℕ) (k : ℕ) (r : Request) (h : Accepting bytes k r) where
+module _ (bytes : List ℕ) (k : ℕ) (r : Request) (mv : Move) (h : Accepting bytes k r mv) where
   size : Sized bytes
   size = sized_e bytes h.table.tested.is_sized
 
   mover : r.thread < (table_of bytes).threads
   mover = (accepted_e (table_of bytes) r h.accepted).thread-fits
 
-  move-fits : r.mv ≤ last_move
-  move-fits = (accepted_e (table_of bytes) r h.accepted).move-fits
-
   -- the subject, from the head and the mover read
   module _ (head : Head) (task : Task) (t : ℕ) (e : head ≡ head_of (table_of bytes)) (f : task ≡ task_of (table_of bytes) r.thread) (g : t ≡ subject_by r task.phase head.target) where
     subject_is : t ≡ subject_of (table_of bytes) r
-    subject_is = g ∙ (ap (λ (x : Task). subject_by r x.phase head.target) f ∙ ap (λ (x : Head). subject_by r ((table_of bytes).phase r.thread) x.target) e)
+    subject_is = rw (g, f, e)
 
     subject_in : t < (table_of bytes).threads
-    subject_in = subst⁻¹ (λ (x : ℕ). x < (table_of bytes).threads) subject_is (subject-thread (table_of bytes) r h.accepted)
+    subject_in = rw subject_is (subject-thread (table_of bytes) r h.accepted)
 
     both : TwoThreads bytes r.thread t
     both = record { size = size; mover = mover; subject = subject_in }
@@ -50,57 +50,44 @@ module _ (bytes : List ℕ) (k : ℕ) (r : Request) (h : Accepting bytes k r) wh
       count-known : (cond (eqb u.forbidden 1) 1 0 ≤ k) × (k ≤ most_threads)
       count-known =
           let fits = count_fits_lem byte_table bytes k h.table t subject_in in
-          (subst⁻¹ (λ (x : Task). cond (eqb x.forbidden 1) 1 0 ≤ k) w fits.0, omega (arith, fits.1, size.most))
+          (rw w fits.0, omega (arith, fits.1, size.most))
 
       module _ (v : View) (q : v ≡ view_by head task t u k) where
         seen : v ≡ view_of (table_of bytes) r
-        seen =
-            let s = table_of bytes in
-            q
-            ∙ (ap (λ (x : Head). view_by x task t u k) e
-            ∙ (ap (λ (x : Task). view_by (head_of s) x t u k) f
-            ∙ (ap (λ (x : Task). view_by (head_of s) (task_of s r.thread) t x k) w
-            ∙ (seen_by byte_table bytes k h.table t subject_in r.thread ∙ ap (view_at s r.thread) subject_is))))
+        seen = rw (q, e, f, w, seen_by byte_table bytes k h.table t subject_in r.thread, subject_is)
 
-        made : (d : Decided) (after : List ℕ) (k' : ℕ) → Decides v r.mv d → after ≡ put_back byte_table bytes r.thread t d.head d.mover d.forbidden
-            → k' + cond (eqb u.forbidden 1) 1 0 ≡ k + cond (eqb d.forbidden 1) 1 0 → MoveTried bytes r after (record { outcome = d.outcome; forbidden = k' })
+        made : (d : Decided) (after : List ℕ) (k' : ℕ) → Decides v (number_of_move mv) d → after ≡ put_back byte_table bytes r.thread t d.head d.mover d.forbidden
+            → k' + cond (eqb u.forbidden 1) 1 0 ≡ k + cond (eqb d.forbidden 1) 1 0 → MoveTried bytes r after (Ok (record { outcome = d.outcome; forbidden = k' }))
         made d after k' rule put new =
-            one_move byte_table bytes k h.table byte_keeps same_bytes r h v d seen rule after k'
-            (put ∙ ap (λ (x : ℕ). put_back byte_table bytes r.thread x d.head d.mover d.forbidden) subject_is)
-            (subst⁻¹ (λ (x : View). k' + cond (eqb x.subject.forbidden 1) 1 0 ≡ k + cond (eqb d.forbidden 1) 1 0) q new)
+            one_move byte_table bytes k h.table byte_keeps same_bytes r mv h v d seen rule after k'
+            (rw (put, subject_is)) (rw q new)
 
 -- ---- the answers
 
 pub read_head-head-requires : goal.read_head-head-requires
-read_head-head-requires c = size _ _ _ c.requires
+read_head-head-requires c = size _ _ _ _ c.requires
 
 pub read_task-mover-requires : goal.read_task-mover-requires
-read_task-mover-requires c = (size _ _ _ c.requires, mover _ _ _ c.requires)
-
-pub subject_of-number-requires : goal.subject_of-number-requires
-subject_of-number-requires c = move-fits _ _ _ c.requires
+read_task-mover-requires c = (size _ _ _ _ c.requires, mover _ _ _ _ c.requires)
 
 pub read_task-subject-requires : goal.read_task-subject-requires
 read_task-subject-requires c =
-    (size _ _ _ c.requires, subject_in _ _ _ c.requires _ _ _ c.read_head-head.ensures c.read_task-mover.ensures c.subject_of-number.ensures)
+    (size _ _ _ _ c.requires, subject_in _ _ _ _ c.requires _ _ _ c.read_head-head.ensures c.read_task-mover.ensures c.subject_of-number.ensures)
 
-pub view_of-v-requires : goal.view_of-v-requires
-view_of-v-requires c =
-    let sized = size _ _ _ c.requires in
-    subst⁻¹ (λ (x : Head). (1 ≤ x.threads) × (x.threads ≤ most_threads) × (c.subject_of-number.result < x.threads)) c.read_head-head.ensures
-    (sized.least, sized.most, subject_in _ _ _ c.requires _ _ _ c.read_head-head.ensures c.read_task-mover.ensures c.subject_of-number.ensures)
-
-pub overflow_cast-request : goal.overflow_cast-request
-overflow_cast-request c = omega (arith, move-fits _ _ _ c.requires)
+pub view_of-requires : goal.view_of-requires
+view_of-requires c =
+    let sized = size _ _ _ _ c.requires in
+    rw c.read_head-head.ensures
+    (sized.least, sized.most, subject_in _ _ _ _ c.requires _ _ _ c.read_head-head.ensures c.read_task-mover.ensures c.subject_of-number.ensures)
 
 pub store-requires : goal.store-requires
-store-requires c = both _ _ _ c.requires _ _ _ c.read_head-head.ensures c.read_task-mover.ensures c.subject_of-number.ensures
+store-requires c = both _ _ _ _ c.requires _ _ _ c.read_head-head.ensures c.read_task-mover.ensures c.subject_of-number.ensures
 
-pub recount-count-requires : goal.recount-count-requires
-recount-count-requires c =
-    count-known _ _ _ c.requires _ _ _ c.read_head-head.ensures c.read_task-mover.ensures c.subject_of-number.ensures _ c.read_task-subject.ensures
+pub recount-requires : goal.recount-requires
+recount-requires c =
+    count-known _ _ _ _ c.requires _ _ _ c.read_head-head.ensures c.read_task-mover.ensures c.subject_of-number.ensures _ c.read_task-subject.ensures
 
 pub returns : goal.returns
 returns c =
-    made _ _ _ c.requires _ _ _ c.read_head-head.ensures c.read_task-mover.ensures c.subject_of-number.ensures _ c.read_task-subject.ensures
-    _ c.view_of-v.ensures _ _ _ c.decide-d.ensures c.store.ensures c.recount-count.ensures
+    made _ _ _ _ c.requires _ _ _ c.read_head-head.ensures c.read_task-mover.ensures c.subject_of-number.ensures _ c.read_task-subject.ensures
+    _ c.view_of.ensures _ _ _ c.decide-decided.ensures c.store.ensures c.recount.ensures

@@ -1,10 +1,10 @@
--- Each branch rewrites the decision with its test.
-use borrow.Author.Tests.{eq-eqb, ne_eqb}
+-- The decision is that of set, by its tests.
+use Rattle.std.proofs.Common.{rules}
 use Rattle.arms.proofs.Steps.{set_arm}
 use Rattle.arms.proofs.set_flag.Goals as goal
 
-pub returns-then-mover-eq10 : goal.returns-then-mover-eq10
-returns-then-mover-eq10 c = set_arm _ _ (rw (eq-eqb _ _ c.if-mover-eq10.true) c.aim.ensures)
+pub returns-then-v-eq10 : goal.returns-then-v-eq10
+returns-then-v-eq10 c = set_arm _ _ (search rules)
 
 pub returns : goal.returns
-returns c = set_arm _ _ (rw (ne_eqb _ _ c.if-mover-eq10.false) c.aim-2.ensures)
+returns c = set_arm _ _ (search rules)

@@ -1,14 +1,10 @@
-use mathlib.Core.Path.{ap, ◌∙◌}
-use Rattle.consistency.specs.Pass.{found_in, found_fits}
-use Rattle.consistency.specs.declared.Found.{Found}
-use Rattle.consistency.proofs.OnePass.{one_pass}
+use Rattle.std.proofs.Common.{◌≡◌, length, ◌∙◌, rules}
+use Rattle.definitions.specs.Bounds.{most_threads}
+use Rattle.consistency.proofs.OnePass.{as_lent}
 use Rattle.consistency.proofs.is_consistent.Goals as goal
 
 -- one pass decides
 pub returns : goal.returns
 returns c =
-    let totals = c.args.totals in
-    let places = c.args.places.now in
-    c.found_fits.ensures
-    ∙ (ap (λ (f : Found). found_fits totals f c.rest_is_empty-empty.result) c.find-found.ensures
-    ∙ (ap (found_fits totals (found_in places totals.threads)) c.rest_is_empty-empty.ensures ∙ one_pass totals places))
+    let long : length c.args.watcher.now.places ≡ most_threads = search rules in
+    c.found_fits.ensures ∙ rw (c.find.ensures, c.is_empty.ensures, c.split_at.ensures.front, c.split_at.ensures.back) (as_lent c.args.watcher.now long c.requires)

@@ -11,5 +11,8 @@ overflow_add-digits c = omega (arith, counted-few _ _ _ c.ranges.n.fits c.loop-f
 pub loop-front-preserved : goal.loop-front-preserved
 loop-front-preserved c = counted_more _ _ _ c.loop-front-test.true c.loop-front.invariant
 
-pub returns : goal.returns
-returns c = counted-all _ _ _ c.loop-front-test.false c.loop-front.invariant
+pub returns-clause-digits : goal.returns-clause-digits
+returns-clause-digits c = counted-all _ _ _ c.loop-front-test.false c.loop-front.invariant
+
+pub returns-clause-few : goal.returns-clause-few
+returns-clause-few c = counted-few _ _ _ c.ranges.n.fits c.loop-front.invariant

@@ -1,15 +1,20 @@
 use native.Mathlib.Omega.{arith}
-use Rattle.basics.proofs.Parts.{measured_none, measured_more, measured_most, measured_all}
+use Rattle.basics.proofs.Chunks.{pairs_come, next_item, last_item}
+use Rattle.text.proofs.Items.{measured_more, measured_most, measured_all}
+use Rattle.event_lines.proofs.EventLines.{by_pairs}
 use Rattle.event_lines.proofs.events_length.Goals as goal
 
-pub loop-k-init : goal.loop-k-init
-loop-k-init c = measured_none _ 0
-
 pub overflow_add-total : goal.overflow_add-total
-overflow_add-total c = omega (arith, c.requires, measured_most c.loop-k.invariant c.loop-k-test.true c.event_length-total.ensures)
+overflow_add-total c =
+    let turn = next_item (pairs_come c.args.history.now (cc) (cc)) c.loop-pair.yielded _ c.loop-pair.yielded_by _ _ _ c.in-Some.is c.next.ensures.steps in
+    omega (arith, c.requires, measured_most by_pairs turn c.loop-pair.invariant c.event_length-total.ensures)
 
-pub loop-k-preserved : goal.loop-k-preserved
-loop-k-preserved c = measured_more c.loop-k.invariant c.loop-k-test.true c.event_length-total.ensures
+pub loop-pair-preserved : goal.loop-pair-preserved
+loop-pair-preserved c =
+    let turn = next_item (pairs_come c.args.history.now (cc) (cc)) c.loop-pair.yielded _ c.loop-pair.yielded_by _ _ _ c.in-Some.is c.next.ensures.steps in
+    measured_more by_pairs turn c.loop-pair.invariant c.event_length-total.ensures
 
 pub returns : goal.returns
-returns c = omega (arith, measured_all c.loop-k.invariant c.loop-k-test.false)
+returns c =
+    let end = last_item (pairs_come c.args.history.now (cc) (cc)) c.loop-pair.yielded _ c.loop-pair.yielded_by _ _ c.in-None.is c.next.ensures.steps in
+    omega (arith, measured_all by_pairs end c.loop-pair.invariant)

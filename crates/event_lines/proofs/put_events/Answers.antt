@@ -1,15 +1,19 @@
-use native.Mathlib.Omega.{arith}
-use Rattle.basics.proofs.Parts.{parts_none, parts_room, parts_more, parts_all}
+use Rattle.basics.proofs.Chunks.{pairs_come, next_item, last_item}
+use Rattle.text.proofs.Items.{item_room, items_more, items_all}
+use Rattle.event_lines.proofs.EventLines.{by_pairs}
 use Rattle.event_lines.proofs.put_events.Goals as goal
 
-pub loop-k-init : goal.loop-k-init
-loop-k-init c = parts_none c.requires
+pub put_event-requires : goal.put_event-requires
+put_event-requires c =
+    let turn = next_item (pairs_come c.args.history.now (cc) (cc)) c.loop-pair.yielded _ c.loop-pair.yielded_by _ _ _ c.in-Some.is c.next.ensures.steps in
+    item_room by_pairs turn c.loop-pair.invariant
 
-pub put_event-at-requires : goal.put_event-at-requires
-put_event-at-requires c = parts_room c.loop-k.invariant (omega arith)
-
-pub loop-k-preserved : goal.loop-k-preserved
-loop-k-preserved c = parts_more c.loop-k.invariant (omega arith) c.put_event-at.ensures
+pub loop-pair-preserved : goal.loop-pair-preserved
+loop-pair-preserved c =
+    let turn = next_item (pairs_come c.args.history.now (cc) (cc)) c.loop-pair.yielded _ c.loop-pair.yielded_by _ _ _ c.in-Some.is c.next.ensures.steps in
+    items_more by_pairs turn c.loop-pair.invariant c.put_event.ensures
 
 pub returns : goal.returns
-returns c = parts_all c.loop-k.invariant c.loop-k-test.false
+returns c =
+    let end = last_item (pairs_come c.args.history.now (cc) (cc)) c.loop-pair.yielded _ c.loop-pair.yielded_by _ _ c.in-None.is c.next.ensures.steps in
+    items_all by_pairs end c.loop-pair.invariant

@@ -1,11 +1,9 @@
--- The lines of the pairs passed are put. The measure is how many pairs are left.
-use Prim.Native.Nat.{◌-◌}
-use Rattle.basics.proofs.Parts.{PartsPut}
-use Rattle.event_lines.proofs.EventLines.{event_parts}
+-- The lines of the pairs passed are put.
+use lib.ListN.{length}
+use Rattle.definitions.specs.PlainLock.{pairs_of}
+use Rattle.definitions.specs.Run.{event_lines}
+use Rattle.text.proofs.Items.{ItemsPut}
 use Rattle.event_lines.proofs.put_events.Given as goal
 
-abbrev pub invariant-loop-k : goal.invariant-loop-k
-invariant-loop-k l = PartsPut (event_parts l.history) l.fn.out 0 l.k l.out l.at
-
-abbrev pub decreases-loop-k : goal.decreases-loop-k
-decreases-loop-k l = l.pairs - l.k
+abbrev pub invariant-loop-pair : goal.invariant-loop-pair
+invariant-loop-pair l = ItemsPut event_lines (pairs_of l.history) l.fn.out (length l.yielded) l.out

@@ -1,12 +1,5 @@
--- `line_moves::take_line` meets its contract: the form that was read says what the line leaves.
-use Rattle.line_moves.proofs.OneLine.{threads-refused, bad-refused, note_taken}
+-- `line_moves::take_line` meets its contract: a request's triple is the line's.
 use Rattle.line_moves.proofs.take_line.Goals as goal
 
-pub returns-in-Threads : goal.returns-in-Threads
-returns-in-Threads c = threads-refused c.args.text.now _ c.read_form-form.ensures _ _ _ c.in-Threads.is
-
-pub returns-in-Note : goal.returns-in-Note
-returns-in-Note c = note_taken c.args.text.now _ c.read_form-form.ensures _ _ _ _ c.in-Note.is
-
-pub returns-in-Bad : goal.returns-in-Bad
-returns-in-Bad c = bad-refused c.args.text.now _ c.read_form-form.ensures _ _ c.in-Bad.is
+pub returns-in_ok-triple-in-Some-Request : goal.returns-in_ok-triple-in-Some-Request
+returns-in_ok-triple-in-Some-Request c = rw (← c.in-Some-Request.ensures, c.in-Some-Request.field-0-is) c.in_ok-triple-in-Some-Request.ensures

@@ -6,4 +6,4 @@ use Rattle.listing.proofs.PairLists.{open_parts}
 use Rattle.listing.proofs.count_open.Given as goal
 
 abbrev pub invariant-loop-mv : goal.invariant-loop-mv
-invariant-loop-mv l = (l.bytes ≤ 2 * most_threads * l.mv) × PartsMeasured (open_parts l.at) 0 l.mv l.bytes
+invariant-loop-mv l = (l.bytes ≤ 2 * most_threads * l.mv-index) × PartsMeasured (open_parts l.mover) 0 l.mv-index l.bytes

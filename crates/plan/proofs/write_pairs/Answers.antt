@@ -1,17 +1,23 @@
 -- `write_pairs` meets its contract: each turn puts the triples of its pair.
-use Rattle.std.proofs.Common.{arith}
-use Rattle.basics.proofs.Outputs.{filled_up}
-use Rattle.basics.proofs.Parts.{parts_none, parts_room, parts_more, parts_all}
+use Rattle.basics.proofs.Chunks.{pairs_come, next_item, last_item}
+use Rattle.text.proofs.Items.{items_none, item_room, items_more, items_all}
+use Rattle.plan.proofs.PlanParts.{by_pairs}
 use Rattle.plan.proofs.write_pairs.Goals as goal
 
-pub loop-j-init : goal.loop-j-init
-loop-j-init c = parts_none c.requires
+pub loop-pair-init : goal.loop-pair-init
+loop-pair-init c = items_none c.requires
 
-pub write_pair-next-requires : goal.write_pair-next-requires
-write_pair-next-requires c = parts_room c.loop-j.invariant (omega arith)
+pub write_pair-requires : goal.write_pair-requires
+write_pair-requires c =
+    let turn = next_item (pairs_come c.args.history.now (cc) (cc)) c.loop-pair.yielded _ c.loop-pair.yielded_by _ _ _ c.in-Some.is c.next.ensures.steps in
+    item_room (by_pairs c.args.threads) turn c.loop-pair.invariant
 
-pub loop-j-preserved : goal.loop-j-preserved
-loop-j-preserved c = parts_more c.loop-j.invariant (omega arith) c.write_pair-next.ensures
+pub loop-pair-preserved : goal.loop-pair-preserved
+loop-pair-preserved c =
+    let turn = next_item (pairs_come c.args.history.now (cc) (cc)) c.loop-pair.yielded _ c.loop-pair.yielded_by _ _ _ c.in-Some.is c.next.ensures.steps in
+    items_more (by_pairs c.args.threads) turn c.loop-pair.invariant c.write_pair.ensures
 
 pub returns : goal.returns
-returns c = filled_up (parts_all c.loop-j.invariant (omega arith))
+returns c =
+    let end = last_item (pairs_come c.args.history.now (cc) (cc)) c.loop-pair.yielded _ c.loop-pair.yielded_by _ _ c.in-None.is c.next.ensures.steps in
+    items_all (by_pairs c.args.threads) end c.loop-pair.invariant

@@ -1,11 +1,9 @@
--- The triples of the pairs passed are put; the measure is the number of pairs left.
-use Rattle.std.proofs.Common.{◌-◌}
-use Rattle.basics.proofs.Parts.{PartsPut}
-use Rattle.plan.proofs.PlanParts.{plan_parts}
+-- The triples of the pairs passed are put.
+use Rattle.std.proofs.Common.{length}
+use Rattle.definitions.specs.PlainLock.{pairs_of}
+use Rattle.definitions.specs.Plan.{plan, bytes_of}
+use Rattle.text.proofs.Items.{ItemsPut}
 use Rattle.plan.proofs.write_pairs.Given as goal
 
-abbrev pub invariant-loop-j : goal.invariant-loop-j
-invariant-loop-j l = PartsPut (plan_parts l.threads l.history) l.fn.out 0 l.j l.out l.next
-
-abbrev pub decreases-loop-j : goal.decreases-loop-j
-decreases-loop-j l = l.events - l.j
+abbrev pub invariant-loop-pair : goal.invariant-loop-pair
+invariant-loop-pair l = ItemsPut (λ h. bytes_of (plan l.threads h)) (pairs_of l.history) l.fn.out (length l.yielded) l.out

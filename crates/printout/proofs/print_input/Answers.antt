@@ -1,9 +1,6 @@
-use Rattle.printout.proofs.Output.{printed, never_refused}
+-- In a buffer that suffices the output is written, and no refusal is answered.
+use Rattle.printout.proofs.Output.{printed}
 use Rattle.printout.proofs.print_input.Goals as goal
 
--- in a buffer that suffices the output is written, and no refusal is answered
-pub returns-in_default : goal.returns-in_default
-returns-in_default c = absurd (never_refused _ _ c.requires c.write_output-answer.ensures _ _ c.in_default.is)
-
 pub returns : goal.returns
-returns c = printed _ _ c.requires c.write_output-answer.ensures _ c.in-Done.is
+returns c = rw c.unwrap_or.ensures (printed _ c.requires _ c.write_output.ensures)

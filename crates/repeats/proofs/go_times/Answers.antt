@@ -1,16 +1,15 @@
 -- `go_times` meets its contract: each turn is one go.
-use Rattle.std.proofs.Common.{arith}
-use Rattle.basics.proofs.Parts.{parts_none, parts_room, parts_more, parts_all}
+use Rattle.text.proofs.Cursors.{parts_none, parts_room, parts_more, parts_all}
 use Rattle.repeats.proofs.go_times.Goals as goal
 
-pub loop-t-init : goal.loop-t-init
-loop-t-init c = parts_none c.requires
+pub loop-init : goal.loop-init
+loop-init c = parts_none c.requires
 
-pub put_triple-next-requires : goal.put_triple-next-requires
-put_triple-next-requires c = parts_room c.loop-t.invariant (omega arith)
+pub put_triple-requires : goal.put_triple-requires
+put_triple-requires c = parts_room c.loop.invariant c.loop-test.true
 
-pub loop-t-preserved : goal.loop-t-preserved
-loop-t-preserved c = parts_more c.loop-t.invariant (omega arith) c.put_triple-next.ensures
+pub loop-preserved : goal.loop-preserved
+loop-preserved c = parts_more c.loop.invariant c.loop-test.true c.put_triple.ensures
 
 pub returns : goal.returns
-returns c = parts_all c.loop-t.invariant c.loop-t-test.false
+returns c = parts_all c.loop.invariant c.loop-test.false

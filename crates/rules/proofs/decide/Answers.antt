@@ -1,16 +1,14 @@
--- Hold, and the numbers without an arm.
-use native.Mathlib.Omega.{arith}
-use mathlib.Core.Bool.{true}
-use mathlib.Core.Path.{refl}
+-- Hold exists in phase 4 alone, and is a retry there.
+use mathlib.Core.Path.{refl, ap}
+use Rattle.definitions.specs.Answers.{number_of_move, quiet, moved}
 use Rattle.definitions.specs.Codes.{hold}
 use Rattle.definitions.specs.Moves.{effect, is_retry}
-use Rattle.arms.proofs.Steps.{unseen-says, move_arm}
-use Rattle.rules.proofs.Arms.{hold-retry, no_arm}
+use Rattle.arms.proofs.Steps.{move_arm}
+use Rattle.rules.proofs.Arms.{hold-retry}
 use Rattle.rules.proofs.decide.Goals as goal
 
-pub returns-in-6 : goal.returns-in-6
+pub returns-in-Hold : goal.returns-in-Hold
 unfolding effect is_retry
-returns-in-6 c = move_arm _ _ hold _ _ c.in-6.is c.set_mutex.ensures (λ s r a seen. record { head = refl; mover = refl; flag = refl; says = unseen-says true _ (hold-retry s r a) })
-
-pub returns-in_default : goal.returns-in_default
-returns-in_default c = no_arm _ _ _ (omega arith)
+returns-in-Hold c =
+    move_arm _ _ hold _ _ (ap number_of_move c.in-Hold.is) c.set_mutex.ensures
+    (λ s r a seen. record { head = refl; mover = refl; flag = refl; says = ap (moved quiet) (hold-retry s r a) })

@@ -1,11 +1,19 @@
-use Rattle.basics.proofs.Parts.{parts_room, parts_more, parts_all}
+use Rattle.basics.proofs.Chunks.{triples_come, next_item, last_item}
+use Rattle.text.proofs.Items.{item_room, items_more, items_all}
+use Rattle.script_text.proofs.ScriptParts.{by_moves}
 use Rattle.script_text.proofs.put_moves.Goals as goal
 
-pub put_move-at-requires : goal.put_move-at-requires
-put_move-at-requires c = parts_room c.loop-j.invariant c.loop-j-test.true
+pub put_move-requires : goal.put_move-requires
+put_move-requires c =
+    let turn = next_item (triples_come c.args.triples.now (cc) (cc)) c.loop-triple.yielded _ c.loop-triple.yielded_by _ _ _ c.in-Some.is c.next.ensures.steps in
+    item_room by_moves turn c.loop-triple.invariant
 
-pub loop-j-preserved : goal.loop-j-preserved
-loop-j-preserved c = parts_more c.loop-j.invariant c.loop-j-test.true c.put_move-at.ensures
+pub loop-triple-preserved : goal.loop-triple-preserved
+loop-triple-preserved c =
+    let turn = next_item (triples_come c.args.triples.now (cc) (cc)) c.loop-triple.yielded _ c.loop-triple.yielded_by _ _ _ c.in-Some.is c.next.ensures.steps in
+    items_more by_moves turn c.loop-triple.invariant c.put_move.ensures
 
 pub returns : goal.returns
-returns c = parts_all c.loop-j.invariant c.loop-j-test.false
+returns c =
+    let end = last_item (triples_come c.args.triples.now (cc) (cc)) c.loop-triple.yielded _ c.loop-triple.yielded_by _ _ c.in-None.is c.next.ensures.steps in
+    items_all by_moves end c.loop-triple.invariant

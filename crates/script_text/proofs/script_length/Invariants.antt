@@ -1,14 +1,12 @@
--- The threads line and the lines of the triples passed are measured; a line's length has 16 bits. The measure is how many triples are left.
-use Prim.Native.Nat.{◌+◌, ◌-◌, ◌*◌, ◌≤◌}
+-- The threads line and the lines of the triples passed are measured.
+use Prim.Native.Nat.{◌+◌, ◌*◌, ◌≤◌}
 use lib.ListN.{length}
+use Rattle.definitions.specs.Chains.{requests_of}
 use Rattle.definitions.specs.Forms.{threads_line}
-use Rattle.definitions.specs.Scripts.{ended}
-use Rattle.basics.proofs.Parts.{PartsMeasured}
-use Rattle.script_text.proofs.ScriptParts.{move_parts}
+use Rattle.definitions.specs.Scripts.{ended, moves_text}
+use Rattle.text.proofs.Items.{ItemsMeasured}
 use Rattle.script_text.proofs.script_length.Given as goal
 
-abbrev pub invariant-loop-m : goal.invariant-loop-m
-invariant-loop-m l = (l.total ≤ 65_536 * (l.m + 1)) × PartsMeasured (move_parts l.triples) (length (ended (threads_line l.threads))) l.m l.total
-
-abbrev pub decreases-loop-m : goal.decreases-loop-m
-decreases-loop-m l = l.moves - l.m
+abbrev pub invariant-loop-triple : goal.invariant-loop-triple
+invariant-loop-triple l =
+    (l.total ≤ 60 * length l.yielded + 31) × ItemsMeasured moves_text (requests_of l.triples) (length (ended (threads_line l.threads))) (length l.yielded) l.total

@@ -1,10 +1,8 @@
--- The shares of the events before the present one are added up (Counting); the measure is the number of events left.
-use Rattle.std.proofs.Common.{◌-◌}
+-- The shares of the events before the present one are added up (Counting).
+use Rattle.std.proofs.Common.{length}
+use Rattle.definitions.specs.PlainLock.{pairs_of}
 use Rattle.shares.proofs.Counting.{Counting}
 use Rattle.shares.proofs.count_moves.Given as goal
 
-abbrev pub invariant-loop-k : goal.invariant-loop-k
-invariant-loop-k l = Counting l.threads l.history l.events l.k l.shares
-
-abbrev pub decreases-loop-k : goal.decreases-loop-k
-decreases-loop-k l = l.events - l.k
+abbrev pub invariant-loop-pair : goal.invariant-loop-pair
+invariant-loop-pair l = Counting l.threads (pairs_of l.history) (length l.yielded) l.shares

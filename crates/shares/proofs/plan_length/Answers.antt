@@ -1,9 +1,10 @@
 -- `plan_length` meets its contract: refused by the check, or counted.
-use Rattle.shares.proofs.LengthLaws.{turned-length, passes, counted}
+use Rattle.std.proofs.Common.{rules}
+use Rattle.shares.proofs.LengthLaws.{length_reply}
 use Rattle.shares.proofs.plan_length.Goals as goal
 
-pub returns-in_default : goal.returns-in_default
-returns-in_default c = turned-length _ _ c.check-answer.result c.check-answer.ensures c.in_default.field-0 c.in_default.field-1 c.in_default.is
+pub returns-in_err-check : goal.returns-in_err-check
+returns-in_err-check c = let reply = length_reply _ _ c.check.result c.check.ensures in search rules
 
 pub returns : goal.returns
-returns c = counted _ _ _ _ (passes _ _ c.check-answer.result c.check-answer.ensures _ c.in-Done.is) c.count_moves.ensures
+returns c = let reply = length_reply _ _ c.check.result c.check.ensures in search rules

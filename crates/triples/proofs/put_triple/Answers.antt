@@ -1,10 +1,8 @@
--- `put_triple` meets its contract: three stores are a triple.
-use Rattle.std.proofs.Common.{[], ◌∷◌, add-one}
-use native.Mathlib.Numerals.{add-two}
 use Rattle.definitions.specs.Plan.{bytes_of}
-use Rattle.basics.proofs.Outputs.{stored}
+use Rattle.text.proofs.Cursors.{puts_both}
 use Rattle.triples.proofs.put_triple.Goals as goal
 
+-- three bytes, one behind the other
 pub returns : goal.returns
 unfolding bytes_of
-returns c = let a = c.args in rw (add-one a.at, add-two a.at) (stored (a.thread ∷ a.mv ∷ a.target ∷ []) c.requires)
+returns c = puts_both c.put_byte.ensures (puts_both c.put_byte-2.ensures c.put_byte-3.ensures)

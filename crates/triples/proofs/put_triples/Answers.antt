@@ -1,27 +1,24 @@
--- `put_triples` meets its contract: each turn puts the triple at its place, and leaves those behind it.
-use Rattle.std.proofs.Common.{◌≡◌, ℕ, ◌+◌, ◌≤◌, List, [], ◌∷◌, ◌++◌, length, get_or, drop, sym, ap, ◌∙◌, arith, drop_of_length-le}
-use Rattle.definitions.specs.Moves.{ask}
-use Rattle.definitions.specs.Plan.{bytes_of}
-use Rattle.basics.proofs.Parts.{put-by, all-by}
-use Rattle.theory.proofs.Triples.{triple_bytes}
+-- `put_triples` meets its contract: each turn puts the next triple.
+use Rattle.basics.proofs.Chunks.{triples_come, next_item, last_item}
+use Rattle.text.proofs.Items.{items_none, item_room, items_more, items_all}
+use Rattle.theory.proofs.Triples.{triples_written}
+use Rattle.triples.proofs.Requests.{by_requests}
 use Rattle.triples.proofs.put_triples.Goals as goal
 
--- the part at a place: the bytes of its triple, and those behind it
-abbrev part_at : List ℕ → ℕ → List ℕ
-part_at moves at = bytes_of (ask (get_or moves at 0) (get_or moves (at + 1) 0) (get_or moves (at + 2) 0) ∷ [])
+pub loop-triple-init : goal.loop-triple-init
+loop-triple-init c = items_none (rw (triples_written c.args.moves.now c.requires.whole) c.requires.room)
 
-part : (moves : List ℕ) (at next : ℕ) → at + 3 ≤ length moves → next ≡ at + 3 → drop at moves ≡ part_at moves at ++ drop next moves
-unfolding bytes_of
-part moves at next h e = triple_bytes moves at h ∙ ap (λ (k : ℕ). part_at moves at ++ drop k moves) (sym e)
+pub put_triple-requires : goal.put_triple-requires
+put_triple-requires c =
+    let turn = next_item (triples_come c.args.moves.now (cc) (cc)) c.loop-triple.yielded _ c.loop-triple.yielded_by _ _ _ c.in-Some.is c.next.ensures.steps in
+    item_room by_requests turn c.loop-triple.invariant
 
-pub loop-at-preserved : goal.loop-at-preserved
-unfolding bytes_of
-loop-at-preserved c =
-    let moves = c.args.moves.now in
-    let at = c.loop-at.at in
-    let left : at + 3 ≤ length moves = omega arith in
-    let e : c.put_triple-at.result ≡ at + 3 = c.put_triple-at.ensures.next in
-    (omega arith, omega arith, put-by c.loop-at.invariant.2 (part_at moves at) _ (part moves at _ left e) c.put_triple-at.ensures)
+pub loop-triple-preserved : goal.loop-triple-preserved
+loop-triple-preserved c =
+    let turn = next_item (triples_come c.args.moves.now (cc) (cc)) c.loop-triple.yielded _ c.loop-triple.yielded_by _ _ _ c.in-Some.is c.next.ensures.steps in
+    items_more by_requests turn c.loop-triple.invariant c.put_triple.ensures
 
 pub returns : goal.returns
-returns c = all-by c.loop-at.invariant.2 (drop_of_length-le _ c.loop-at-test.false)
+returns c =
+    let end = last_item (triples_come c.args.moves.now (cc) (cc)) c.loop-triple.yielded _ c.loop-triple.yielded_by _ _ c.in-None.is c.next.ensures.steps in
+    rw (triples_written c.args.moves.now c.requires.whole) at (items_all by_requests end c.loop-triple.invariant)

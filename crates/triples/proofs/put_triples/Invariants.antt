@@ -1,10 +1,9 @@
--- The triples before the present one are put; the measure is how many bytes are left.
-use Rattle.std.proofs.Common.{◌≡◌, ◌-◌, ◌%◌, ◌≤◌, length, drop}
-use Rattle.basics.proofs.Parts.{Partly}
+-- The triples before the present one are put.
+use Rattle.std.proofs.Common.{length}
+use Rattle.definitions.specs.Chains.{requests_of}
+use Rattle.definitions.specs.Plan.{bytes_of}
+use Rattle.text.proofs.Items.{ItemsPut}
 use Rattle.triples.proofs.put_triples.Given as goal
 
-abbrev pub invariant-loop-at : goal.invariant-loop-at
-invariant-loop-at l = (l.at ≤ length l.moves) × (l.at % 3 ≡ 0) × Partly l.fn.out 0 l.moves (drop l.at l.moves) l.out l.at
-
-abbrev pub decreases-loop-at : goal.decreases-loop-at
-decreases-loop-at l = length l.moves - l.at
+abbrev pub invariant-loop-triple : goal.invariant-loop-triple
+invariant-loop-triple l = ItemsPut bytes_of (requests_of l.moves) l.fn.out (length l.yielded) l.out

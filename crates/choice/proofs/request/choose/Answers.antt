@@ -1,14 +1,20 @@
 -- The choice goes by what the search answers.
-use Rattle.std.proofs.Common.{◌∙◌}
+use Rattle.std.proofs.Common.{ap, arith}
 use Rattle.definitions.specs.Table.{table_of}
-use Rattle.choice.proofs.ChoiceLaws.{nobody, makes}
+use Rattle.definitions.specs.declared.Task.{Task}
+use Rattle.choice.proofs.ChoiceLaws.{target_most, nobody, makes}
 use Rattle.choice.proofs.request.choose.Goals as goal
 
-pub returns-then-threads-thread : goal.returns-then-threads-thread
-returns-then-threads-thread c =
-    nobody (table_of c.args.table.now) c.requires.is_sound _ _ c.requires.counted.count c.lowest_ready-thread.ensures c.if-threads-thread.true
+pub returns-in_err-thread : goal.returns-in_err-thread
+returns-in_err-thread c = rw c.from_residual.ensures (nobody (table_of c.args.table.now) c.requires.is_sound _ c.requires.counted.count c.in_err-thread.ensures)
+
+pub overflow_cast-result-2 : goal.overflow_cast-result-2
+overflow_cast-result-2 c =
+    let read = ap (λ (t : Task). t.phase) c.read_task-phase.ensures in
+    omega (arith, target_most (table_of c.args.table.now) c.in_ok-thread.thread _ (c.target_in.ensures c.in_ok-thread.thread read), c.requires.counted.size)
 
 pub returns : goal.returns
 returns c =
-    c.request_for.ensures
-    ∙ makes (table_of c.args.table.now) c.requires.is_sound _ _ c.requires.counted.count c.lowest_ready-thread.ensures c.if-threads-thread.false
+    let read = ap (λ (t : Task). t.phase) c.read_task-phase.ensures in
+    makes (table_of c.args.table.now) c.requires.is_sound _ c.requires.counted.count _ _ _ c.in_ok-thread.ensures
+    (rw read at c.move_in.ensures) (c.target_in.ensures _ read)

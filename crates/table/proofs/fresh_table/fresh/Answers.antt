@@ -1,7 +1,7 @@
 -- A test that fails gives its refusal, and past the tests the output is filled.
-use Rattle.std.proofs.Common.{◌≡◌, ℕ, ◌≤◌, ◌<◌, true, false, List, [], length, refl, sym, ap, ◌∙◌, arith, leb}
+use Rattle.std.proofs.Common.{◌≡◌, ℕ, ◌≤◌, ◌<◌, true, false, List, [], ◌++◌, length, drop, sym, ap, ◌∙◌, arith, leb}
 use lib.Dec.{leb→le}
-use Rattle.definitions.specs.Answers.{accepted, refused, test, filled}
+use Rattle.definitions.specs.Answers.{accepted, refused, test}
 use Rattle.definitions.specs.Bounds.{most_threads}
 use Rattle.definitions.specs.Table.{count_fits, size, fresh, fresh_entry}
 use Rattle.basics.specs.Outputs.{Delivered}
@@ -22,18 +22,19 @@ module _ (n : ℕ) (out : List ℕ) where
     tight : length out < size n → Delivered (fresh_entry n) out out (refused 12 0)
     tight l = no_room (fresh_entry n) out (pass _ [] (true-T (count_fits n) fits) no_test) (omega (arith, fresh-length n))
 
-    written : size n ≤ length out → Delivered (fresh_entry n) out (filled out (fresh n)) (accepted (size n))
-    written l =
-        delivered_as (whole (fresh_entry n) out (pass _ [] (true-T (count_fits n) fits) no_test) (omega (arith, fresh-length n)))
-        refl (ap accepted (sym (fresh-length n)))
+    written : (bytes : ℕ) (table : List ℕ) → bytes ≡ size n → bytes ≤ length out → table ≡ fresh n → Delivered (fresh_entry n) out (table ++ drop bytes out) (accepted bytes)
+    written bytes table e l f =
+        let long : bytes ≡ length (fresh n) = e ∙ sym (fresh-length n) in
+        delivered_as (whole (fresh_entry n) out (pass _ [] (true-T (count_fits n) fits) no_test) (omega arith))
+        (ap (λ (t : List ℕ). t ++ drop bytes out) f ∙ ap (λ (k : ℕ). fresh n ++ drop k out) long) (ap accepted long)
 
 pub returns-then-not-count_fits : goal.returns-then-not-count_fits
-returns-then-not-count_fits c = bad-size c.args.threads c.args.out.now (sym c.count_fits.ensures ∙ c.if-not-count_fits.true)
+returns-then-not-count_fits c = rw c.into.ensures (bad-size c.args.threads c.args.out.now (sym c.count_fits.ensures ∙ c.if-not-count_fits.true))
 
-pub returns-then-room-size : goal.returns-then-room-size
-returns-then-room-size c = tight c.args.threads c.args.out.now (sym c.count_fits.ensures ∙ c.if-not-count_fits.false) (omega arith)
+pub returns-then-out-size : goal.returns-then-out-size
+returns-then-out-size c = rw c.into-then-out-size.ensures (tight c.args.threads c.args.out.now (sym c.count_fits.ensures ∙ c.if-not-count_fits.false) (omega arith))
 
 pub returns : goal.returns
 returns c =
-    delivered_as (written c.args.threads c.args.out.now (sym c.count_fits.ensures ∙ c.if-not-count_fits.false) (omega arith))
-    c.write_fresh.ensures (ap accepted c.size_of-size.ensures)
+    written c.args.threads c.args.out.now (sym c.count_fits.ensures ∙ c.if-not-count_fits.false) _ _
+    c.size_of-size.ensures c.if-out-size.false c.write_fresh.ensures

@@ -1,2 +1,0 @@
--- Laws of the readers' answers.
-pub mod Closings

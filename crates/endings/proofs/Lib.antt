@@ -1,2 +1,0 @@
--- The last line by the case of the ending.
-pub mod Endings

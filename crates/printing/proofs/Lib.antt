@@ -1,2 +1,0 @@
--- A whole output.
-pub mod Output

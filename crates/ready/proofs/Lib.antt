@@ -1,2 +1,0 @@
--- What the bits of the phases say.
-pub mod ReadyBits

@@ -1,2 +1,0 @@
--- The definition that this crate's contracts cite besides those of the crates below.
-pub mod ReadyBits

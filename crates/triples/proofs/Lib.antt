@@ -1,0 +1,2 @@
+-- Requests as a text in parts.
+pub mod Requests

@@ -1,2 +1,0 @@
--- The tests of the three entries.
-pub mod TestLaws
