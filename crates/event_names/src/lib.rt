@@ -56,7 +56,7 @@ pub fn event_name(code: u8) -> &'static [u8]
 // Each name has a call of its own: one call, given the name as a slice, is compiled to a table of addresses, which the archive
 // doesn't have.
 #[tactic(auto, unfolding(definitions::specs::Texts::bytes, definitions::specs::Run::event_name))]
-fn put_event(out: &mut Output, event: Event)
+fn put_event_name(out: &mut Output, event: Event)
     requires { HasRoom out.old (event_name (code_of event)) }
     ensures { Puts out.old (event_name (code_of event)) out.new }
 {
@@ -79,6 +79,6 @@ pub fn put_name(out: &mut Output, code: u8)
     ensures { Puts out.old (event_name code) out.new }
 {
     if let Some(event) = Event::from_code(code) {
-        put_event(out, event);
+        put_event_name(out, event);
     }
 }

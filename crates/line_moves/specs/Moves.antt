@@ -16,13 +16,13 @@ pub record Stated (tests : ℕ → List Test) (rs : List Request) (triples : Lis
   pub passed : (place : ℕ) → T (passes_all (tests place))
   pub triples_are : triples ≡ bytes_of rs
 
-abbrev pub Taken : {A : Type 0} → (ℕ → List Test) → List Request → (A → List ℕ) → Result A Refusal → Type 0
-Taken tests rs bytes r = MatchResult r (λ a. Stated tests rs (bytes a)) (λ x. (place : ℕ) → TurnedDown (tests place) (number_of x) place)
+abbrev pub PassesOr : {A : Type 0} → (ℕ → List Test) → List Request → (A → List ℕ) → Result A Refusal → Type 0
+PassesOr tests rs bytes r = MatchResult r (λ a. Stated tests rs (bytes a)) (λ x. (place : ℕ) → TurnedDown (tests place) (number_of x) place)
 
 -- a request, for n threads
 abbrev pub TripleTested : ℕ → Request → Result (List ℕ) Refusal → Type 0
-TripleTested n r = Taken (λ place. number_tests place n r) (r ∷ []) (λ triple. triple)
+TripleTested n r = PassesOr (λ place. number_tests place n r) (r ∷ []) (λ triple. triple)
 
 -- a form; the note gives no triple
 abbrev pub LineTaken : ℕ → Form → Result (Option (List ℕ)) Refusal → Type 0
-LineTaken n f = Taken (λ place. line_tests place n f) (request_in f) (λ triple. unwrap_or triple [])
+LineTaken n f = PassesOr (λ place. line_tests place n f) (request_in f) (λ triple. unwrap_or triple [])
