@@ -36,6 +36,10 @@ abbrev pub in_phase : Table → ℕ → Table
 in_phase s k =
     record { threads = s.threads; mutex = s.mutex; target = s.target; phase = λ i. k; busy = s.busy; forbidden = s.forbidden }
 
+-- the decision of a function that is called for one move
+pub called : (v : View) (mv m : ℕ) (d : Decided) → mv ≡ m → Decides v m d → Decides v mv d
+called v mv m d e h = subst⁻¹ (λ (k : ℕ). Decides v k d) e h
+
 -- the row of go in phase k
 go-row : (s : Table) (i k : ℕ) → s.phase i ≡ k → go_effect s i ≡ go_effect (in_phase s k) i
 unfolding go_effect
