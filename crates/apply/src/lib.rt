@@ -37,7 +37,7 @@ pub fn apply_request(table: &mut [u8], forbidden: usize, request: Request, mv: M
     let mover = read_task(table, thread);
     let number = subject_of(head, mover, request, mv);
     let subject = read_task(table, number);
-    let decided = decide(view_of(head, mover, number, subject, forbidden), mv);
+    let decided = decide(view_of(head, mover, number, subject, forbidden), mv.into());
     store(table, thread, number, decided);
     Made {
         outcome: decided.outcome,

@@ -4,7 +4,7 @@
 #![tactic(auto)]
 
 ghost use Rattle.std.specs.Prelude.{◌<◌, ◌^◌, ◌≡◌};
-ghost use Rattle.definitions.specs.Table.{size, phase_at, table_of, byte_table};
+ghost use Rattle.definitions.specs.Table.{size, phase_at, busy_at, forbidden_at, table_of, byte_table};
 ghost use Rattle.theory.specs.Tables.{Sized, head_of, task_of, put_head, put_task};
 
 use definitions::{Head, MOST_THREADS, Task};
@@ -22,6 +22,20 @@ pub fn phase_at(thread: usize) -> usize
     ensures { result ≡ phase_at thread }
 {
     3 + 3 * thread
+}
+
+pub fn busy_at(thread: usize) -> usize
+    requires { thread < 2 ^ 16 }
+    ensures { result ≡ busy_at thread }
+{
+    4 + 3 * thread
+}
+
+pub fn forbidden_at(thread: usize) -> usize
+    requires { thread < 2 ^ 16 }
+    ensures { result ≡ forbidden_at thread }
+{
+    5 + 3 * thread
 }
 
 // "3 + 3N bytes": up to where a thread N would begin.
@@ -50,11 +64,10 @@ pub fn read_task(table: &[u8], thread: usize) -> Task
     requires { Sized table.now × (thread < (table_of table.now).threads) }
     ensures { result ≡ task_of (table_of table.now) thread }
 {
-    let at = phase_at(thread);
     Task {
-        phase: table[at],
-        busy: table[at + 1],
-        forbidden: table[at + 2],
+        phase: table[phase_at(thread)],
+        busy: table[busy_at(thread)],
+        forbidden: table[forbidden_at(thread)],
     }
 }
 
@@ -73,8 +86,7 @@ pub fn write_task(table: &mut [u8], thread: usize, task: Task)
     requires { Sized table.old × (thread < (table_of table.old).threads) }
     ensures { table.new ≡ put_task byte_table table.old thread task }
 {
-    let at = phase_at(thread);
-    table[at] = task.phase;
-    table[at + 1] = task.busy;
-    table[at + 2] = task.forbidden;
+    table[phase_at(thread)] = task.phase;
+    table[busy_at(thread)] = task.busy;
+    table[forbidden_at(thread)] = task.forbidden;
 }

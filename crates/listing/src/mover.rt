@@ -35,7 +35,7 @@ impl Mover {
         ensures { result ≡ open_targets self (number_of_move mv) }
     {
         if self.is_open(mv) {
-            phase_moves::targets_of(self.threads, mv)
+            phase_moves::targets_of(self.threads, mv.into())
         } else {
             0
         }

@@ -13,7 +13,7 @@ use Rattle.phase_moves.specs.MoveBits.{bits_below, move_bits, has_bit}
 use Rattle.basics.proofs.Quantifiers.{every_at}
 use Rattle.phase_moves.proofs.Moves.{number_most}
 
-agrees_eq : (a b : Bool) → T (beq a b) → a ≡ b
+pub agrees_eq : (a b : Bool) → T (beq a b) → a ≡ b
 agrees_eq true true t = refl
 agrees_eq true false t = absurd t
 agrees_eq false true t = absurd t
@@ -27,7 +27,7 @@ unfolding agrees every among rows bits_below
 all_agree phase mv p m =
     every_at (agrees phase) (suc last_move) (every_at (λ q. every (suc last_move) (agrees q)) (suc last_phase) tt phase (omega arith)) mv (omega arith)
 
-bit_is : (phase mv : ℕ) → phase ≤ last_phase → mv ≤ last_move → has_bit (move_bits phase) mv ≡ has_move mv phase
+pub bit_is : (phase mv : ℕ) → phase ≤ last_phase → mv ≤ last_move → has_bit (move_bits phase) mv ≡ has_move mv phase
 unfolding agrees
 bit_is phase mv p m = agrees_eq (has_bit (move_bits phase) mv) (has_move mv phase) (all_agree phase mv p m)
 

@@ -34,23 +34,23 @@ pub fn has_bit(moves: u8, mv: Move) -> bool
     (moves >> mv as u8) & 1 == 1
 }
 
-// Set and clear name a thread.
-pub fn names_thread(mv: Move) -> bool
-    ensures { result ≡ names_thread (number_of_move mv) }
+// Set and clear name a thread, by the number of the move; a number above the last names none.
+pub fn names_thread(mv: u8) -> bool
+    ensures { result ≡ names_thread mv }
 {
-    matches!(mv, Move::Set | Move::Clear)
+    (mv == Move::Set as u8) | (mv == Move::Clear as u8)
 }
 
 // How many targets, from 0 on, a move may name: set and clear every thread, another move 0 alone.
-pub fn targets_of(threads: usize, mv: Move) -> usize
-    ensures { result ≡ targets_of threads (number_of_move mv) }
+pub fn targets_of(threads: usize, mv: u8) -> usize
+    ensures { result ≡ targets_of threads mv }
 {
     if names_thread(mv) { threads } else { 1 }
 }
 
 // Refusal 5: "The target of set or clear isn't below N, or that of another move isn't 0."
-pub fn target_fits(threads: usize, mv: Move, target: usize) -> bool
-    ensures { result ≡ target_fits threads (number_of_move mv) target }
+pub fn target_fits(threads: usize, mv: u8, target: usize) -> bool
+    ensures { result ≡ target_fits threads mv target }
 {
     target < targets_of(threads, mv)
 }

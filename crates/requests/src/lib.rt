@@ -20,7 +20,7 @@ pub fn test_numbers(threads: usize, request: Request) -> Result<Move, Refusal>
         return Err(Refusal::NoThread);
     }
     let mv = Move::try_from(request.mv)?;
-    if !target_fits(threads, mv, request.target as usize) {
+    if !target_fits(threads, mv.into(), request.target as usize) {
         return Err(Refusal::BadTarget);
     }
     Ok(mv)
@@ -33,7 +33,7 @@ pub fn test_move(head: Head, mover: Task, request: Request) -> Result<Move, Refu
     ensures { tested_reply result ≡ answered (later_tests head mover request) request.mv }
 {
     let mv = Move::try_from(request.mv)?;
-    if !target_fits(head.threads as usize, mv, request.target as usize) {
+    if !target_fits(head.threads as usize, mv.into(), request.target as usize) {
         return Err(Refusal::BadTarget);
     }
     if !has_move(mover.phase, mv) {

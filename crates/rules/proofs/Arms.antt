@@ -7,7 +7,7 @@ use mathlib.Core.Logic.{⊎_elim}
 use mathlib.Core.Path.{◌≡◌, refl, sym, subst, subst⁻¹, ap, ◌∙◌}
 use lib.Dec.{T, eqb, eqb→eq}
 use Rattle.definitions.specs.Answers.{quiet}
-use Rattle.definitions.specs.Bounds.{last_phase, no_target}
+use Rattle.definitions.specs.Bounds.{last_phase, last_move, no_target}
 use Rattle.definitions.specs.Codes.{go, hold}
 use Rattle.definitions.specs.Moves.{ask, all_forbidden, go_effect, effect, is_retry, accepts}
 use Rattle.definitions.specs.Phases.{rows, has_move}
@@ -35,6 +35,10 @@ use Rattle.theory.proofs.MoveWrites.{subject-by, subject-thread}
 abbrev pub in_phase : Table → ℕ → Table
 in_phase s k =
     record { threads = s.threads; mutex = s.mutex; target = s.target; phase = λ i. k; busy = s.busy; forbidden = s.forbidden }
+
+-- the decision of a function that is called for one move
+pub called : (v : View) (mv m : ℕ) (d : Decided) → mv ≡ m → Decides v m d → Decides v mv d
+called v mv m d e h = subst⁻¹ (λ (k : ℕ). Decides v k d) e h
 
 -- the row of go in phase k
 go-row : (s : Table) (i k : ℕ) → s.phase i ≡ k → go_effect s i ≡ go_effect (in_phase s k) i
@@ -136,3 +140,6 @@ idle_arm v d h s r a e seen =
     absurd (no_both (among v.mover.phase arms_of_go)
     (subst⁻¹ (λ (x : ℕ). T (among x arms_of_go)) same (has_arm p ((sound_e s k.is_sound).phases r.thread k.thread-fits) has))
     (not-among v.mover.phase arms_of_go h))
+
+pub no_arm : (v : View) (mv : ℕ) (d : Decided) → last_move < mv → Decides v mv d
+no_arm v mv d l s r a e seen = let k = (accepted_e s r a).move-fits in absurd (omega arith)

@@ -2,7 +2,6 @@
 // makes, by the move's number and the mover's phase.
 #![tactic(auto)]
 
-ghost use Rattle.definitions.specs.Answers.{number_of_move};
 ghost use Rattle.definitions.specs.Codes.{go};
 ghost use Rattle.views.specs.View.{Decides};
 
@@ -42,11 +41,14 @@ fn go(v: View) -> Decided
     }
 }
 
-// What a move writes and shows. Callers ask for a move that has passed its tests.
+// What a move writes and shows, by its number. Callers ask for a move that has passed its tests.
 #[tactic(auto, unfolding(definitions::specs::Moves::effect, definitions::specs::Moves::is_retry))]
-pub fn decide(v: View, mv: Move) -> Decided
-    ensures { Decides v (number_of_move mv) result }
+pub fn decide(v: View, mv: u8) -> Decided
+    ensures { Decides v mv result }
 {
+    let Ok(mv) = Move::try_from(u16::from(mv)) else {
+        return pass(v, 0, Outcome::Quiet);
+    };
     match mv {
         Move::Go => go(v),
         Move::CallShared => show(v, 1, Event::EnterSharedCall),

@@ -17,7 +17,7 @@ pub fn subject_of(head: Head, mover: Task, request: Request, mv: Move) -> usize
     requires { request.mv ≡ number_of_move mv }
     ensures { result ≡ subject_by request mover.phase head.target }
 {
-    if names_thread(mv) {
+    if names_thread(mv.into()) {
         return request.target as usize;
     }
     match mover.phase {

@@ -3,7 +3,7 @@ use Prim.Native.Nat.{ℕ, ◌+◌, ◌≤◌, ◌<◌}
 use native.Mathlib.Omega.{arith}
 use mathlib.Core.Bool.{cond}
 use mathlib.Core.List.{List}
-use mathlib.Core.Path.{◌≡◌}
+use mathlib.Core.Path.{◌≡◌, subst}
 use lib.Dec.{eqb}
 use Rattle.std.specs.Prelude.{Ok}
 use Rattle.definitions.specs.Answers.{number_of_move}
@@ -56,10 +56,11 @@ module _ (bytes : List ℕ) (k : ℕ) (r : Request) (mv : Move) (h : Accepting b
         seen : v ≡ view_of (table_of bytes) r
         seen = rw (q, e, f, w, seen_by byte_table bytes k h.table t subject_in r.thread, subject_is)
 
-        made : (d : Decided) (after : List ℕ) (k' : ℕ) → Decides v (number_of_move mv) d → after ≡ put_back byte_table bytes r.thread t d.head d.mover d.forbidden
+        made : (number : ℕ) (d : Decided) (after : List ℕ) (k' : ℕ) → number ≡ number_of_move mv → Decides v number d
+            → after ≡ put_back byte_table bytes r.thread t d.head d.mover d.forbidden
             → k' + cond (eqb u.forbidden 1) 1 0 ≡ k + cond (eqb d.forbidden 1) 1 0 → MoveTried bytes r after (Ok (record { outcome = d.outcome; forbidden = k' }))
-        made d after k' rule put new =
-            one_move byte_table bytes k h.table byte_keeps same_bytes r mv h v d seen rule after k'
+        made number d after k' same rule put new =
+            one_move byte_table bytes k h.table byte_keeps same_bytes r mv h v d seen (subst (λ (m : ℕ). Decides v m d) same rule) after k'
             (rw (put, subject_is)) (rw q new)
 
 -- ---- the answers
@@ -90,4 +91,4 @@ recount-requires c =
 pub returns : goal.returns
 returns c =
     made _ _ _ _ c.requires _ _ _ c.read_head-head.ensures c.read_task-mover.ensures c.subject_of-number.ensures _ c.read_task-subject.ensures
-    _ c.view_of.ensures _ _ _ c.decide-decided.ensures c.store.ensures c.recount.ensures
+    _ c.view_of.ensures _ _ _ _ c.into.ensures c.decide-decided.ensures c.store.ensures c.recount.ensures
