@@ -8,7 +8,9 @@ use Rattle.choice.proofs.ChoiceLaws.{target_most, nobody, makes}
 use Rattle.choice.proofs.request.choose.Goals as goal
 
 pub returns-in_err-thread : goal.returns-in_err-thread
-returns-in_err-thread c = rw c.from_residual.ensures (nobody (table_of c.args.table.now) c.requires.is_sound _ c.requires.counted.count (from_0 _ (ready (table_of c.args.table.now)) None c.in_err-thread.ensures))
+returns-in_err-thread c =
+    rw c.from_residual.ensures
+    (nobody (table_of c.args.table.now) c.requires.is_sound _ c.requires.counted.count (from_0 _ (ready (table_of c.args.table.now)) None c.in_err-thread.ensures))
 
 pub overflow_cast-result-2 : goal.overflow_cast-result-2
 overflow_cast-result-2 c =
