@@ -7,12 +7,16 @@ use mathlib.Core.Bool.{Bool, true, false, cond}
 use mathlib.Core.Logic.{⊎_elim}
 use mathlib.Core.Path.{◌≡◌, refl, sym, ap, ap₂}
 use lib.Dec.{lit≤}
-use Rattle.definitions.specs.Answers.{Reply, accepted, refused, Seen, shown, quiet, MoveAnswer, moved, number_of}
+use Rattle.std.specs.Prelude.{Option, Some, None}
+use Rattle.definitions.specs.Answers.{Reply, accepted, refused, Seen, shown, quiet, MoveAnswer, moved, code_of, number_of, event_seen}
 use Rattle.definitions.specs.Bounds.{last_event}
 use Rattle.definitions.specs.Dispatch.{DispatchAnswer, made, waiting}
 use Rattle.definitions.specs.Moves.{ask}
 use Rattle.definitions.specs.Run.{RunCounts}
 use Rattle.definitions.specs.Scripts.{Listed}
+use Rattle.definitions.specs.declared.Event.{Event}
+use Rattle.definitions.specs.declared.Event.TheVariants.{EnterSharedCall, EnterSharedReturn, LeaveSharedCall, LeaveSharedReturn}
+use Rattle.definitions.specs.declared.Event.TheVariants.{EnterExclusiveCall, EnterExclusiveReturn, LeaveExclusiveCall, LeaveExclusiveReturn}
 use Rattle.definitions.specs.declared.Refusal.{Refusal}
 use Rattle.definitions.specs.declared.Refusal.TheVariants.{BadSize, Unsound, NoThread, NoMove, BadTarget, NotInPhase, MutexHeld, BadForm, UnknownPair, NotNext, Occupied, NoRoom, Inconsistent}
 use Rattle.definitions.specs.declared.Request.{Request}
@@ -40,7 +44,7 @@ module _ {A : Type 0} (P : A → Type 0) (value : A → ℕ) where
   low unit small (accepted a) f = small a f
   low unit small (refused number place) f = tt
 
--- ---- the refusals' numbers
+-- ---- the refusals' numbers and the events' codes
 
 pub numbers : (r : Refusal) → (1 ≤ number_of r) × (number_of r < 256)
 numbers BadSize = (lit≤ tt, lit≤ tt)
@@ -56,6 +60,21 @@ numbers NotNext = (lit≤ tt, lit≤ tt)
 numbers Occupied = (lit≤ tt, lit≤ tt)
 numbers NoRoom = (lit≤ tt, lit≤ tt)
 numbers Inconsistent = (lit≤ tt, lit≤ tt)
+
+codes : (e : Event) → (1 ≤ code_of e) × (code_of e ≤ 8)
+codes EnterSharedCall = (lit≤ tt, lit≤ tt)
+codes EnterSharedReturn = (lit≤ tt, lit≤ tt)
+codes LeaveSharedCall = (lit≤ tt, lit≤ tt)
+codes LeaveSharedReturn = (lit≤ tt, lit≤ tt)
+codes EnterExclusiveCall = (lit≤ tt, lit≤ tt)
+codes EnterExclusiveReturn = (lit≤ tt, lit≤ tt)
+codes LeaveExclusiveCall = (lit≤ tt, lit≤ tt)
+codes LeaveExclusiveReturn = (lit≤ tt, lit≤ tt)
+
+-- what is seen of a move
+pub seen_most : (e : Option Event) → seen_value (event_seen e) ≤ last_event
+seen_most (Some e) = (codes e).1
+seen_most None = omega arith
 
 -- ---- answers of two values, of which the lower is below a unit
 

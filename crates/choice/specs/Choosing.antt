@@ -1,5 +1,5 @@
 -- What the functions that make the choice are handed, and what is chosen.
-use Rattle.std.specs.Prelude.{ℕ, ◌<◌, Bool, Option, MatchOption, List, ◌≡◌, not, T}
+use Rattle.std.specs.Prelude.{ℕ, ◌<◌, Bool, Option, MatchOption, List, ◌≡◌, not, ◌&&◌, leb, T}
 use Rattle.definitions.specs.Answers.{number_of_move}
 use Rattle.definitions.specs.Dispatch.{chosen, is_waiting}
 use Rattle.definitions.specs.Moves.{ask}
@@ -11,6 +11,14 @@ use Rattle.theory.specs.Tables.{Sized}
 use Rattle.choice.specs.declared.request.Chosen.{Chosen}
 
 -- ---- what is found
+
+-- the lowest of the threads from `from` to `to` - 1 of which f holds, and `to` where there is none
+abbrev pub lowest_from : ℕ → ℕ → (ℕ → Bool) → ℕ
+lowest_from from to f = lowest to (λ t. leb from t && f t)
+
+-- the lowest of these threads, if there is one
+abbrev pub IsLowestFrom : ℕ → ℕ → (ℕ → Bool) → Option ℕ → Type 0
+IsLowestFrom from to f r = MatchOption r (lowest_from from to f ≡ to) (λ i. (i < to) × (lowest_from from to f ≡ i))
 
 -- the lowest of the threads below n of which f holds, if there is one
 abbrev pub IsLowest : ℕ → (ℕ → Bool) → Option ℕ → Type 0

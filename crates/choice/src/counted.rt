@@ -1,10 +1,10 @@
-// A table that passed test 1, and the searches over its threads, each from the lowest on.
-ghost use Rattle.std.specs.Prelude.{ℕ, ◌≡◌, eqb};
+// A table that passed test 1, and the searches over its threads, each from a lower number to a higher one.
+ghost use Rattle.std.specs.Prelude.{ℕ, ◌≤◌, ◌≡◌, eqb};
 ghost use Rattle.definitions.specs.Dispatch.{target_for};
 ghost use Rattle.definitions.specs.Table.{table_of};
 ghost use Rattle.definitions.specs.Threads.{lowest};
 ghost use Rattle.dispatching.specs.Ready.{ready};
-ghost use Rattle.choice.specs.Choosing.{CountedFor, IsLowest};
+ghost use Rattle.choice.specs.Choosing.{CountedFor, IsLowestFrom};
 
 use layout::{read_head, read_task};
 use ready::is_ready;
@@ -29,13 +29,14 @@ impl Counted<'_> {
         0
     }
 
-    // The lowest thread that is ready.
-    pub fn lowest_ready(&self) -> Option<usize>
-        ensures { IsLowest self.now.threads (ready (table_of self.now.table.now)) result }
+    // The lowest thread from `from` to `to` - 1 that is ready.
+    pub fn lowest_ready(&self, from: usize, to: usize) -> Option<usize>
+        requires { to ≤ self.now.threads }
+        ensures { IsLowestFrom from to (ready (table_of self.now.table.now)) result }
     {
         let mutex = read_head(self.table).mutex;
         let busy = self.target_busy();
-        (0..self.threads).find(|&thread| is_ready(mutex, busy, read_task(self.table, thread).phase))
+        (from..to).find(|&thread| is_ready(mutex, busy, read_task(self.table, thread).phase))
     }
 
     // The lowest thread with a forbidden, 0 or 1, and N where there is none.

@@ -21,7 +21,7 @@ pub fn choose(table: &[u8], threads: usize) -> Option<Chosen>
     ensures { Chooses (table_of table.now) result }
 {
     let counted = Counted { table, threads };
-    let thread = counted.lowest_ready()?;
+    let thread = counted.lowest_ready(0, threads)?;
     let phase = read_task(table, thread).phase;
     Some(Chosen {
         thread: thread as u8,

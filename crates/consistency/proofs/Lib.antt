@@ -1,3 +1,4 @@
--- Laws of the record, and that one pass decides; each file says what it shows.
+-- Laws of the record first, then that one pass decides, then its tests; each file says what it shows.
 pub mod RecordLaws
 pub mod OnePass
+pub mod TestLaws

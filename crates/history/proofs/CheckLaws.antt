@@ -1,17 +1,17 @@
 -- The tests for 1 and 8, before the pairs are judged.
 use Prim.Native.Nat.{ℕ, ◌%◌, ◌≤◌}
-use mathlib.Core.Bool.{Bool, ◌&&◌}
+use mathlib.Core.Bool.{Bool, true, false, ◌&&◌}
 use mathlib.Core.List.{List, [], ◌∷◌}
-use mathlib.Core.Path.{◌≡◌}
+use mathlib.Core.Path.{◌≡◌, sym, ◌∙◌}
 use lib.Dec.{T, leb, eqb, leb→le, le→leb, eqb→eq}
 use lib.ListN.{length}
-use Rattle.definitions.specs.Answers.{Test, test, passes_all}
+use Rattle.definitions.specs.Answers.{refused, Test, test, answered, passes_all}
 use Rattle.definitions.specs.Bounds.{most_threads, most_history}
 use Rattle.definitions.specs.PlainLock.{form_tests, pairs_tests, check_tests}
 use Rattle.definitions.specs.Table.{count_fits}
-use Rattle.basics.proofs.Replies.{peel, pass, no_test}
+use Rattle.basics.proofs.Replies.{passed, failed, peel, pass, no_test}
 use Rattle.basics.proofs.TestLists.{passes-split, passes-join}
-use Rattle.basics.proofs.Tests.{and_l, and_r, and_i, eq_T}
+use Rattle.basics.proofs.Tests.{and_l, and_r, and_i, true-T, false-T, eq_T}
 
 -- what a history that passes the tests for 1 and 8 shows
 pub record Formed (n : ℕ) (bytes : List ℕ) : Type 0 where
@@ -52,3 +52,14 @@ module _ (n : ℕ) (bytes : List ℕ) where
 
   pub tests_i : Formed n bytes → T (passes_all (pairs_tests n bytes)) → T (passes_all (check_tests n bytes))
   tests_i f t = passes-join (form_tests n bytes) (pairs_tests n bytes) (formed_i f) t
+
+  -- what the check answers by them: its first refusals, or what the pairs decide
+  module _ (answer : ℕ) where
+    pub bad-size : count_fits n ≡ false → refused 1 0 ≡ answered (check_tests n bytes) answer
+    bad-size e = sym (failed size (form ∷ pairs_tests n bytes) answer (false-T (count_fits n) e))
+
+    pub bad_form : count_fits n ≡ true → formed ≡ false → refused 8 0 ≡ answered (check_tests n bytes) answer
+    bad_form e f = sym (passed size (form ∷ pairs_tests n bytes) answer (true-T (count_fits n) e) ∙ failed form (pairs_tests n bytes) answer (false-T formed f))
+
+    pub good_form : count_fits n ≡ true → formed ≡ true → answered (pairs_tests n bytes) answer ≡ answered (check_tests n bytes) answer
+    good_form e f = sym (passed size (form ∷ pairs_tests n bytes) answer (true-T (count_fits n) e) ∙ passed form (pairs_tests n bytes) answer (true-T formed f))

@@ -10,7 +10,7 @@ use Rattle.std.specs.Result.{result_unwrap_or}
 use lib.Dec.{T, le→leb}
 use lib.ListN.{length, take}
 use lib.Seq.{length-take-le, take_all}
-use Rattle.definitions.specs.Answers.{Reply, accepted, refused, is_accepted, number_of, answer_reply, filled, counted}
+use Rattle.definitions.specs.Answers.{Reply, accepted, refused, is_accepted, number_of, answer_reply, delivery_reply, delivery_output, filled, counted}
 use Rattle.definitions.specs.Bounds.{most_script, enough_output}
 use Rattle.definitions.specs.Run.{refused_line, run_output_of, RunCounts, running_reply, run_entry, program_output}
 use Rattle.definitions.specs.Texts.{bytes, decimal_within}
@@ -79,6 +79,17 @@ module _ (input out : List ℕ) (l : length input ≤ most_script) {after : List
   pub run_refuses : {a : Result Running Refused} (x : Refused) → a ≡ Err x → Delivered (run_entry input) out after (running_reply a)
       → Delivered (counted [] (program_output input)) out after (refused (number_of x.refusal) x.place)
   run_refuses x e p = subst (λ (y : Result Running Refused). Delivered (counted [] (program_output input)) out after (answering (λ c. c.bytes) (running_reply y))) e (delivers _ p)
+
+-- it is answered and left by the run's
+module _ (input out : List ℕ) (l : length input ≤ most_script) where
+  by_run : let d = run_entry input in Delivered (counted [] (program_output input)) out (delivery_output d out) (answering (λ (c : RunCounts). c.bytes) (delivery_reply d out))
+  by_run = delivers input out l _ (record { reply = refl; output = refl })
+
+  pub its_reply : delivery_reply (counted [] (program_output input)) out ≡ answering (λ (c : RunCounts). c.bytes) (delivery_reply (run_entry input) out)
+  its_reply = sym by_run.reply
+
+  pub its_output : delivery_output (counted [] (program_output input)) out ≡ delivery_output (run_entry input) out
+  its_output = sym by_run.output
 
 -- in a buffer that suffices it is written, and nothing else is answered
 module _ (input : List ℕ) {out : List ℕ} (room : enough_output ≤ length out) where

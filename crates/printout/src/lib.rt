@@ -12,7 +12,7 @@ use definitions::{MOST_SCRIPT, Refused};
 use text::deliver;
 
 // The program's output, if it has room.
-#[tactic(auto, unfolding(definitions::specs::Texts::bytes))]
+#[tactic(auto, using(crate::proofs::Output::its_reply, crate::proofs::Output::its_output), unfolding(definitions::specs::Texts::bytes))]
 fn write_output(input: &[u8], out: &mut [u8]) -> Result<usize, Refused>
     ensures { Delivered (counted [] (program_output input.now)) out.old out.new (answer_reply result) }
 {

@@ -13,3 +13,7 @@ pub length_reply : (n : ℕ) (bytes : List ℕ) (checked : Result ℕ Refused) �
     (λ why. plan_length_reply n bytes ≡ refused (number_of why.refusal) why.place)
 length_reply n bytes (Ok events) e = accepted_alike n bytes events (sym e)
 length_reply n bytes (Err why) e = (refused_alike n bytes (number_of why.refusal) why.place).1 (sym e)
+
+-- so a refusal answers the length
+pub length_refused : (n : ℕ) (bytes : List ℕ) (why : Refused) → answer_reply (Err why) ≡ check_reply n bytes → answer_reply (Err why) ≡ plan_length_reply n bytes
+length_refused n bytes why e = sym (length_reply n bytes (Err why) e)

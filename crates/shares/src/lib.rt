@@ -48,6 +48,7 @@ pub fn count_moves(threads: u16, history: &[u8]) -> usize
 }
 
 // How many moves the plan for a history makes, without the plan. Refusals and places are the check's.
+#[tactic(auto, using(crate::proofs::LengthLaws::length_refused))]
 pub fn plan_length(threads: u16, history: &[u8]) -> Result<usize, Refused>
     ensures { answer_reply result ≡ plan_length_reply threads history.now }
 {

@@ -77,8 +77,12 @@ module _ (w : Watcher) (thread event : ℕ) (long : length w.places ≡ most_thr
   by-event e = behind tt (record_tests w) (pair_tests n p 0 x) passed ∙ e
 
   -- a bad event is refused
-  bad : (r : Refusal) → VerdictOf n x s (Err r) → refused (number_of r) 0 ≡ event_reply w x
-  bad r judged = sym (by-event (other_answer tt (pair_tests n p 0 x) _ (number_of r) 0 (bad_verdict n p x few s standing_is (Err r) r refl judged 0)))
+  bad_reply : (r : Refusal) → VerdictOf n x s (Err r) → refused (number_of r) 0 ≡ event_reply w x
+  bad_reply r judged = sym (by-event (other_answer tt (pair_tests n p 0 x) _ (number_of r) 0 (bad_verdict n p x few s standing_is (Err r) r refl judged 0)))
+
+  -- and leaves the record
+  pub bad : (r : Refusal) → VerdictOf n x s (Err r) → Updates w x (kept w r)
+  bad r judged = refuses w x r (bad_reply r judged)
 
   -- one that fits is accepted and leaves the record of the places after it
   module _ (z : Standing) (judged : VerdictOf n x s (Ok z)) where
@@ -116,4 +120,4 @@ module _ (w : Watcher) (thread event : ℕ) (long : length w.places ≡ most_thr
   -- what is answered is right
   pub judged_right : (v : Result Standing Refusal) → VerdictOf n x s v → MatchResult v (λ z. Updates w x (changed thread z)) (λ r. refused (number_of r) 0 ≡ event_reply w x)
   judged_right (Ok z) judged = fits z judged
-  judged_right (Err r) judged = bad r judged
+  judged_right (Err r) judged = bad_reply r judged

@@ -3,8 +3,5 @@ use Rattle.std.proofs.Common.{rules}
 use Rattle.shares.proofs.LengthLaws.{length_reply}
 use Rattle.shares.proofs.plan_length.Goals as goal
 
-pub returns-in_err-check : goal.returns-in_err-check
-returns-in_err-check c = let reply = length_reply _ _ c.check.result c.check.ensures in search rules
-
 pub returns : goal.returns
 returns c = let reply = length_reply _ _ c.check.result c.check.ensures in search rules

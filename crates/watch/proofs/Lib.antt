@@ -1,0 +1,2 @@
+-- The tests of the three entries.
+pub mod TestLaws
