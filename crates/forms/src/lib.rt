@@ -52,7 +52,8 @@ pub fn read_form(text: &[u8]) -> Option<Form>
     }
 }
 
-// The form of a line. One that lacks its line feed has none.
+// The form of a line. One that lacks its line feed has none. Inlined, so that a line isn't stored to the stack for it.
+#[inline(always)]
 pub fn read_line(line: Line<'_>) -> Option<Form>
     ensures { form_for result ≡ line_form (line_read line.entry) }
 {
