@@ -5,14 +5,19 @@ use mathlib.Core.Bool.{true, false}
 use mathlib.Core.List.{List, [], ◌∷◌, ◌++◌}
 use mathlib.Core.Path.{◌≡◌, refl, sym, ap, ◌∙◌}
 use lib.Dec.{eqb}
-use lib.ListN.{length, take, drop, take-append-drop}
+use lib.ListN.{length, get_or, take, drop, take-append-drop}
+use lib.Seq.{ext_get_or}
 use Rattle.std.specs.List.{list_all, zip}
 use Rattle.definitions.specs.Texts.{same, starts}
 use Rattle.basics.proofs.Tests.{T_true, T_false, not_i}
-use Rattle.basics.proofs.Texts.{same_eq, starts-length}
+use Rattle.basics.proofs.Texts.{same_refl, same_eq, starts-length}
 
 pub same_ne : (xs ys : List ℕ) → (xs ≡ ys → ⊥) → same xs ys ≡ false
 same_ne xs ys h = T_false (same xs ys) (not_i (same xs ys) (λ t. h (same_eq xs ys (T_true (same xs ys) t))))
+
+-- of one length, and equal at each place
+pub same_at : (xs ys : List ℕ) → length xs ≡ length ys → ((k : ℕ) → k < length ys → get_or xs k 0 ≡ get_or ys k 0) → same xs ys ≡ true
+same_at xs ys e h = rw (ext_get_or 0 xs ys e (λ k l. h k (omega arith))) (same_refl ys)
 
 -- of one length, by the comparison at each place
 pub same_zipped : (xs ys : List ℕ) → length xs ≡ length ys → list_all (λ p. eqb p.0 p.1) (zip xs ys) ≡ same xs ys

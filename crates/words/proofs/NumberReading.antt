@@ -129,7 +129,16 @@ module _ (xs : List ℕ) where
       record { fits = f; value_is = cc; rest = ap (λ (k : ℕ). drop k xs) size; within = omega (arith, digits_within xs) })
       (λ f. let none : Some n ≡ None = rw f at e in cc)
 
+  pub missing : None ≡ number_for xs → (number_read xs).fits ≡ false
+  missing e =
+      by_fits ((number_read xs).fits ≡ false)
+      (λ f. let known : None ≡ Some (record { value = (number_read xs).value; digits = length (digits_of xs) }) = rw f at e in cc)
+      (λ f. f)
+
   -- ---- a number that a text follows, and nothing else
+
+  pub closed_missing : (closing : List ℕ) → None ≡ number_for xs → None ≡ closed_for xs closing
+  closed_missing closing e = rw (missing e)
 
   -- by the comparison of what follows it
   pub closed_by : (closing : List ℕ) (n : Number) → Some n ≡ number_for xs → (s b : Bool) → s ≡ same (take (length xs - n.digits) (drop n.digits xs)) closing → s ≡ b
