@@ -9,7 +9,7 @@ ghost use Rattle.definitions.specs.Texts.{number_read};
 ghost use Rattle.act_forms.specs.Readings.{form_for};
 
 use definitions::{Move, Request};
-use words::{read_closed, same_text};
+use words::{read_closed, same_text, starts_with};
 
 // What a line says; what each case means stands in specs/Readings.antt. A line that the grammar doesn't have says nothing.
 #[derive(Clone, Copy)]
@@ -41,15 +41,15 @@ fn read_target(thread: u16, mv: Move, part: &[u8]) -> Option<Form>
 }
 
 // A move with a target, from the space behind the thread's number on.
-#[tactic(auto, using(words::proofs::Comparisons::same_is), unfolding(definitions::specs::Texts::bytes, definitions::specs::Forms::aimed_form))]
+#[tactic(auto, unfolding(definitions::specs::Texts::bytes, definitions::specs::Forms::aimed_form))]
 fn read_aimed(thread: u16, part: &[u8]) -> Option<Form>
     ensures { form_for result ≡ aimed_form thread part.now }
 {
-    if let Some(rest) = part.strip_prefix(b" (set ") {
-        return read_target(thread, Move::Set, rest);
+    if starts_with(part, b" (set ") {
+        return read_target(thread, Move::Set, &part[6..]);
     }
-    if let Some(rest) = part.strip_prefix(b" (clear ") {
-        return read_target(thread, Move::Clear, rest);
+    if starts_with(part, b" (clear ") {
+        return read_target(thread, Move::Clear, &part[8..]);
     }
     None
 }

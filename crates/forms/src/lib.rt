@@ -10,7 +10,7 @@ ghost use Rattle.lines.specs.Lines.{line_read};
 use act_forms::{Form, read_act};
 use lines::Line;
 use notes::ends_note;
-use words::{read_closed, read_number};
+use words::{read_closed, read_number, starts_with};
 
 // What follows `(threads `: `N)`.
 #[tactic(auto, unfolding(definitions::specs::Texts::bytes))]
@@ -37,22 +37,23 @@ fn read_note(part: &[u8]) -> Option<Form>
 }
 
 // The form of a line's text. proofs/Spelling.antt shows that this is the inverse of the spelling of forms.
-#[tactic(auto, using(words::proofs::Comparisons::same_is), unfolding(definitions::specs::Texts::bytes, definitions::specs::Forms::form_of))]
+#[tactic(auto, unfolding(definitions::specs::Texts::bytes, definitions::specs::Forms::form_of))]
 pub fn read_form(text: &[u8]) -> Option<Form>
     ensures { form_for result ≡ form_of text.now }
 {
-    if let Some(rest) = text.strip_prefix(b"(threads ") {
-        read_threads(rest)
-    } else if let Some(rest) = text.strip_prefix(b"(note ") {
-        read_note(rest)
-    } else if let Some(rest) = text.strip_prefix(b"(") {
-        read_request(rest)
+    if starts_with(text, b"(threads ") {
+        read_threads(&text[9..])
+    } else if starts_with(text, b"(note ") {
+        read_note(&text[6..])
+    } else if starts_with(text, b"(") {
+        read_request(&text[1..])
     } else {
         None
     }
 }
 
-// The form of a line. One that lacks its line feed has none.
+// The form of a line. One that lacks its line feed has none. Inlined, so that a line isn't stored to the stack for it.
+#[inline(always)]
 pub fn read_line(line: Line<'_>) -> Option<Form>
     ensures { form_for result ≡ line_form (line_read line.entry) }
 {

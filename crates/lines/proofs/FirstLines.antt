@@ -1,15 +1,15 @@
 -- The lines of a text by the place of its first line feed.
-use Prim.Native.Nat.{ℕ, suc, ◌+◌, ◌-◌, ◌≤◌, ◌<◌}
+use Prim.Native.Nat.{ℕ, zero, suc, ◌+◌, ◌-◌, ◌≤◌, ◌<◌}
 use native.Mathlib.Numerals.{one-add}
 use native.Mathlib.Omega.{arith}
 use mathlib.Core.Bool.{Bool, true, false, cond}
 use mathlib.Core.List.{List, [], ◌∷◌}
 use mathlib.Core.Logic.{⊎_elim}
 use mathlib.Core.Path.{◌≡◌, refl, sym, ap, ◌∙◌}
-use borrow.Author.Tests.{lt-ltb, le-ltb, ltb-true, ltb-false}
+use borrow.Author.Tests.{eq-eqb, ne_eqb, lt-ltb, le-ltb, ltb-true, ltb-false}
 use lib.Dec.{ltb, eqb, leb-suc-suc}
-use lib.ListN.{length, take, drop, length-drop, drop_of_length-le}
-use lib.Seq.{take_all, drop-drop}
+use lib.ListN.{length, get_or, take, drop, length-drop, drop_of_length-le}
+use lib.Seq.{take_all, drop-cons, drop-drop, length-take-le}
 use Rattle.std.specs.List.{position, position_or_len}
 use Rattle.std.specs.Prelude.{Option, Some, None}
 use Rattle.definitions.specs.Texts.{Line, line_feed, in_front, lines_of}
@@ -52,6 +52,76 @@ record Feed (xs : List ℕ) (place : Option ℕ) : Type 0 where
 feed : (xs : List ℕ) (b : Bool) → ltb (size xs) (length xs) ≡ b → Feed xs (cond b (Some (size xs)) None)
 feed xs true e = record { found = λ k q. (ltb-true (size xs) (length xs) e, cc); missing = λ q. cc }
 feed xs false e = record { found = λ k q. cc; missing = λ q. ltb-false (size xs) (length xs) e }
+
+-- ---- the search for a line feed
+
+-- it stands at place k, or nowhere
+pub feed_at : (xs : List ℕ) (k : ℕ) → k < length xs → size xs ≡ k → Some k ≡ position (λ c. eqb c line_feed) xs
+feed_at xs k h e = rw (e, lt-ltb k (length xs) h)
+
+pub feed_nowhere : (xs : List ℕ) → length xs ≤ size xs → None ≡ position (λ c. eqb c line_feed) xs
+feed_nowhere xs h = rw (le-ltb (size xs) (length xs) h)
+
+-- among the first n bytes, or behind them
+size_take : (xs : List ℕ) (n : ℕ) → size (take n xs) < length (take n xs) → size xs ≡ size (take n xs)
+size_take xs zero h = absurd (omega arith)
+size_take [] (suc n) h = absurd (omega arith)
+size_take (c ∷ cs) (suc n) h =
+    ⊎_elim
+    (λ e. rw e)
+    (λ e. let more : 1 + size (take n cs) < suc (length (take n cs)) = rw e at h in rw e (omega (arith, size_take cs n (omega arith))))
+    (either (eqb c line_feed))
+
+size_behind : (xs : List ℕ) (n : ℕ) → n ≤ length xs → length (take n xs) ≤ size (take n xs) → size xs ≡ n + size (drop n xs)
+size_behind xs zero l h = omega arith
+size_behind [] (suc n) l h = absurd (omega arith)
+size_behind (c ∷ cs) (suc n) l h =
+    ⊎_elim
+    (λ e. let none : suc (length (take n cs)) ≤ 0 = rw e at h in absurd (omega arith))
+    (λ e. let more : suc (length (take n cs)) ≤ 1 + size (take n cs) = rw e at h in rw e (omega (arith, size_behind cs n (omega arith) (omega arith))))
+    (either (eqb c line_feed))
+
+-- no line feed was passed, so that the first of the text is the first from the present place on
+pub record Passed (xs : List ℕ) (at : ℕ) : Type 0 where
+  pub within : at ≤ length xs
+  pub left : size xs ≡ at + size (drop at xs)
+
+pub passed_none : (xs : List ℕ) → Passed xs 0
+passed_none xs = record { within = omega arith; left = omega arith }
+
+module _ {xs : List ℕ} {at : ℕ} (p : Passed xs at) where
+  -- the next n bytes
+  module _ (n : ℕ) (within : at + n ≤ length xs) where
+    pub feed_found : (k : ℕ) → Some k ≡ position (λ c. eqb c line_feed) (take n (drop at xs)) → Some (at + k) ≡ position (λ c. eqb c line_feed) xs
+    feed_found k h =
+        let f = (feed (take n (drop at xs)) _ refl).found k (sym h) in
+        let same = size_take (drop at xs) n f.0 in
+        let below : at + k < length xs = omega (arith, f.0, f.1, length-take-le n (drop at xs), length-drop at xs) in
+        feed_at xs (at + k) below (omega (arith, p.left, f.1))
+
+    pub passed_more : None ≡ position (λ c. eqb c line_feed) (take n (drop at xs)) → Passed xs (at + n)
+    passed_more h =
+        let f = (feed (take n (drop at xs)) _ refl).missing (sym h) in
+        let behind : size (drop at xs) ≡ n + size (drop n (drop at xs)) = size_behind (drop at xs) n (omega (arith, length-drop at xs)) f in
+        let left : size (drop n (drop at xs)) ≡ size (drop (at + n) xs) = ap size (drop-drop n at xs) in
+        record { within = within; left = omega (arith, p.left) }
+
+  -- the next byte
+  module _ (below : at < length xs) where
+    pub feed_here : get_or xs at 0 ≡ line_feed → Some at ≡ position (λ c. eqb c line_feed) xs
+    feed_here e =
+        let none : size (drop at xs) ≡ 0 = rw (drop-cons xs at 0 below, eq-eqb (get_or xs at 0) line_feed e) in
+        feed_at xs at below (omega (arith, p.left))
+
+    pub passed_byte : (get_or xs at 0 ≡ line_feed → ⊥) → Passed xs (at + 1)
+    passed_byte n =
+        let more : size (drop at xs) ≡ 1 + size (drop (suc at) xs) = rw (drop-cons xs at 0 below, ne_eqb (get_or xs at 0) line_feed n) in
+        let next : suc at ≡ at + 1 = omega arith in
+        record { within = omega arith; left = omega (arith, p.left, ap (λ (k : ℕ). size (drop k xs)) next) }
+
+  -- none
+  pub no_feed : length xs ≤ at → None ≡ position (λ c. eqb c line_feed) xs
+  no_feed h = feed_nowhere xs (omega (arith, p.left))
 
 module _ (xs : List ℕ) (from : ℕ) (some : from < length xs) where
   cut : (b : Bool) → ltb (size (drop from xs)) (length (drop from xs)) ≡ b

@@ -20,7 +20,7 @@ pub struct Line<'a> {
 }
 
 // The lines of a script from a place on.
-#[derive(Drop)]
+#[derive(Clone, Copy)]
 pub struct Lines<'a> {
     script: &'a [u8],
     from: usize,
@@ -34,11 +34,31 @@ impl<'a> Lines<'a> {
     }
 }
 
-// The place of the first line feed, if there is one.
+// The place of the first line feed among a few bytes, if there is one.
+fn feed_among(few: &[u8]) -> Option<usize>
+    ensures { result ≡ position (λ c. eqb c line_feed) few.now }
+{
+    few.iter().position(|c| *c == LINE_FEED)
+}
+
+// The place of the first line feed, if there is one. It is looked for in four bytes at a time.
 fn first_feed(text: &[u8]) -> Option<usize>
     ensures { result ≡ position (λ c. eqb c line_feed) text.now }
 {
-    text.iter().position(|c| *c == LINE_FEED)
+    let mut at = 0;
+    while let Some(four) = text.get(at..at + 4) {
+        if let Some(place) = feed_among(four) {
+            return Some(at + place);
+        }
+        at += 4;
+    }
+    while at < text.len() {
+        if text[at] == LINE_FEED {
+            return Some(at);
+        }
+        at += 1;
+    }
+    None
 }
 
 impl<'a> Iterator for Lines<'a> {

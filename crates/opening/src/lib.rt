@@ -10,7 +10,7 @@ use forms::read_line;
 use lines::Lines;
 
 // A first line that says the number of threads, and the lines behind it.
-#[derive(Drop)]
+#[derive(Clone, Copy)]
 pub struct First<'a> {
     pub count: u16,
     pub rest: Lines<'a>,

@@ -1,60 +1,67 @@
--- What the number reader's steps say of the number at the front of a list, and what an answer says of it.
+-- The digits at the front of a list, taken one by one; what the number readers answer of them, and what an answer says of the number.
 use Prim.Native.Nat.{ℕ, ◌+◌, ◌-◌, ◌*◌, ◌≤◌, ◌<◌}
-use native.Mathlib.Numerals.{add-one, one-add}
+use native.Mathlib.Numerals.{add-one}
 use native.Mathlib.Omega.{arith}
 use mathlib.Core.Bool.{Bool, true, false, cond, and-false, and-true, or-true}
-use mathlib.Core.Logic.{◌⊎◌, inl, inr}
+use mathlib.Core.Logic.{◌⊎◌, inl, inr, ◌≢◌}
 use mathlib.Core.List.{List, [], ◌∷◌}
 use mathlib.Core.Path.{◌≡◌, refl, sym, ap, ◌∙◌}
 use borrow.Author.Tests.{ne_eqb, lt-leb, le-leb}
 use lib.Dec.{leb, eqb}
 use lib.ListN.{length, get_or, take, drop}
-use Rattle.std.proofs.Common.{length-take-le}
 use lib.Seq.{take-suc, get_or-take}
 use Rattle.std.specs.Prelude.{Some, None}
-use Rattle.std.specs.Char.{is_ascii_digit}
-use Rattle.std.specs.List.{prefix_len, take_while}
 use Rattle.definitions.specs.Texts.{same, starts, is_digit, digits_of, number_fits, value_from, number_read}
 use Rattle.words.specs.Numbers.{number_for, closed_for}
 use Rattle.words.specs.declared.Number.{Number}
-use Rattle.basics.proofs.Digits.{digits_within, take_digits, digit_here, digit_low, digit_high, value-behind, value_below}
+use Rattle.basics.proofs.Digits.{digits_within, take_digits, digit_more, digit_end, digit_low, digit_high, value-behind, value_below}
 use Rattle.basics.proofs.Lists.{from_on}
 
--- ---- the digits at the front, and their value
+-- ---- digit by digit
 
--- the library's name for them
-pub digits_are : (xs : List ℕ) → take_while is_ascii_digit xs ≡ digits_of xs
-unfolding digits_of
-digits_are [] = refl
-digits_are (c ∷ cs) = go (is_digit c) (digits_are cs)
-  where
-    go : (b : Bool) → take_while is_ascii_digit cs ≡ digits_of cs → take (cond b (1 + prefix_len is_ascii_digit cs) 0) (c ∷ cs) ≡ cond b (c ∷ digits_of cs) []
-    go true e = rw (one-add, e)
-    go false e = refl
+value_more : (xs : List ℕ) (n : ℕ) → n < length xs → value_from 0 (take (n + 1) xs) ≡ 10 * value_from 0 (take n xs) + (get_or xs n 0 - 48)
+value_more xs n h = rw (add-one, take-suc xs n 0) (value-behind 0 (take n xs) (get_or xs n 0))
 
--- what is known of digit i among n, and of the value of those before it
-pub record DigitAt (xs : List ℕ) (n i : ℕ) : Type 0 where
-  pub low : 48 ≤ get_or (take n xs) i 0
-  pub high : get_or (take n xs) i 0 ≤ 57
-  pub small : value_from 0 (take i xs) < 100
-  pub more : value_from 0 (take (i + 1) xs) ≡ 10 * value_from 0 (take i xs) + (get_or (take n xs) i 0 - 48)
+-- the first n bytes are digits, three at most, and this is their value
+pub record ReadSoFar (xs : List ℕ) (n value : ℕ) : Type 0 where
+  pub few : n ≤ 3
+  pub digits : n ≤ length (digits_of xs)
+  pub worth : value ≡ value_from 0 (take n xs)
 
-pub digits_taken : (xs : List ℕ) (n : ℕ) → n ≡ length (digits_of xs) → n ≡ length (take n xs)
-digits_taken xs n count = let within = digits_within xs in sym (length-take-le n xs (omega arith))
+-- what holds before a further digit is taken
+pub record Next (xs : List ℕ) (n value : ℕ) : Type 0 where
+  pub here : n < length xs
+  pub low : 48 ≤ get_or xs n 0
+  pub high : get_or xs n 0 ≤ 57
+  pub small : value < 100
+  pub more : ReadSoFar xs (n + 1) (10 * value + (get_or xs n 0 - 48))
 
--- there are three at most
-pub digit_at : (xs : List ℕ) (n i : ℕ) → n ≡ length (digits_of xs) → n ≤ 3 → i < length (take n xs) → DigitAt xs n i
-digit_at xs n i count few below =
-    let within = digits_within xs in
-    let h : i < n = omega (arith, digits_taken xs n count) in
-    let digit = digit_here xs i (omega arith) in
-    let same = get_or-take n xs i 0 h in
-    record {
-      low = rw same (digit_low (get_or xs i 0) digit);
-      high = rw same (digit_high (get_or xs i 0) digit);
-      small = omega (arith, value_below xs i 2 0 1 (omega arith) (omega arith) (omega arith));
-      more = rw (same, add-one, take-suc xs i 0 (omega arith)) (value-behind 0 (take i xs) (get_or xs i 0));
-    }
+pub none_read : (xs : List ℕ) → ReadSoFar xs 0 0
+unfolding value_from
+none_read xs = record { few = omega arith; digits = omega arith; worth = refl }
+
+module _ {xs : List ℕ} {n value : ℕ} (t : ReadSoFar xs n value) where
+  pub next : is_digit (get_or xs n 0) ≡ true → (n ≡ 3 → ⊥) → Next xs n value
+  next e h =
+      let more = digit_more xs n t.digits e in
+      let within = digits_within xs in
+      let apart : n ≢ 3 = h in
+      let few = t.few in
+      record {
+        here = omega arith;
+        low = digit_low (get_or xs n 0) e;
+        high = digit_high (get_or xs n 0) e;
+        small = omega (arith, t.worth, value_below xs n 2 0 1 (omega arith) t.digits (omega arith));
+        more = record { few = omega arith; digits = omega arith; worth = rw t.worth (sym (value_more xs n (omega arith))) };
+      }
+
+  -- one more than there may be
+  pub too_many : is_digit (get_or xs n 0) ≡ true → n ≡ 3 → 3 < length (digits_of xs)
+  too_many e h = omega (arith, digit_more xs n t.digits e)
+
+  -- no more follow
+  pub all_taken : is_digit (get_or xs n 0) ≡ false → n ≡ length (digits_of xs)
+  all_taken e = omega (arith, digit_end xs n e, t.digits)
 
 -- ---- the number at the front
 
@@ -122,7 +129,16 @@ module _ (xs : List ℕ) where
       record { fits = f; value_is = cc; rest = ap (λ (k : ℕ). drop k xs) size; within = omega (arith, digits_within xs) })
       (λ f. let none : Some n ≡ None = rw f at e in cc)
 
+  pub missing : None ≡ number_for xs → (number_read xs).fits ≡ false
+  missing e =
+      by_fits ((number_read xs).fits ≡ false)
+      (λ f. let known : None ≡ Some (record { value = (number_read xs).value; digits = length (digits_of xs) }) = rw f at e in cc)
+      (λ f. f)
+
   -- ---- a number that a text follows, and nothing else
+
+  pub closed_missing : (closing : List ℕ) → None ≡ number_for xs → None ≡ closed_for xs closing
+  closed_missing closing e = rw (missing e)
 
   -- by the comparison of what follows it
   pub closed_by : (closing : List ℕ) (n : Number) → Some n ≡ number_for xs → (s b : Bool) → s ≡ same (take (length xs - n.digits) (drop n.digits xs)) closing → s ≡ b

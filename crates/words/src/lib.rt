@@ -1,8 +1,8 @@
 // Words and numbers of a script's line: comparisons of texts, and the number at the front of a part.
 #![tactic(auto)]
 
-ghost use Rattle.std.specs.Prelude.{◌≡◌, ◌≤◌, true, length};
-ghost use Rattle.definitions.specs.Texts.{same, starts, digits_of};
+ghost use Rattle.std.specs.Prelude.{◌≡◌, ◌≤◌, true, length, get_or};
+ghost use Rattle.definitions.specs.Texts.{same, starts, is_digit};
 ghost use Rattle.words.specs.Numbers.{number_for, closed_for};
 
 // A number and how many digits it has.
@@ -15,44 +15,52 @@ pub struct Number {
 // "numbers of one to three digits"
 const MOST_DIGITS: usize = 3;
 
-// Two parts are the same text.
-#[tactic(auto, using(crate::proofs::Comparisons::same_is))]
+// Two parts are the same text. The first bytes that differ end the comparison.
 pub fn same_text(part: &[u8], text: &[u8]) -> bool
     ensures { result ≡ same part.now text.now }
 {
-    part == text
+    if part.len() != text.len() {
+        return false;
+    }
+    part.iter().zip(text).all(|(a, b)| a == b)
 }
 
 // A part begins with a text.
-#[tactic(auto, using(crate::proofs::Comparisons::starts_is))]
 pub fn starts_with(part: &[u8], text: &[u8]) -> bool
     ensures value { result ≡ starts text.now part.now }
     ensures long { result ≡ true → length text.now ≤ length part.now }
 {
-    part.starts_with(text)
+    if part.len() < text.len() {
+        return false;
+    }
+    same_text(&part[..text.len()], text)
 }
 
-// How many digits stand at the front of a part.
-fn count_digits(part: &[u8]) -> usize
-    ensures { result ≡ length (digits_of part.now) }
+// There is a digit at a place of a part.
+pub fn digit_at(part: &[u8], at: usize) -> bool
+    ensures { result ≡ is_digit (get_or part.now at 0) }
 {
-    part.iter().take_while(|c| c.is_ascii_digit()).count()
+    matches!(part.get(at), Some(b'0'..=b'9'))
 }
 
-// The number at the front of a part. It has no more than MOST_DIGITS digits, so it stays below 1000.
+// The number at the front of a part. No more than MOST_DIGITS digits are taken, so it stays below 1000.
 pub fn read_number(part: &[u8]) -> Option<Number>
     ensures { result ≡ number_for part.now }
 {
-    let digits = count_digits(part);
-    if digits == 0 || MOST_DIGITS < digits {
+    let mut value = 0;
+    let mut digits = 0;
+    while digit_at(part, digits) {
+        if digits == MOST_DIGITS {
+            return None;
+        }
+        value = 10 * value + u16::from(part[digits] - b'0');
+        digits += 1;
+    }
+    if digits == 0 {
         return None;
     }
     if 1 < digits && starts_with(part, b"0") {
         return None;
-    }
-    let mut value = 0;
-    for c in &part[..digits] {
-        value = 10 * value + u16::from(*c - b'0');
     }
     Some(Number { value, digits })
 }

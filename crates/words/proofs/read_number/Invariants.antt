@@ -1,7 +1,10 @@
--- The loop of `words::read_number`: `value` is that of the digits passed.
-use Rattle.std.proofs.Common.{◌≡◌, take}
-use Rattle.definitions.specs.Texts.{value_from}
+-- The loop of `words::read_number`: the bytes passed are digits, three at most, and `value` is theirs. The measure is how many more may be passed.
+use Rattle.std.proofs.Common.{◌-◌}
+use Rattle.words.proofs.NumberReading.{ReadSoFar}
 use Rattle.words.proofs.read_number.Given as goal
 
-abbrev pub invariant-loop-c : goal.invariant-loop-c
-invariant-loop-c l = l.value ≡ value_from 0 (take l.c-index l.part)
+abbrev pub invariant-loop-value : goal.invariant-loop-value
+invariant-loop-value l = ReadSoFar l.part l.digits l.value
+
+abbrev pub decreases-loop-value : goal.decreases-loop-value
+decreases-loop-value l = 3 - l.digits
