@@ -3,7 +3,7 @@
 
 ghost use Rattle.std.specs.Prelude.{◌++◌, ◌≤◌, ◌≡◌, ℕ, length};
 ghost use Rattle.definitions.specs.Forms.{act_text};
-ghost use Rattle.definitions.specs.Texts.{bytes, decimal};
+ghost use Rattle.definitions.specs.Texts.{decimal};
 ghost use Rattle.text.specs.Cursors.{HasRoom, Puts};
 
 use decimals::decimal_length;
@@ -49,18 +49,20 @@ pub fn act_length(mv: u8, target: u8) -> usize
     }
 }
 
-// A word and its target.
-fn put_aimed(out: &mut Output, word: &[u8], target: u8)
-    requires { HasRoom out.old (word.now ++ (decimal target ++ bytes "))")) }
-    ensures { Puts out.old (word.now ++ (decimal target ++ bytes "))")) out.new }
+// A word, a number and what closes it.
+#[inline(always)]
+pub fn put_around(out: &mut Output, word: &[u8], number: u16, close: &[u8])
+    requires { HasRoom out.old (word.now ++ (decimal number ++ close.now)) }
+    ensures { Puts out.old (word.now ++ (decimal number ++ close.now)) out.new }
 {
     out.put(word);
-    out.put_decimal(target as usize);
-    out.put(CLOSING);
+    out.put_decimal(number as usize);
+    out.put(close);
 }
 
 // What stands behind T, put. Each text has a call of its own, so that a constant text is compiled to stores: with one call for
 // all texts a script took a quarter longer to write.
+#[inline(always)]
 #[tactic(auto, unfolding(definitions::specs::Texts::bytes, definitions::specs::Forms::act_text))]
 pub fn put_act(out: &mut Output, mv: u8, target: u8)
     requires { HasRoom out.old (act_text mv target) }
@@ -73,8 +75,8 @@ pub fn put_act(out: &mut Output, mv: u8, target: u8)
         Move::Go => out.put(GO),
         Move::CallShared => out.put(CALL_SHARED),
         Move::CallExclusive => out.put(CALL_EXCLUSIVE),
-        Move::Set => put_aimed(out, SET, target),
-        Move::Clear => put_aimed(out, CLEAR, target),
+        Move::Set => put_around(out, SET, target as u16, CLOSING),
+        Move::Clear => put_around(out, CLEAR, target as u16, CLOSING),
         Move::Relent => out.put(RELENT),
         Move::Hold => out.put(HOLD),
     }

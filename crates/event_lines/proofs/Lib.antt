@@ -1,2 +1,2 @@
 -- The lines of a history by its pairs.
-mod EventLines
+pub mod EventLines

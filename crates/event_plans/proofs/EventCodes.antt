@@ -10,7 +10,7 @@ pub no_plan : (n thread code : ℕ) → None ≡ event_of code → plan_of n (re
 unfolding plan_of event_of events
 no_plan n thread code q = grind (arith, common_steps)
 
-known-code : (code : ℕ) (e : Event) → Some e ≡ event_of code → code_of e ≡ code
+pub known-code : (code : ℕ) (e : Event) → Some e ≡ event_of code → code_of e ≡ code
 unfolding event_of events
 known-code code e q = grind (arith, common_steps)
 

@@ -35,8 +35,7 @@ fn put_pairs(out: &mut Output, mv: Move, targets: usize)
     ensures { Puts out.old (pairs (number_of_move mv) targets) out.new }
 {
     for target in 0..targets {
-        out.put_byte(mv.into());
-        out.put_byte(target as u8);
+        out.put(&[mv.into(), target as u8]);
     }
 }
 

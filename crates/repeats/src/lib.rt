@@ -28,7 +28,7 @@ pub fn set_each(out: &mut Output, thread: u8, threads: u8)
 {
     for t in 0..threads {
         put_triple(out, thread, Move::Set as u8, t);
-        put_triple(out, thread, Move::Go as u8, 0);
+        put_triple(out, thread, Move::Go as u8, 0); // busy of t is read
     }
 }
 

@@ -23,6 +23,7 @@ pub fn script_length(threads: u16, triples: &[u8]) -> usize
 }
 
 // The lines of the moves.
+#[inline(always)]
 fn put_moves(out: &mut Output, triples: &[u8])
     requires { HasRoom out.old (moves_text (requests_of triples.now)) }
     ensures { Puts out.old (moves_text (requests_of triples.now)) out.new }
@@ -32,7 +33,9 @@ fn put_moves(out: &mut Output, triples: &[u8])
     }
 }
 
-// The script: the threads line, then the lines of the moves.
+// The script: the threads line, then the lines of the moves. It is a part of its caller, as are the functions that it calls: there
+// the output's position is kept in a register, and in a function of their own it was loaded and stored for each text.
+#[inline(always)]
 #[tactic(auto, unfolding(definitions::specs::Scripts::script_of))]
 pub fn put_script(out: &mut Output, threads: u16, triples: &[u8])
     requires { HasRoom out.old (script_of threads (requests_of triples.now)) }

@@ -7,7 +7,7 @@ ghost use Rattle.definitions.specs.Moves.{ask};
 ghost use Rattle.definitions.specs.Scripts.{ended};
 ghost use Rattle.text.specs.Cursors.{HasRoom, Puts};
 
-use acts::{act_length, put_act};
+use acts::{act_length, put_act, put_around};
 use decimals::decimal_length;
 use text::Output;
 
@@ -26,14 +26,13 @@ pub fn threads_length(threads: u16) -> usize
 }
 
 // The line `(threads N)`.
+#[inline(always)]
 #[tactic(auto, unfolding(definitions::specs::Texts::bytes))]
 pub fn put_threads(out: &mut Output, threads: u16)
     requires { HasRoom out.old (ended (threads_line threads)) }
     ensures { Puts out.old (ended (threads_line threads)) out.new }
 {
-    out.put(b"(threads ");
-    out.put_decimal(threads as usize);
-    out.put(b")\n");
+    put_around(out, b"(threads ", threads, b")\n");
 }
 
 // How long a move's line is, `(T (go))` and so on.
@@ -45,6 +44,7 @@ pub fn move_length(thread: u8, mv: u8, target: u8) -> usize
 }
 
 // A move's line.
+#[inline(always)]
 #[tactic(auto, unfolding(definitions::specs::Texts::bytes))]
 pub fn put_move(out: &mut Output, thread: u8, mv: u8, target: u8)
     requires { HasRoom out.old (ended (spelled (ask thread mv target))) }

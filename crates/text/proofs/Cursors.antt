@@ -2,7 +2,7 @@
 use Prim.Native.Nat.{ℕ, ◌+◌, ◌≤◌, ◌<◌}
 use native.Mathlib.Omega.{arith}
 use mathlib.Core.List.{List, [], ◌++◌}
-use mathlib.Core.Path.{◌≡◌, refl, ◌∙◌}
+use mathlib.Core.Path.{◌≡◌, refl, ap, ◌∙◌}
 use lib.ListN.{length, length-append}
 use Rattle.basics.specs.Outputs.{put_at, RoomAt, PutAt}
 use Rattle.basics.proofs.Outputs.{none, same_size, both}
@@ -59,3 +59,26 @@ module _ {p : Parts} {start : Output} {k : ℕ} {o : Output} (w : PartsPut p sta
 
     pub parts_more : {o' : Output} → Puts o (p.part k) o' → PartsPut p start (k + 1) o'
     parts_more q = record { same_bytes = q.same_bytes ∙ w.same_bytes; put = parts.parts_more w.put l q.put }
+
+-- the same where a position of its own goes from part to part, and the output's waits at the start
+pub record PartsStored (p : Parts) (start : Output) (k : ℕ) (o : Output) (at : ℕ) : Type 0 where
+  pub same_bytes : o.bytes.ghost_name ≡ start.bytes.ghost_name
+  pub position : o.at ≡ start.at
+  pub put : parts.PartsPut p start.bytes.now start.at k o.bytes.now at
+
+pub stored_none : {p : Parts} {o : Output} → HasRoom o p.text → PartsStored p o 0 o o.at
+stored_none r = record { same_bytes = refl; position = refl; put = parts.parts_none (room_at r) }
+
+module _ {p : Parts} {start : Output} {k : ℕ} {o : Output} {at : ℕ} (w : PartsStored p start k o at) where
+  -- the position is moved behind the text
+  pub stored_all : HasRoom start p.text → p.count ≤ k → {o' : Output} → o'.bytes.ghost_name ≡ o.bytes.ghost_name → o'.bytes.now ≡ o.bytes.now
+      → o'.at ≡ o.at + length p.text → Puts start p.text o'
+  stored_all r l e f g = stored_puts r (e ∙ w.same_bytes) (g ∙ ap (λ (n : ℕ). n + length p.text) w.position) (f ∙ (parts.parts_all w.put l).output)
+
+  module _ (l : k < p.count) where
+    pub stored_room : RoomAt o.bytes.now at (p.part k)
+    stored_room = parts.parts_room w.put l
+
+    pub stored_more : {o' : Output} {next : ℕ} → o'.bytes.ghost_name ≡ o.bytes.ghost_name → o'.at ≡ o.at → PutAt o.bytes.now at (p.part k) o'.bytes.now next
+        → PartsStored p start (k + 1) o' next
+    stored_more e f q = record { same_bytes = e ∙ w.same_bytes; position = f ∙ w.position; put = parts.parts_more w.put l q }

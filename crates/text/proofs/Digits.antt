@@ -1,9 +1,7 @@
 -- A number put digit by digit, from its last digit on.
 use Prim.Native.Nat.{ℕ, suc, ◌+◌, ◌-◌, ◌/◌, ◌%◌, ◌≤◌, ◌<◌}
-use native.Mathlib.Nat.{add-zero}
 use native.Mathlib.Omega.{arith}
 use mathlib.Core.List.{List, [], ◌∷◌, ◌++◌, append_assoc, append-nil}
-use mathlib.Core.Logic.{⊎_elim}
 use mathlib.Core.Path.{◌≡◌, refl, sym, ap, ◌∙◌}
 use lib.ListN.{length, take, drop, set, length-append, length-set}
 use lib.Seq.{length-take-le, take-append-le, take-take, drop_at}
@@ -11,7 +9,6 @@ use Rattle.definitions.specs.Texts.{decimal}
 use Rattle.basics.specs.Outputs.{put_at, RoomAt}
 use Rattle.basics.proofs.Numbers.{decimal_small, decimal_more, decimal_longer, decimal-some}
 use Rattle.basics.proofs.Outputs.{none, stored}
-use Rattle.basics.proofs.Tests.{below?}
 use Rattle.text.specs.declared.Output.{Output}
 use Rattle.text.specs.Cursors.{HasRoom, Puts}
 use Rattle.text.proofs.Cursors.{stored_puts}
@@ -28,17 +25,15 @@ before_text out place b low h =
     rw (take-append-le place front back (omega arith), take-take place (place + 1) out (omega arith), drop_at front back (place + 1) size)
     (ap (λ (k : ℕ). take place out ++ (b ∷ (low ++ drop k out))) end)
 
--- the digits from `place` on are put; those of `high` go before them, if any do
+-- the digits behind those of `high` stand at `place`, where those of `high` are to end
 pub record DigitsPut (start : Output) (n high place : ℕ) (o : Output) : Type 0 where
   pub same_bytes : o.bytes.ghost_name ≡ start.bytes.ghost_name
   pub position : o.at ≡ start.at
-  pub size : length o.bytes.now ≡ length start.bytes.now
-  pub behind : start.at ≤ place
   pub low : List ℕ
+  pub digits : decimal n ≡ decimal high ++ low
+  pub front : place ≡ start.at + length (decimal high)
   pub output : o.bytes.now ≡ put_at start.bytes.now place low
-  pub ends : place + length low ≡ start.at + length (decimal n)
-  pub more : start.at < place → decimal n ≡ decimal high ++ low
-  pub all : place ≤ start.at → decimal n ≡ low
+  pub size : length o.bytes.now ≡ length start.bytes.now
 
 module _ {start : Output} {n : ℕ} (r : HasRoom start (decimal n)) where
   pub digits_none : {end : ℕ} → end ≡ start.at + length (decimal n) → DigitsPut start n n end start
@@ -46,64 +41,54 @@ module _ {start : Output} {n : ℕ} (r : HasRoom start (decimal n)) where
       record {
         same_bytes = refl;
         position = refl;
-        size = refl;
-        behind = omega arith;
         low = [];
+        digits = sym (append-nil (decimal n));
+        front = e;
         output = (none start.bytes.now end).output;
-        ends = add-zero end ∙ e;
-        more = λ some. sym (append-nil (decimal n));
-        all = λ none. absurd (omega (arith, decimal-some n));
+        size = refl;
       }
 
-  module _ {high place : ℕ} {o : Output} (w : DigitsPut start n high place o) (some : start.at < place) where
-    -- the digits of `high` and those behind them
-    size : place - start.at ≡ length (decimal high)
-    size = omega (arith, w.ends, ap length (w.more some), length-append (decimal high) w.low)
+  module _ {high place : ℕ} {o : Output} (w : DigitsPut start n high place o) where
+    -- the digits of `high` and those behind them fit
+    within : place + length w.low ≤ length start.bytes.now
+    within = omega (arith, r.ends, w.front, ap length w.digits, length-append (decimal high) w.low)
 
-    -- the place before is within the bytes
-    pub digit-room : place - 1 < length o.bytes.now
-    digit-room = omega (arith, w.ends, w.size, r.ends)
+    -- a byte put right before those that are put
+    joined : (before b : ℕ) → before + 1 ≡ place → set o.bytes.now before b ≡ put_at start.bytes.now before (b ∷ w.low)
+    joined before b e =
+        let room : RoomAt o.bytes.now before (b ∷ []) = record { ends = omega (arith, within, w.size) } in
+        (stored (b ∷ []) room).output
+        ∙ (ap (λ (xs : List ℕ). put_at xs before (b ∷ [])) (w.output ∙ ap (λ (k : ℕ). put_at start.bytes.now k w.low) (sym e))
+        ∙ before_text start.bytes.now before b w.low (omega (arith, within)))
 
-    abbrev last : ℕ
-    last = 48 + high % 10
+    -- the place before is behind the start, and within the bytes
+    pub digit-behind : start.at < place
+    digit-behind = omega (arith, w.front, decimal-some high)
 
-    -- the last of several digits, or the only one
-    several : start.at < place - 1 → decimal n ≡ decimal (high / 10) ++ (last ∷ w.low)
-    several h =
-        ⊎_elim (λ few. absurd (omega (arith, size, ap length (decimal_small high few))))
-        (λ many. w.more some ∙ rw (decimal_more high many, append_assoc)) (below? 10 high)
+    pub digit-room : place ≤ length o.bytes.now
+    digit-room = omega (arith, within, w.size)
 
-    only : place - 1 ≤ start.at → decimal n ≡ last ∷ w.low
-    only e =
-        ⊎_elim (λ few. w.more some ∙ (rw (decimal_small high few) (ap (λ (k : ℕ). (48 + k) ∷ w.low) (omega arith))))
-        (λ many. absurd (omega (arith, size, decimal_longer high (length (decimal (high / 10))) many refl, decimal-some (high / 10)))) (below? 10 high)
+    -- one digit more, the last of `high`
+    module _ (many : 10 ≤ high) where
+      pub digits_more : {o' : Output} → o'.bytes.ghost_name ≡ o.bytes.ghost_name → o'.at ≡ o.at → o'.bytes.now ≡ set o.bytes.now (place - 1) (48 + high % 10)
+          → DigitsPut start n (high / 10) (place - 1) o'
+      digits_more e f g =
+          record {
+            same_bytes = e ∙ w.same_bytes;
+            position = f ∙ w.position;
+            low = (48 + high % 10) ∷ w.low;
+            digits = w.digits ∙ rw (decimal_more high many, append_assoc);
+            front = omega (arith, w.front, decimal_longer high (length (decimal (high / 10))) many refl);
+            output = g ∙ joined (place - 1) (48 + high % 10) (omega (arith, digit-behind));
+            size = ap length g ∙ (length-set o.bytes.now (place - 1) (48 + high % 10) ∙ w.size);
+          }
 
-    stored_output : set o.bytes.now (place - 1) last ≡ put_at start.bytes.now (place - 1) (last ∷ w.low)
-    stored_output =
-        let e : place ≡ place - 1 + 1 = omega arith in
-        let room : RoomAt o.bytes.now (place - 1) (last ∷ []) = record { ends = omega (arith, digit-room) } in
-        (stored (last ∷ []) room).output
-        ∙ (ap (λ (xs : List ℕ). put_at xs (place - 1) (last ∷ [])) (w.output ∙ ap (λ (k : ℕ). put_at start.bytes.now k w.low) e)
-        ∙ before_text start.bytes.now (place - 1) last w.low (omega (arith, w.ends, r.ends)))
-
-    pub digits_more : {o' : Output} → o'.bytes.ghost_name ≡ o.bytes.ghost_name → o'.at ≡ o.at → o'.bytes.now ≡ set o.bytes.now (place - 1) last
-        → DigitsPut start n (high / 10) (place - 1) o'
-    digits_more e f g =
-        record {
-          same_bytes = e ∙ w.same_bytes;
-          position = f ∙ w.position;
-          size = ap length g ∙ (length-set o.bytes.now (place - 1) last ∙ w.size);
-          behind = omega arith;
-          low = last ∷ w.low;
-          output = g ∙ stored_output;
-          ends = omega (arith, w.ends);
-          more = several;
-          all = only;
-        }
-
-  pub digits_all : {high place : ℕ} {o o' : Output} → DigitsPut start n high place o → place ≤ start.at → o'.bytes.ghost_name ≡ o.bytes.ghost_name
-      → o'.bytes.now ≡ o.bytes.now → o'.at ≡ start.at + length (decimal n) → Puts start (decimal n) o'
-  digits_all {high} {place} w h e f g =
-      let at_front : place ≡ start.at = omega (arith, w.behind) in
-      let output = w.output ∙ (ap (put_at start.bytes.now place) (sym (w.all h)) ∙ ap (λ (k : ℕ). put_at start.bytes.now k (decimal n)) at_front) in
-      stored_puts r (e ∙ w.same_bytes) g (f ∙ output)
+    -- the first digit
+    module _ (few : high < 10) where
+      pub digits_all : {o' : Output} → o'.bytes.ghost_name ≡ o.bytes.ghost_name → o'.bytes.now ≡ set o.bytes.now o.at (48 + high)
+          → o'.at ≡ start.at + length (decimal n) → Puts start (decimal n) o'
+      digits_all e f g =
+          let whole : decimal n ≡ (48 + high) ∷ w.low = w.digits ∙ rw (decimal_small high few) in
+          let first = joined start.at (48 + high) (omega (arith, w.front, ap length (decimal_small high few))) in
+          let output = f ∙ (ap (λ (k : ℕ). set o.bytes.now k (48 + high)) w.position ∙ (first ∙ ap (put_at start.bytes.now start.at) (sym whole))) in
+          stored_puts r (e ∙ w.same_bytes) g output

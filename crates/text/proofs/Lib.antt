@@ -1,5 +1,5 @@
 -- A text in parts put into an output, and a whole output, which callers cite too.
 pub mod Cursors
 pub mod Deliveries
-mod Digits
+pub mod Digits
 pub mod Items

@@ -31,7 +31,8 @@ impl<'a> Output<'a> {
         self.at
     }
 
-    // One byte.
+    // One byte. Like the two below it is a part of its caller, which mostly keeps the position in a register.
+    #[inline(always)]
     pub fn put_byte(&mut self, byte: u8)
         requires { HasRoom self.old (byte ∷ []) }
         ensures { Puts self.old (byte ∷ []) self.new }
@@ -40,27 +41,36 @@ impl<'a> Output<'a> {
         self.at += 1;
     }
 
-    // A text, byte by byte: `copy_from_slice` would be compiled to a call of memmove, which the host doesn't supply.
+    // A text, byte by byte: `copy_from_slice` would be compiled to a call of memmove, which the host doesn't supply. The position
+    // is moved once, behind the loop: moved byte by byte it would be loaded and stored for each.
+    #[inline(always)]
     pub fn put(&mut self, text: &[u8])
         requires { HasRoom self.old text.now }
         ensures { Puts self.old text.now self.new }
     {
+        let mut at = self.at;
         for &byte in text {
-            self.put_byte(byte);
+            self.bytes[at] = byte;
+            at += 1;
         }
+        self.at += text.len();
     }
 
     // A number with the digits that it needs, from the last to the first.
+    #[inline(always)]
     pub fn put_decimal(&mut self, n: usize)
         requires { HasRoom self.old (decimal n) }
         ensures { Puts self.old (decimal n) self.new }
     {
         let end = self.at + decimal_length(n);
+        let mut place = end;
         let mut high = n;
-        for place in (self.at..end).rev() {
+        while 10 <= high {
+            place -= 1;
             self.bytes[place] = b'0' + (high % 10) as u8;
             high /= 10;
         }
+        self.bytes[self.at] = b'0' + high as u8;
         self.at = end;
     }
 }

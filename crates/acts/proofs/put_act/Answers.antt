@@ -19,7 +19,7 @@ returns-in-CallShared c = let e : c.args.mv ≡ 1 = sym c.in-Ok.ensures ∙ ap n
 
 pub returns-in-Clear : goal.returns-in-Clear
 unfolding act_text bytes
-returns-in-Clear c = let e : c.args.mv ≡ 4 = sym c.in-Ok.ensures ∙ ap number_of_move c.in-Clear.is in rw e c.put_aimed-in-Clear.ensures
+returns-in-Clear c = let e : c.args.mv ≡ 4 = sym c.in-Ok.ensures ∙ ap number_of_move c.in-Clear.is in rw e c.put_around-in-Clear.ensures
 
 pub returns-in-Relent : goal.returns-in-Relent
 unfolding act_text bytes
