@@ -2,7 +2,7 @@
 use Prim.Native.Nat.{ℕ}
 use mathlib.Core.Bool.{not}
 use mathlib.Core.List.{List, []}
-use mathlib.Core.Path.{◌≡◌, sym, subst, ap, ◌∙◌}
+use mathlib.Core.Path.{◌≡◌, refl, sym, subst, ap, ◌∙◌}
 use lib.Dec.{T}
 use Rattle.std.specs.Prelude.{Ok, Err}
 use Rattle.definitions.specs.Answers.{Reply, accepted, refused, MoveAnswer, number_of, number_of_move, is_accepted, answered, passes_all}
@@ -47,7 +47,7 @@ request_refused bytes k r x h e =
           turned_down bytes r x
           (behind answer (table_tests bytes) tests (sound-passes bytes h.tested)
           ∙ in_front_lem answer r.mv tests [] (number_of x) 0 (sym e));
-      count = tt;
+      count = refl;
     }
 
 -- ---- one that is accepted

@@ -1,6 +1,6 @@
 -- A move over any storage: its promise (`MoveMadeIn`), and what the functions behind it are handed: a table that was tested, and a request that it accepts.
 -- Bytes are one instance; `apply` names it.
-use Rattle.std.specs.Prelude.{ℕ, ◌≡◌, T, Result, Ok, Err, IfOk}
+use Rattle.std.specs.Prelude.{ℕ, ◌≡◌, T, Result, Ok, Err, MatchResult}
 use Rattle.definitions.specs.Answers.{number_of_move, outcome_reply}
 use Rattle.definitions.specs.Moves.{accepts, reply_in, step_in}
 use Rattle.definitions.specs.Table.{Storage}
@@ -26,10 +26,10 @@ module _ {B : Type 0} (storage : Storage B) where
     pub reply : outcome_reply answer ≡ reply_in storage before r
     pub table : after ≡ step_in storage before r
 
-  -- the same of a move that also tells how many forbidden are 1 where it is accepted; where it is refused, what is stored stays
+  -- the same of a move that also tells how many forbidden are 1 where it is accepted; where it is refused, they are as many as before
   pub record MoveTriedIn (before : B) (r : Request) (after : B) (tried : Result Made Refusal) : Type 0 where
     pub made : MoveMadeIn before r after (outcome_of tried)
-    pub count : IfOk tried (λ m. m.forbidden ≡ forbidden_count (storage.table after))
+    pub count : MatchResult tried (λ m. m.forbidden ≡ forbidden_count (storage.table after)) (λ why. forbidden_count (storage.table after) ≡ forbidden_count (storage.table before))
 
   -- a table that passes the tests 1 and 2, and of whose threads k have forbidden 1
   pub record TestedIn (b : B) (k : ℕ) : Type 0 where
