@@ -46,8 +46,8 @@ fn first_feed(text: &[u8]) -> Option<usize>
     ensures { result ≡ position (λ c. eqb c line_feed) text.now }
 {
     let mut at = 0;
-    while let Some(four) = text.get(at..at + 4) {
-        if let Some(place) = feed_among(four) {
+    while 4 <= text.len() - at {
+        if let Some(place) = feed_among(&text[at..at + 4]) {
             return Some(at + place);
         }
         at += 4;
