@@ -11,7 +11,8 @@ use endings::{ending_length, put_ending};
 use event_lines::{events_length, put_events};
 use text::Output;
 
-// A whole output, if it has room.
+// A whole output, if it has room. It is no part of its caller, whose loop over the lines so keeps the registers.
+#[inline(never)]
 pub fn print(
     history: &[u8],
     ending: Result<usize, Refused>,
