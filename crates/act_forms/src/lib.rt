@@ -56,6 +56,7 @@ fn read_aimed(thread: u16, part: &[u8]) -> Option<Form>
 
 // What follows the thread's number, from the space on. A move without a target has target 0.
 // Five comparisons: the proof of a match on the texts doesn't close, and rows of a constant table would be stored to the stack for each line.
+#[inline(always)]
 #[tactic(auto, unfolding(definitions::specs::Texts::bytes, definitions::specs::Forms::act_form, definitions::specs::Forms::plain_form, definitions::specs::Forms::plain_moves, definitions::specs::Threads::gather, definitions::specs::Forms::act_text))]
 pub fn read_act(thread: u16, part: &[u8]) -> Option<Form>
     ensures { form_for result ≡ act_form thread part.now }

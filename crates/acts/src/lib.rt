@@ -37,13 +37,12 @@ pub fn act_length(mv: u8, target: u8) -> usize
     let Ok(mv) = Move::try_from(mv as u16) else {
         return 0;
     };
-    let aimed = decimal_length(target as usize) + CLOSING.len();
     match mv {
         Move::Go => GO.len(),
         Move::CallShared => CALL_SHARED.len(),
         Move::CallExclusive => CALL_EXCLUSIVE.len(),
-        Move::Set => SET.len() + aimed,
-        Move::Clear => CLEAR.len() + aimed,
+        Move::Set => SET.len() + decimal_length(target as usize) + CLOSING.len(),
+        Move::Clear => CLEAR.len() + decimal_length(target as usize) + CLOSING.len(),
         Move::Relent => RELENT.len(),
         Move::Hold => HOLD.len(),
     }

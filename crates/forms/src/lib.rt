@@ -22,6 +22,7 @@ fn read_threads(part: &[u8]) -> Option<Form>
 }
 
 // What follows a line's first bracket, where it is no threads line and no note: `T`, then the act.
+#[inline(always)]
 fn read_request(part: &[u8]) -> Option<Form>
     ensures { form_for result ≡ move_form (number_read part.now) }
 {
@@ -36,7 +37,9 @@ fn read_note(part: &[u8]) -> Option<Form>
     ends_note(part).then_some(Form::Note)
 }
 
-// The form of a line's text. proofs/Spelling.antt shows that this is the inverse of the spelling of forms.
+// The form of a line's text. proofs/Spelling.antt shows that this is the inverse of the spelling of forms. It is a part of its
+// caller, as are `read_request` and `act_forms::read_act`: by a function of its own each line's form is handed on in memory.
+#[inline(always)]
 #[tactic(auto, unfolding(definitions::specs::Texts::bytes, definitions::specs::Forms::form_of))]
 pub fn read_form(text: &[u8]) -> Option<Form>
     ensures { form_for result ≡ form_of text.now }
