@@ -1,7 +1,6 @@
 -- The triples before the present one have passed.
-use Rattle.std.proofs.Common.{length}
 use Rattle.triple_tests.proofs.TripleTests.{Tried}
 use Rattle.triple_tests.proofs.test_triples.Given as goal
 
 abbrev pub invariant-loop-k : goal.invariant-loop-k
-invariant-loop-k l = Tried l.threads l.triples (length l.yielded)
+invariant-loop-k l = Tried l.threads l.triples l.k-counter
