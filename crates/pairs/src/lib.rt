@@ -12,7 +12,7 @@ use plain_lock::{Standing, judge};
 
 // One pass over the pairs. Any byte is an index of the 256 places, so a thread's place is looked up before the thread is judged;
 // those below N are the only ones written. A function of its own: as a part of three entries its loop took up to 1.8 times
-// the time, by where the compiler put its jumps.
+// the time, by the place of the code.
 #[inline(never)]
 pub fn check_pairs(threads: u16, history: &[u8]) -> Result<usize, Refused>
     requires { threads ≤ most_threads }
